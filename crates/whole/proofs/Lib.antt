@@ -1,0 +1,5 @@
+pub mod Ints
+pub mod Cases
+pub mod Walks
+pub mod Tables
+pub mod Adding

@@ -1,0 +1,4 @@
+pub mod Tests
+pub mod Answer
+pub mod Lists
+pub mod Sums

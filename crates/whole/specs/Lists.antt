@@ -1,0 +1,20 @@
+-- Lists that are judged: each element by a test, and their order by a key.
+use Prim.Native.Nat.{ℕ, _+_}
+use mathlib.Core.List.{List, [], _∷_}
+use mathlib.Core.Bool.{Bool, true}
+use lib.ListN.{take, drop}
+use Rattle.whole.specs.Tests.{upTo, both}
+
+-- each element passes
+unfoldable pub all : {A : Type 0} → (A → Bool) → List A → Bool
+all f [] = true
+all f (x ∷ xs) = both (f x) (all f xs)
+
+-- the keys strictly ascend, the first from floor up
+unfoldable pub ascend : {A : Type 0} → (A → ℕ) → ℕ → List A → Bool
+ascend key floor [] = true
+ascend key floor (x ∷ xs) = both (upTo floor (key x)) (ascend key (key x + 1) xs)
+
+-- the first n elements without the first i: what a walk over n elements has before it when i are done
+unfoldable pub rest : {A : Type 0} → List A → ℕ → ℕ → List A
+rest l n i = drop i (take n l)
