@@ -1,0 +1,50 @@
+-- `section::read_count` meets its contract: its tests are the definition's, in its order.
+-- Assumes nothing.
+use borrow.Author.Needs.{needs}
+use native.Mathlib.Omega.{arith}
+use mathlib.Core.Path.{refl, ap}
+use Rattle.whole.specs.Answer.{good}
+use Rattle.whole.proofs.Cases.{yes, no, is-less, not-less}
+use Rattle.section.specs.Section.{countAt}
+use Rattle.section.proofs.read_count.Statement.{statement}
+use Rattle.section.proofs.read_count.Tie as tie
+
+left-requires : tie.Need-left-requires
+left-requires c κs = search needs
+
+returns : tie.Need-returns
+unfolding countAt
+returns c = yes _ _ _ (is-less _ _ (omega arith)) refl
+
+read-u32-requires : tie.Need-read-u32-requires
+read-u32-requires c κs = search needs
+
+cast-within : tie.Need-cast-within
+cast-within c = search needs
+
+within-requires : tie.Need-within-requires
+within-requires c κs = search needs
+
+cast-t16 : tie.Need-cast-t16
+cast-t16 c = search needs
+
+returns-2 : tie.Need-returns-2
+unfolding countAt
+returns-2 c = no _ _ _ (not-less _ _ (omega arith)) (yes _ _ _ (cc) (ap good (c .before .before .read-u32 .ensures)))
+
+returns-3 : tie.Need-returns-3
+unfolding countAt
+returns-3 c = no _ _ _ (not-less _ _ (omega arith)) (no _ _ _ (cc) refl)
+
+pub read-count-spec : {M : Type 1} → statement M
+read-count-spec =
+    tie.close
+    (tie.spec
+    left-requires
+    returns
+    read-u32-requires
+    cast-within
+    within-requires
+    cast-t16
+    returns-2
+    returns-3)

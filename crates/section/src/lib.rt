@@ -1,0 +1,24 @@
+// The generic section of a file: its count is read here; how records follow it is in specs/, with its laws in proofs/.
+use refusal::Refusal;
+ghost use mathlib.Core.Path.{_≡_};
+ghost use Rattle.section.specs.Section.{countAt, toldCount};
+
+pub enum CountAnswer {
+    Is(usize),
+    Refused(Refusal, usize),
+}
+
+// The count at a place, from low to high: 1 where the bytes end before it does, 2 where it is not allowed.
+pub fn read_count(s: &[u8], at: usize, low: u32, high: u32) -> CountAnswer
+    ensures { λ r. ⌜ toldCount r ≡ countAt (now (s .entry)) at low high ⌝ }
+{
+    if words::left(s.len(), at) < 4 {
+        return CountAnswer::Refused(Refusal::Short, s.len());
+    }
+    let n = words::read_u32(s, at);
+    if whole::within(low as u64, n as u64, high as u64) {
+        CountAnswer::Is(n as usize)
+    } else {
+        CountAnswer::Refused(Refusal::Count, at)
+    }
+}
