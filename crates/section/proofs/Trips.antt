@@ -8,12 +8,11 @@ use native.Mathlib.Omega.{arith}
 use native.Mathlib.Nat.{add-zero, suc-mul, zero-mul}
 use lib.ListN.{length, take, drop, length-append}
 use lib.Seq.{take-add, drop-drop}
-use Rattle.whole.specs.Tests.{pick}
-use Rattle.whole.specs.Answer.{Judged, good, bad}
+use Rattle.whole.specs.Answer.{good}
 use Rattle.whole.proofs.Cases.{yes, no, not-less, is-upTo, is-between}
 use Rattle.words.specs.Words.{word, bytesOf}
 use Rattle.words.proofs.Words.{word-after, word-bytesOf, length-bytesOf}
-use Rattle.section.specs.Section.{Kind, Run, andThen, countAt, judgedAt, records, sectionAt, encoded}
+use Rattle.section.specs.Section.{Kind, Run, countAt, judgedAt, records, sectionAt, encoded}
 use Rattle.section.proofs.Walk.{good-same, then-good, then-read, judged-read}
 
 -- ---- writing, then reading

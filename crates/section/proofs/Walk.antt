@@ -7,11 +7,11 @@ use mathlib.Core.Bool.{Bool, true, false}
 use native.Mathlib.Omega.{arith}
 use native.Mathlib.Nat.{suc-mul}
 use lib.ListN.{length}
-use Rattle.whole.specs.Tests.{less, upTo, pick, between}
+use Rattle.whole.specs.Tests.{less, pick}
 use Rattle.whole.specs.Answer.{Judged, good, bad}
-use Rattle.whole.proofs.Cases.{yes, no, by-cases, is-less, not-less, is-upTo, less-false, upTo-true, between-true}
+use Rattle.whole.proofs.Cases.{yes, no, by-cases, not-less, is-upTo, less-false, upTo-true, between-true}
 use Rattle.words.specs.Words.{word}
-use Rattle.section.specs.Section.{Kind, Run, andThen, countAt, judgedAt, records, sectionAt, closed}
+use Rattle.section.specs.Section.{Kind, Run, andThen, countAt, judgedAt, records}
 
 -- good is not bad
 abbrev isGood : {A : Type 0} → Judged A → Type 0

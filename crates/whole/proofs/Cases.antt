@@ -1,10 +1,9 @@
 -- How an answer meets a definition that goes by tests: one step for each test on the way. A test's fact is (cc) where a call gave it,
 -- and `is-less _ _ (omega arith)` and its like where the code compared numbers.
 -- Assumes nothing.
-use Prim.Native.Nat.{ℕ, zero, suc, _≤_, _<_}
+use Prim.Native.Nat.{ℕ, _≤_, _<_}
 use mathlib.Core.Path.{_≡_, refl, sym, subst}
 use mathlib.Core.Bool.{Bool, true, false, not}
-use native.Mathlib.Omega.{arith}
 use borrow.Author.Tests.{ltb-true, ltb-false, leb-true, leb-false, eqb-true, eqb-false, lt-ltb, le-ltb, le-leb, lt-leb, eq-eqb, ne-eqb}
 use lib.Dec.{T, ltb, leb, eqb}
 use Rattle.whole.specs.Tests.{less, upTo, same, pick, both, either, between}

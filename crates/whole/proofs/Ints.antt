@@ -3,10 +3,10 @@
 use mathlib.Core.Path.{_≡_, refl, sym, ap, _∙_, subst}
 use mathlib.Core.Bool.{Bool, true, false, not, cond}
 use Prim.Native.Nat.{ℕ, zero, suc, _+_, _*_, _-_, _^_, _<_, _≤_, zero-le}
-use native.Mathlib.Nat.{mul-zero, zero-mul, mul-assoc, mul-comm, le-trans, le-refl, mul-le-mul, lt-of-le-of-lt, le-suc, zero-add, not-suc-le-zero}
+use native.Mathlib.Nat.{mul-zero, mul-assoc, le-refl, mul-le-mul, lt-of-le-of-lt, le-suc, zero-add, not-suc-le-zero}
 use native.Mathlib.Omega.{arith}
-use lib.Dec.{T, ltb, ltb→lt, nltb→le, le→leb}
-use lib.IntN.{ℤ, pos, negsuc, negℤ, natAbs, subℕ, sucℤ, predℤ, _+ℤ_, _-ℤ_, _*ℤ_, negℤ-negℤ, negℤ-+ℤ, sucℤ-+ℤ, predℤ-+ℤ, sucℤ-*ℤ, predℤ-*ℤ, +ℤ-assoc, +ℤ-comm, +ℤ-idl, +ℤ-idr, +ℤ-invl, zero-*ℤ, *ℤ-comm}
+use lib.Dec.{T, ltb, ltb→lt, le→leb}
+use lib.IntN.{ℤ, pos, negsuc, negℤ, natAbs, subℕ, predℤ, _+ℤ_, _-ℤ_, _*ℤ_, negℤ-negℤ, sucℤ-+ℤ, predℤ-+ℤ, sucℤ-*ℤ, predℤ-*ℤ, +ℤ-assoc, +ℤ-comm, +ℤ-idl, +ℤ-invl, zero-*ℤ, *ℤ-comm}
 use lib.Signed.{mag, ltZ, nonNeg, _≤ℤ_, leZ-yes}
 use borrow.Author.Tests.{ltb-true}
 use mir.Syntax.{Width, w64}

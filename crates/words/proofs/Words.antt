@@ -1,15 +1,16 @@
 -- Laws of words in bytes, over the width: reading, writing, and that each undoes the other.
 -- Assumes nothing.
-use mathlib.Core.Path.{_≡_, refl, sym, ap, ap₂, _∙_, subst}
-use mathlib.Core.List.{List, [], _∷_, _++_, append-assoc}
-use mathlib.Core.Logic.{_⊎_, inl, inr}
-use Prim.Native.Nat.{ℕ, zero, suc, _+_, _*_, _-_, _/_, _%_, _^_, _<_, _≤_}
-use native.Mathlib.Nat.{pow-suc, pow-zero, pow-le-pow-right, add-suc, suc-add, add-zero, zero-add, sub-self, sub-zero, mul-assoc, le-refl, mul-comm, one-mul, div-one, div-div-eq-div-mul}
+use mathlib.Core.Path.{_≡_, refl, sym, ap, ap₂, _∙_}
+use mathlib.Core.List.{List, [], _∷_, _++_}
+use Prim.Native.Nat.{ℕ, zero, suc, _+_, _*_, _-_, _/_, _%_, _^_, _<_, _≤_, min}
+use native.Mathlib.Nat.{pow-suc, pow-zero, pow-le-pow-right, add-suc, suc-add, add-zero, zero-add, sub-self, mul-assoc, le-refl, mul-comm, one-mul, div-one, div-div-eq-div-mul}
 use native.Mathlib.Numerals.{add-one}
 use native.Mathlib.Omega.{arith}
 use lib.Dec.{lit<}
-use lib.ListN.{length, getD, set, drop, length-append, List·getD-append, length-set}
+use lib.ListN.{length, getD, set, drop, List·getD-append, length-set}
 use lib.Seq.{sets, sets-eq, length-sets, set-out, set-getD, getD-append-add, getD-set-same, getD-set-other}
+use Rattle.whole.specs.Tests.{less}
+use Rattle.whole.proofs.Cases.{by-cases, less-true, less-false}
 use Rattle.words.specs.Words.{word, bytesOf, lay}
 
 -- every element is a byte
@@ -171,10 +172,12 @@ write-turn s at k x i h =
     let next : at + (i + 1) ≡ suc (at + i) = omega arith in
     rw (more, next)
 
-pub write-end : (s : List ℕ) (at k n m x i : ℕ) → n ≤ i → m ≡ length s - at → (n ≡ k) ⊎ (n ≡ m) → lay s (at + i) (bytesOf (k - i) x) ≡ s
+pub write-end : (s : List ℕ) (at k x i : ℕ) → min k (length s - at) ≤ i → lay s (at + i) (bytesOf (k - i) x) ≡ s
 unfolding bytesOf lay
-write-end s at k n m x i h e (inl p) = let none : k - i ≡ 0 = omega arith in rw none
-write-end s at k n m x i h e (inr p) = sets-out s (at + i) (bytesOf (k - i) x) (omega arith)
+write-end s at k x i h =
+    by-cases (less i k)
+    (λ t. let more : i < k = less-true i k t in sets-out s (at + i) (bytesOf (k - i) x) (omega arith))
+    (λ t. let none : k - i ≡ 0 = omega (arith, less-false i k t) in rw none)
 
 -- ---- the round trips
 -- what was written, where there is room for it, is read back

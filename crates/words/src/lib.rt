@@ -1,6 +1,5 @@
 // Little-endian words at a place of a slice, read and written. Every place may be named: a byte past the end reads as 0, and none is written there.
 ghost use mathlib.Core.Path.{_≡_};
-ghost use mathlib.Core.Logic.{_⊎_};
 ghost use Prim.Native.Nat.{_+_, _-_, _≤_, _<_, _^_};
 ghost use lib.ListN.{length, getD};
 ghost use mir.Syntax.{w16, w32, w64};
@@ -150,17 +149,11 @@ pub fn read_i64(s: &[u8], at: usize) -> i64
 
 // ---- writing
 
-fn least(a: usize, b: usize) -> usize
-    ensures { λ r. ⌜ (r ≤ a) × ((r ≤ b) × ((r ≡ a) ⊎ (r ≡ b))) ⌝ }
-{
-    if a < b { a } else { b }
-}
-
 // The k bytes of v at any place: the way for a place near or past the end.
 fn put(s: &mut [u8], at: usize, k: usize, v: u64)
     ensures { λ _. ⌜ now (s .exit) ≡ lay (now (s .entry)) at (bytesOf k v) ⌝ }
 {
-    let n = least(k, left(s.len(), at));
+    let n = whole::least(k, left(s.len(), at));
     let mut x = v;
     let mut i: usize = 0;
     while i < n {

@@ -2,7 +2,7 @@
 -- Assumes nothing.
 use native.Mathlib.Omega.{arith}
 use mathlib.Core.Path.{_≡_}
-use Prim.Native.Nat.{ℕ, _≤_, _<_, _+_, _-_, _^_}
+use Prim.Native.Nat.{_≤_, _<_, _+_, _-_, _^_}
 use Rattle.words.specs.Words.{word}
 use Rattle.words.proofs.Words.{read-none, read-turn, read-all, pow-256}
 use Rattle.words.proofs.number.Statement.{statement}

@@ -1,11 +1,10 @@
 -- `words::put` meets its contract. The loop's invariant: what is laid and the bytes still to come are the whole.
 -- Assumes nothing.
 use native.Mathlib.Omega.{arith}
-use mathlib.Core.Path.{_≡_, refl, sym, ap, _∙_}
-use Prim.Native.Nat.{ℕ, _≤_, _+_, _-_, _%_}
+use mathlib.Core.Path.{_≡_, refl, sym, _∙_}
+use Prim.Native.Nat.{_≤_, _+_, _-_, _%_}
 use native.Mathlib.Nat.{add-zero, sub-zero}
 use lib.ListN.{length, length-set}
-use mathlib.Core.Logic.{_⊎_}
 use Rattle.words.specs.Words.{lay, bytesOf}
 use Rattle.words.proofs.Words.{write-turn, write-end}
 use Rattle.words.proofs.put.Statement.{statement}
@@ -54,8 +53,7 @@ returns : tie.Need-returns Inv-loop μ-loop
 returns c =
     let l = c .before .loop in
     let a = c .before .before .before .before .before .args in
-    let n = c .before .before .least in
-    sym (write-end (l .s) (a .at) (a .k) (n .result) (c .before .before .before .left .result) (l .x) (l .i) (omega arith) (omega arith) (n .ensures .1 .1)) ∙ l .inv .1 .1
+    sym (write-end (l .s) (a .at) (a .k) (l .x) (l .i) (omega arith)) ∙ l .inv .1 .1
 
 pub put-spec : {M : Type 1} → statement M
 put-spec =

@@ -1,0 +1,46 @@
+-- `heading::judge` meets its contract: 2, 4 and 5 in the definition's order.
+-- Assumes nothing.
+use borrow.Author.Needs.{needs}
+use mathlib.Core.Path.{refl, sym, _∙_}
+use Rattle.whole.proofs.Cases.{yes, no}
+use Rattle.heading.specs.Judge.{judged}
+use Rattle.heading.proofs.Sound.{counts-fit}
+use Rattle.heading.proofs.judge.Statement.{statement}
+use Rattle.heading.proofs.judge.Tie as tie
+
+counts-ok-requires : tie.Need-counts-ok-requires
+counts-ok-requires c κs = search needs
+
+fields-ok-requires : tie.Need-fields-ok-requires
+fields-ok-requires c κs = counts-fit _ (sym (c .before .counts-ok .ensures) ∙ c .if1 .taken)
+
+orders-ok-requires : tie.Need-orders-ok-requires
+orders-ok-requires c κs = counts-fit _ (sym (c .before .before .before .counts-ok .ensures) ∙ c .before .before .if1 .taken)
+
+returns : tie.Need-returns
+unfolding judged
+returns c = yes _ _ _ (cc) (yes _ _ _ (cc) (yes _ _ _ (cc) refl))
+
+returns-2 : tie.Need-returns-2
+unfolding judged
+returns-2 c = yes _ _ _ (cc) (yes _ _ _ (cc) (no _ _ _ (cc) refl))
+
+returns-3 : tie.Need-returns-3
+unfolding judged
+returns-3 c = yes _ _ _ (cc) (no _ _ _ (cc) refl)
+
+returns-4 : tie.Need-returns-4
+unfolding judged
+returns-4 c = no _ _ _ (cc) refl
+
+pub judge-spec : {M : Type 1} → statement M
+judge-spec =
+    tie.close
+    (tie.spec
+    counts-ok-requires
+    fields-ok-requires
+    orders-ok-requires
+    returns
+    returns-2
+    returns-3
+    returns-4)

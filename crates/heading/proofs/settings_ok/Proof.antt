@@ -1,0 +1,47 @@
+-- `heading::settings_ok` meets its contract: its tests are the definition's.
+-- Assumes nothing.
+use borrow.Author.Needs.{needs}
+use Rattle.whole.proofs.Cases.{holds, fails}
+use Rattle.heading.specs.Limits.{settingsOk}
+use Rattle.heading.proofs.settings_ok.Statement.{statement}
+use Rattle.heading.proofs.settings_ok.Tie as tie
+
+cast-within : tie.Need-cast-within
+cast-within c = search needs
+
+within-requires : tie.Need-within-requires
+within-requires c κs = search needs
+
+cast-within-2 : tie.Need-cast-within-2
+cast-within-2 c = search needs
+
+within-requires-2 : tie.Need-within-requires-2
+within-requires-2 c κs = search needs
+
+window-ok-requires : tie.Need-window-ok-requires
+window-ok-requires c κs = search needs
+
+returns : tie.Need-returns
+unfolding settingsOk
+returns c = holds _ _ (cc) (holds _ _ (cc) (c .window-ok .ensures))
+
+returns-2 : tie.Need-returns-2
+unfolding settingsOk
+returns-2 c = holds _ _ (cc) (fails _ _ (cc))
+
+returns-3 : tie.Need-returns-3
+unfolding settingsOk
+returns-3 c = fails _ _ (cc)
+
+pub settings-ok-spec : {M : Type 1} → statement M
+settings-ok-spec =
+    tie.close
+    (tie.spec
+    cast-within
+    within-requires
+    cast-within-2
+    within-requires-2
+    window-ok-requires
+    returns
+    returns-2
+    returns-3)

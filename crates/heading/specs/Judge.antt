@@ -1,0 +1,56 @@
+-- Document 01: a heading that is handed in, of any values, is refused by 2, then 4, then 5, over the whole heading, or is sound. Slots past
+-- the counts are not looked at.
+use Prim.Native.Nat.{ℕ, _+_}
+use mathlib.Core.List.{List, [], _∷_}
+use mathlib.Core.Bool.{Bool}
+use lib.ListN.{take}
+use Rattle.whole.specs.Tests.{upTo, same, pick, both, between}
+use Rattle.whole.specs.Answer.{Answered, given, refused}
+use Rattle.whole.specs.Lists.{all, ascend}
+use Rattle.refusal.specs.Number.{numberOf}
+use Rattle.heading.specs.Limits.{settingsOk, labelOk, labelKey, stationOk, stationKey}
+use Rattle.heading.specs.declared.Label.{Label}
+use Rattle.heading.specs.declared.Station.{Station}
+use Rattle.heading.specs.declared.Heading.{Heading}
+use Rattle.heading.specs.declared.Verdict.{Verdict}
+use Rattle.heading.specs.declared.Verdict.the-variants as Verdicts
+use Rattle.heading.specs.declared.Found.{Found}
+use Rattle.heading.specs.declared.Found.the-variants.{At, Nowhere}
+
+-- the labels and the stations that count
+unfoldable pub labelsOf : Heading → List Label
+labelsOf h = take (h .parameters) (h .labels)
+
+unfoldable pub stationsOf : Heading → List Station
+stationsOf h = take (h .stations) (h .listed)
+
+-- "Parameters, 1 to 50"; "Stations, 0 to 16"
+unfoldable pub countsOk : Heading → Bool
+countsOk h = both (between 1 (h .parameters) 50) (upTo (h .stations) 16)
+
+unfoldable pub fieldsOk : Heading → Bool
+fieldsOk h = both (settingsOk (h .settings)) (both (all labelOk (labelsOf h)) (all stationOk (stationsOf h)))
+
+unfoldable pub ordersOk : Heading → Bool
+ordersOk h = both (ascend labelKey 0 (labelsOf h)) (ascend stationKey 0 (stationsOf h))
+
+unfoldable pub judged : Heading → Answered (Unit {0})
+judged h = pick (countsOk h) (pick (fieldsOk h) (pick (ordersOk h) (given tt) (refused 5)) (refused 4)) (refused 2)
+
+-- where a number stands among stations counted from i; 10 where it is not listed
+unfoldable pub findFrom : ℕ → ℕ → List Station → Answered ℕ
+findFrom number i [] = refused 10
+findFrom number i (t ∷ l) = pick (same (stationKey t) number) (given i) (findFrom number (i + 1) l)
+
+-- among the stations of a heading: a count past the capacity is as the capacity
+unfoldable pub rowOf : Heading → ℕ → Answered ℕ
+rowOf h number = findFrom number 0 (stationsOf h)
+
+-- ---- what the answers say
+abbrev pub toldVerdict : Verdict → Answered (Unit {0})
+toldVerdict Verdicts.Sound = given tt
+toldVerdict (Verdicts.Refused r) = refused (numberOf r)
+
+abbrev pub toldFound : Found → Answered ℕ
+toldFound (At i) = given i
+toldFound Nowhere = refused 10
