@@ -13,10 +13,10 @@ use Rattle.whole.specs.Answer.{Answered, given, refused}
 use Rattle.whole.specs.Lists.{all, ascend, rest}
 use Rattle.whole.proofs.Cases.{yes, no, is-same, not-same, by-cases, less-true, less-false, both-first, both-second, between-true, upTo-true}
 use Rattle.whole.proofs.Walks.{rest-end, rest-more}
-use Rattle.heading.specs.Limits.{settingsOk, labelOk, labelKey, stationOk, stationKey}
+use Rattle.limits.specs.Limits.{settingsOk, labelOk, labelKey, stationOk, stationKey}
 use Rattle.heading.specs.Judge.{labelsOf, stationsOf, countsOk, fieldsOk, ordersOk, judged, findFrom}
-use Rattle.heading.specs.declared.Label.{Label}
-use Rattle.heading.specs.declared.Station.{Station}
+use Rattle.limits.specs.declared.Label.{Label}
+use Rattle.limits.specs.declared.Station.{Station}
 use Rattle.heading.specs.declared.Heading.{Heading}
 
 -- what the logic reads past the end of an array of labels, of stations

@@ -8,9 +8,9 @@ use Rattle.whole.specs.Tests.{upTo, same, pick, both, between}
 use Rattle.whole.specs.Answer.{Answered, given, refused}
 use Rattle.whole.specs.Lists.{all, ascend}
 use Rattle.refusal.specs.Number.{numberOf}
-use Rattle.heading.specs.Limits.{settingsOk, labelOk, labelKey, stationOk, stationKey}
-use Rattle.heading.specs.declared.Label.{Label}
-use Rattle.heading.specs.declared.Station.{Station}
+use Rattle.limits.specs.Limits.{settingsOk, labelOk, labelKey, stationOk, stationKey}
+use Rattle.limits.specs.declared.Label.{Label}
+use Rattle.limits.specs.declared.Station.{Station}
 use Rattle.heading.specs.declared.Heading.{Heading}
 use Rattle.heading.specs.declared.Verdict.{Verdict}
 use Rattle.heading.specs.declared.Verdict.the-variants as Verdicts

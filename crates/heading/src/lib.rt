@@ -1,18 +1,12 @@
-// The heading of an arc, by value: its settings, labels and stations, their limits and orders, and the judging of one that is handed in.
+// The heading of an arc, by value: its settings, labels and stations, and the judging of one that is handed in.
+use limits::Label;
+use limits::Settings;
+use limits::Station;
 use refusal::Refusal;
 ghost use mathlib.Core.Path.{_≡_};
 ghost use Prim.Native.Nat.{_≤_, _<_};
 ghost use Rattle.whole.specs.Lists.{all, ascend};
-ghost use Rattle.heading.specs.Limits.{
-  windowOk,
-  settingsOk,
-  indexOk,
-  labelOk,
-  labelKey,
-  correctionOk,
-  stationOk,
-  stationKey,
-};
+ghost use Rattle.limits.specs.Limits.{labelOk, labelKey, stationOk, stationKey};
 ghost use Rattle.heading.specs.Judge.{
   labelsOf,
   stationsOf,
@@ -24,25 +18,6 @@ ghost use Rattle.heading.specs.Judge.{
   toldVerdict,
   toldFound,
 };
-
-pub struct Settings {
-    pub arc: u32,
-    pub first: u32,
-    pub days: u16,
-    pub level: u16,
-}
-
-pub struct Label {
-    pub kind: u16,
-    pub index: u16,
-    pub weight: u32,
-    pub estimate: i64,
-}
-
-pub struct Station {
-    pub number: u16,
-    pub correction: i32,
-}
 
 // Of the labels the first `parameters` count, of the listed stations the first `stations`.
 pub struct Heading {
@@ -65,90 +40,15 @@ pub enum Found {
     Nowhere,
 }
 
-// ---- limits
-
-fn window_ok(first: u32, days: u16) -> bool
-    ensures { λ r. ⌜ r ≡ windowOk first days ⌝ }
-{
-    if whole::within(1, days as u64, 30) {
-        if first < 1 {
-            false
-        } else {
-            first as u64 + days as u64 <= 54788
-        }
-    } else {
-        false
-    }
-}
-
-pub fn settings_ok(s: Settings) -> bool
-    ensures { λ r. ⌜ r ≡ settingsOk s ⌝ }
-{
-    if whole::within(1, s.arc as u64, 999999) {
-        if whole::within(10, s.level as u64, 100) {
-            window_ok(s.first, s.days)
-        } else {
-            false
-        }
-    } else {
-        false
-    }
-}
-
-pub fn index_ok(kind: u16, index: u16) -> bool
-    ensures { λ r. ⌜ r ≡ indexOk kind index ⌝ }
-{
-    match kind {
-        1 => cells::is_parameter(index as u32),
-        2 => index < 3000,
-        3 => index < 6,
-        4 => index < 2,
-        _ => false,
-    }
-}
-
-pub fn label_ok(l: Label) -> bool
-    ensures { λ r. ⌜ r ≡ labelOk l ⌝ }
-{
-    if l.weight > 1073741824 {
-        return false;
-    }
-    index_ok(l.kind, l.index)
-}
-
-fn correction_ok(c: i32) -> bool
-    ensures { λ r. ⌜ r ≡ correctionOk c ⌝ }
-{
-    if -60000 <= c { c <= 60000 } else { false }
-}
-
-pub fn station_ok(t: Station) -> bool
-    ensures { λ r. ⌜ r ≡ stationOk t ⌝ }
-{
-    if t.number > 999 {
-        return false;
-    }
-    correction_ok(t.correction)
-}
-
-// ---- orders
-
-// The kind and the index of a label as one number.
-pub fn label_key(l: Label) -> u64
-    ensures { λ r. ⌜ (r ≡ labelKey l) × (r < 4294967296) ⌝ }
-{
-    l.kind as u64 * 65536 + l.index as u64
-}
-
+// A station's number, by which stations ascend.
 fn station_key(t: Station) -> u64
     ensures { λ r. ⌜ (r ≡ stationKey t) × (r < 65536) ⌝ }
 {
     t.number as u64
 }
 
-// ---- a heading handed in
-
-fn counts_ok(h: Heading) -> bool
+// Whether the two counts are ones that the paper allows.
+pub fn counts_ok(h: Heading) -> bool
     ensures { λ r. ⌜ r ≡ countsOk h ⌝ }
 {
     if whole::within(1, h.parameters as u64, 50) {
@@ -166,7 +66,7 @@ fn labels_ok(h: Heading) -> bool
     let mut i: usize = 0;
     while i < n {
         let l = h.labels[i];
-        if label_ok(l) {
+        if limits::label_ok(l) {
             i += 1;
         } else {
             return false;
@@ -184,7 +84,7 @@ fn labels_ascend(h: Heading) -> bool
     let mut floor: u64 = 0;
     while i < n {
         let l = h.labels[i];
-        let key = label_key(l);
+        let key = limits::label_key(l);
         if key < floor {
             return false;
         }
@@ -202,7 +102,7 @@ fn stations_ok(h: Heading) -> bool
     let mut i: usize = 0;
     while i < n {
         let t = h.listed[i];
-        if station_ok(t) {
+        if limits::station_ok(t) {
             i += 1;
         } else {
             return false;
@@ -235,7 +135,7 @@ fn fields_ok(h: Heading) -> bool
     ensures { λ r. ⌜ r ≡ fieldsOk h ⌝ }
 {
     let s = h.settings;
-    if settings_ok(s) {
+    if limits::settings_ok(s) {
         if labels_ok(h) { stations_ok(h) } else { false }
     } else {
         false

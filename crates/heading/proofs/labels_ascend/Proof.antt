@@ -8,7 +8,7 @@ use borrow.Author.Needs.{needs}
 use Rattle.heading.proofs.Sound.{no-label}
 use Rattle.whole.specs.Lists.{ascend, rest}
 use Rattle.whole.proofs.Walks.{ascend-end, ascend-pass, ascend-fail}
-use Rattle.heading.specs.Limits.{labelKey}
+use Rattle.limits.specs.Limits.{labelKey}
 use Rattle.heading.specs.Judge.{labelsOf}
 use Rattle.heading.proofs.labels_ascend.Statement.{statement}
 use Rattle.heading.proofs.labels_ascend.Tie as tie

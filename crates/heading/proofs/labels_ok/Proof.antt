@@ -8,7 +8,7 @@ use borrow.Author.Needs.{needs}
 use Rattle.heading.proofs.Sound.{no-label}
 use Rattle.whole.specs.Lists.{all, rest}
 use Rattle.whole.proofs.Walks.{all-end, all-pass, all-fail}
-use Rattle.heading.specs.Limits.{labelOk}
+use Rattle.limits.specs.Limits.{labelOk}
 use Rattle.heading.specs.Judge.{labelsOf}
 use Rattle.heading.proofs.labels_ok.Statement.{statement}
 use Rattle.heading.proofs.labels_ok.Tie as tie

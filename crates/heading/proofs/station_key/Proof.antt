@@ -3,7 +3,7 @@
 use borrow.Author.Needs.{needs}
 use native.Mathlib.Omega.{arith}
 use mathlib.Core.Path.{refl}
-use Rattle.heading.specs.Limits.{stationKey}
+use Rattle.limits.specs.Limits.{stationKey}
 use Rattle.heading.proofs.station_key.Statement.{statement}
 use Rattle.heading.proofs.station_key.Tie as tie
 

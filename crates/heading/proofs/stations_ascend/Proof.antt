@@ -8,7 +8,7 @@ use borrow.Author.Needs.{needs}
 use Rattle.heading.proofs.Sound.{no-station}
 use Rattle.whole.specs.Lists.{ascend, rest}
 use Rattle.whole.proofs.Walks.{ascend-end, ascend-pass, ascend-fail}
-use Rattle.heading.specs.Limits.{stationKey}
+use Rattle.limits.specs.Limits.{stationKey}
 use Rattle.heading.specs.Judge.{stationsOf}
 use Rattle.heading.proofs.stations_ascend.Statement.{statement}
 use Rattle.heading.proofs.stations_ascend.Tie as tie

@@ -8,7 +8,7 @@ use borrow.Author.Needs.{needs}
 use Rattle.heading.proofs.Sound.{no-station}
 use Rattle.whole.specs.Lists.{all, rest}
 use Rattle.whole.proofs.Walks.{all-end, all-pass, all-fail}
-use Rattle.heading.specs.Limits.{stationOk}
+use Rattle.limits.specs.Limits.{stationOk}
 use Rattle.heading.specs.Judge.{stationsOf}
 use Rattle.heading.proofs.stations_ok.Statement.{statement}
 use Rattle.heading.proofs.stations_ok.Tie as tie

@@ -6,9 +6,9 @@ use lib.IntN.{ℤ, pos, negℤ}
 use lib.Signed.{leZ}
 use Rattle.whole.specs.Tests.{less, upTo, same, pick, both, between}
 use Rattle.cells.specs.Cells.{isParameter}
-use Rattle.heading.specs.declared.Settings.{Settings}
-use Rattle.heading.specs.declared.Label.{Label}
-use Rattle.heading.specs.declared.Station.{Station}
+use Rattle.limits.specs.declared.Settings.{Settings}
+use Rattle.limits.specs.declared.Label.{Label}
+use Rattle.limits.specs.declared.Station.{Station}
 
 -- "arc u32 (1 to 999,999), first day u32, days u16 (1 to 30), edit level K u16 (10 to 100). First day plus days is at most 54,788; first
 -- day at least 1."

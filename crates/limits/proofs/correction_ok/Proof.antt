@@ -1,12 +1,12 @@
--- `heading::correction_ok` meets its contract.
+-- `limits::correction_ok` meets its contract.
 -- Assumes nothing.
 use mathlib.Core.Path.{refl}
 use mir.Syntax.{w32}
 use mir.ValLaws.{toZ-ofZ}
 use Rattle.whole.proofs.Cases.{holds, fails}
-use Rattle.heading.specs.Limits.{correctionOk}
-use Rattle.heading.proofs.correction_ok.Statement.{statement}
-use Rattle.heading.proofs.correction_ok.Tie as tie
+use Rattle.limits.specs.Limits.{correctionOk}
+use Rattle.limits.proofs.correction_ok.Statement.{statement}
+use Rattle.limits.proofs.correction_ok.Tie as tie
 
 returns : tie.Need-returns
 unfolding correctionOk

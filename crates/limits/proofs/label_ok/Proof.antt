@@ -1,11 +1,11 @@
--- `heading::label_ok` meets its contract.
+-- `limits::label_ok` meets its contract.
 -- Assumes nothing.
 use borrow.Author.Needs.{needs}
 use native.Mathlib.Omega.{arith}
 use Rattle.whole.proofs.Cases.{holds, fails, is-upTo, not-upTo}
-use Rattle.heading.specs.Limits.{labelOk}
-use Rattle.heading.proofs.label_ok.Statement.{statement}
-use Rattle.heading.proofs.label_ok.Tie as tie
+use Rattle.limits.specs.Limits.{labelOk}
+use Rattle.limits.proofs.label_ok.Statement.{statement}
+use Rattle.limits.proofs.label_ok.Tie as tie
 
 returns : tie.Need-returns
 unfolding labelOk

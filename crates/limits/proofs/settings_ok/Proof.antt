@@ -1,10 +1,10 @@
--- `heading::settings_ok` meets its contract: its tests are the definition's.
+-- `limits::settings_ok` meets its contract: its tests are the definition's.
 -- Assumes nothing.
 use borrow.Author.Needs.{needs}
 use Rattle.whole.proofs.Cases.{holds, fails}
-use Rattle.heading.specs.Limits.{settingsOk}
-use Rattle.heading.proofs.settings_ok.Statement.{statement}
-use Rattle.heading.proofs.settings_ok.Tie as tie
+use Rattle.limits.specs.Limits.{settingsOk}
+use Rattle.limits.proofs.settings_ok.Statement.{statement}
+use Rattle.limits.proofs.settings_ok.Tie as tie
 
 cast-within : tie.Need-cast-within
 cast-within c = search needs

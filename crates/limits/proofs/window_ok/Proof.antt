@@ -1,11 +1,11 @@
--- `heading::window_ok` meets its contract: its tests are the definition's.
+-- `limits::window_ok` meets its contract: its tests are the definition's.
 -- Assumes nothing.
 use borrow.Author.Needs.{needs}
 use native.Mathlib.Omega.{arith}
 use Rattle.whole.proofs.Cases.{holds, fails, is-upTo, not-upTo, by-upTo}
-use Rattle.heading.specs.Limits.{windowOk}
-use Rattle.heading.proofs.window_ok.Statement.{statement}
-use Rattle.heading.proofs.window_ok.Tie as tie
+use Rattle.limits.specs.Limits.{windowOk}
+use Rattle.limits.proofs.window_ok.Statement.{statement}
+use Rattle.limits.proofs.window_ok.Tie as tie
 
 within-requires : tie.Need-within-requires
 within-requires c κs = search needs

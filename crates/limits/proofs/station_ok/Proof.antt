@@ -1,4 +1,4 @@
--- `heading::station_ok` meets its contract.
+-- `limits::station_ok` meets its contract.
 -- Assumes nothing.
 use borrow.Author.Needs.{needs}
 use native.Mathlib.Omega.{arith}
@@ -6,9 +6,9 @@ use mathlib.Core.Path.{ap, _∙_}
 use mir.Syntax.{w32}
 use mir.ValLaws.{toZ-ofZ}
 use Rattle.whole.proofs.Cases.{holds, fails, is-upTo, not-upTo}
-use Rattle.heading.specs.Limits.{correctionOk, stationOk}
-use Rattle.heading.proofs.station_ok.Statement.{statement}
-use Rattle.heading.proofs.station_ok.Tie as tie
+use Rattle.limits.specs.Limits.{correctionOk, stationOk}
+use Rattle.limits.proofs.station_ok.Statement.{statement}
+use Rattle.limits.proofs.station_ok.Tie as tie
 
 returns : tie.Need-returns
 unfolding stationOk

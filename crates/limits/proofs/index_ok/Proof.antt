@@ -1,12 +1,12 @@
--- `heading::index_ok` meets its contract: the limit of each kind.
+-- `limits::index_ok` meets its contract: the limit of each kind.
 -- Assumes nothing.
 use borrow.Author.Needs.{needs}
 use native.Mathlib.Omega.{arith}
 use mathlib.Core.Path.{refl}
 use Rattle.whole.proofs.Cases.{yes, no, is-same, not-same, by-less}
-use Rattle.heading.specs.Limits.{indexOk}
-use Rattle.heading.proofs.index_ok.Statement.{statement}
-use Rattle.heading.proofs.index_ok.Tie as tie
+use Rattle.limits.specs.Limits.{indexOk}
+use Rattle.limits.proofs.index_ok.Statement.{statement}
+use Rattle.limits.proofs.index_ok.Tie as tie
 
 is-parameter-requires : tie.Need-is-parameter-requires
 is-parameter-requires c κs = search needs

@@ -1,11 +1,11 @@
--- `heading::label_key` meets its contract.
+-- `limits::label_key` meets its contract.
 -- Assumes nothing.
 use borrow.Author.Needs.{needs}
 use native.Mathlib.Omega.{arith}
 use mathlib.Core.Path.{refl}
-use Rattle.heading.specs.Limits.{labelKey}
-use Rattle.heading.proofs.label_key.Statement.{statement}
-use Rattle.heading.proofs.label_key.Tie as tie
+use Rattle.limits.specs.Limits.{labelKey}
+use Rattle.limits.proofs.label_key.Statement.{statement}
+use Rattle.limits.proofs.label_key.Tie as tie
 
 cast-result : tie.Need-cast-result
 cast-result c = search needs

@@ -1,0 +1,102 @@
+// Settings, labels and stations of an arc, by value: the limits of their fields, and the order of labels.
+ghost use mathlib.Core.Path.{_≡_};
+ghost use Prim.Native.Nat.{_<_};
+ghost use Rattle.limits.specs.Limits.{
+  windowOk,
+  settingsOk,
+  indexOk,
+  labelOk,
+  labelKey,
+  correctionOk,
+  stationOk,
+};
+
+pub struct Settings {
+    pub arc: u32,
+    pub first: u32,
+    pub days: u16,
+    pub level: u16,
+}
+
+pub struct Label {
+    pub kind: u16,
+    pub index: u16,
+    pub weight: u32,
+    pub estimate: i64,
+}
+
+pub struct Station {
+    pub number: u16,
+    pub correction: i32,
+}
+
+fn window_ok(first: u32, days: u16) -> bool
+    ensures { λ r. ⌜ r ≡ windowOk first days ⌝ }
+{
+    if whole::within(1, days as u64, 30) {
+        if first < 1 {
+            false
+        } else {
+            first as u64 + days as u64 <= 54788
+        }
+    } else {
+        false
+    }
+}
+
+pub fn settings_ok(s: Settings) -> bool
+    ensures { λ r. ⌜ r ≡ settingsOk s ⌝ }
+{
+    if whole::within(1, s.arc as u64, 999999) {
+        if whole::within(10, s.level as u64, 100) {
+            window_ok(s.first, s.days)
+        } else {
+            false
+        }
+    } else {
+        false
+    }
+}
+
+pub fn index_ok(kind: u16, index: u16) -> bool
+    ensures { λ r. ⌜ r ≡ indexOk kind index ⌝ }
+{
+    match kind {
+        1 => cells::is_parameter(index as u32),
+        2 => index < 3000,
+        3 => index < 6,
+        4 => index < 2,
+        _ => false,
+    }
+}
+
+pub fn label_ok(l: Label) -> bool
+    ensures { λ r. ⌜ r ≡ labelOk l ⌝ }
+{
+    if l.weight > 1073741824 {
+        return false;
+    }
+    index_ok(l.kind, l.index)
+}
+
+fn correction_ok(c: i32) -> bool
+    ensures { λ r. ⌜ r ≡ correctionOk c ⌝ }
+{
+    if -60000 <= c { c <= 60000 } else { false }
+}
+
+pub fn station_ok(t: Station) -> bool
+    ensures { λ r. ⌜ r ≡ stationOk t ⌝ }
+{
+    if t.number > 999 {
+        return false;
+    }
+    correction_ok(t.correction)
+}
+
+// The kind and the index of a label as one number.
+pub fn label_key(l: Label) -> u64
+    ensures { λ r. ⌜ (r ≡ labelKey l) × (r < 4294967296) ⌝ }
+{
+    l.kind as u64 * 65536 + l.index as u64
+}
