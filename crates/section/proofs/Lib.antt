@@ -1,2 +1,4 @@
 pub mod Walk
 pub mod Trips
+pub mod Read
+pub mod Prefix

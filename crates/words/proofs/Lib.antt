@@ -1,2 +1,3 @@
 pub mod Words
 pub mod Signs
+pub mod Parts

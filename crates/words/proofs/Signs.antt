@@ -61,7 +61,7 @@ module _ (w : Width) (z : ℤ) (f : SFits w z) where
     kept-back = ap natAbs (toZ-ofZ w z f) ∙ kept .1
 
 -- ---- both round trips
-full : (w : Width) → 256 ^ bytes w ≡ 2 ^ bits w
+pub full : (w : Width) → 256 ^ bytes w ≡ 2 ^ bits w
 full w8 = refl
 full w16 = refl
 full w32 = refl

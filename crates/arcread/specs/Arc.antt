@@ -1,0 +1,82 @@
+-- Document 01, 'Arc file': "Four sections in this order, each after its u32 count"; "Files are read left to right".
+use Prim.Native.Nat.{ℕ, suc, _+_, _-_, _*_}
+use mathlib.Core.List.{List, [], _++_}
+use lib.IntN.{pos}
+use lib.ListN.{length, getD, take, drop, replicate}
+use Rattle.whole.specs.Tests.{upTo, pick, both}
+use Rattle.whole.specs.Answer.{Judged, good, bad}
+use Rattle.refusal.specs.Number.{numberOf}
+use Rattle.section.specs.Section.{Run, andThen, sectionAt, closed}
+use Rattle.limits.specs.declared.Settings.{Settings}
+use Rattle.limits.specs.declared.Label.{Label}
+use Rattle.limits.specs.declared.Station.{Station}
+use Rattle.heading.specs.declared.Heading.{Heading}
+use Rattle.arcread.specs.Kinds.{settingsKind, labelKind, stationKind, recordKind, recordSize}
+use Rattle.arcread.specs.declared.ReadAnswer.{ReadAnswer}
+use Rattle.arcread.specs.declared.ReadAnswer.the-variants as Answers
+use Rattle.arcread.specs.declared.ArcRead.{ArcRead}
+
+-- what stands in a slot past the counts
+abbrev pub noSettings : Settings
+noSettings = record { arc = 0; first = 0; days = 0; level = 0 }
+
+abbrev pub noLabel : Label
+noLabel = record { kind = 0; index = 0; weight = 0; estimate = pos 0 }
+
+abbrev pub noStation : Station
+noStation = record { number = 0; correction = pos 0 }
+
+-- a list with a filling after it, n elements in all
+abbrev pub padded : {A : Type 0} → ℕ → A → List A → List A
+padded n d l = l ++ replicate (n - length l) d
+
+-- a heading of what was read; slots past the counts are 0
+unfoldable pub headingOf : Settings → List Label → List Station → Heading
+headingOf a ls ts =
+    record { settings = a; parameters = length ls; stations = length ts; labels = padded 50 noLabel ls; listed = padded 16 noStation ts }
+
+abbrev pub blank : Heading
+blank = record { settings = noSettings; parameters = 0; stations = 0; labels = replicate 50 noLabel; listed = replicate 16 noStation }
+
+-- what an arc file holds: its heading, how many records, and where the first of them stands
+pub record Arc : Type 0 where
+  pub heading : Heading
+  pub count : ℕ
+  pub start : ℕ
+
+-- "Settings, count 1; Parameters, 1 to 50; Stations, 0 to 16; Records, 0 to 65,535"; then 3
+unfoldable pub readArc : List ℕ → Judged Arc
+readArc s =
+    andThen (sectionAt settingsKind s 1 1 0) λ a.
+    andThen (sectionAt labelKind s 1 50 (a .next)) λ b.
+    andThen (sectionAt stationKind s 0 16 (b .next)) λ c.
+    andThen (sectionAt (recordKind (length (b .items))) s 0 65535 (c .next)) λ d.
+    closed s (d .next)
+    (record {
+      heading = headingOf (getD (a .items) 0 noSettings) (b .items) (c .items);
+      count = length (d .items);
+      start = c .next + 4;
+    })
+
+-- record i of those that begin at a place, or nothing where the bytes have no such whole record
+unfoldable pub recordPart : List ℕ → ℕ → ℕ → ℕ → List ℕ
+recordPart s start p i =
+    pick (both (upTo p 50) (upTo (start + suc i * recordSize p) (length s)))
+    (take (recordSize p) (drop (start + i * recordSize p) s)) []
+
+-- ---- what the answer says: with a refusal the heading is blank and the numbers are 0
+pub record Shown : Type 0 where
+  pub verdict : Judged (Unit {0})
+  pub arc : Arc
+
+abbrev pub shown : Judged Arc → Shown
+shown (good a) = record { verdict = good tt; arc = a }
+shown (bad number place) = record { verdict = bad number place; arc = record { heading = blank; count = 0; start = 0 } }
+
+abbrev pub toldAnswer : ReadAnswer → Judged (Unit {0})
+toldAnswer Answers.Read = good tt
+toldAnswer (Answers.Refused r place) = bad (numberOf r) place
+
+abbrev pub toldRead : ArcRead → Shown
+toldRead r =
+    record { verdict = toldAnswer (r .answer); arc = record { heading = r .heading; count = r .count; start = r .start } }
