@@ -2,22 +2,22 @@
 -- records after its count is read.
 -- Assumes nothing.
 use Prim.Native.Nat.{ℕ, zero, suc, _+_, _-_, _*_, _^_, _≤_, _<_}
-use mathlib.Core.Path.{_≡_, refl, sym, ap, ap₂, _∙_, subst}
+use mathlib.Core.Path.{_≡_, sym, ap, ap₂, _∙_, subst}
 use mathlib.Core.List.{List, [], _∷_, _++_}
 use mathlib.Core.Bool.{Bool, true}
 use native.Mathlib.Omega.{arith}
-use native.Mathlib.Nat.{add-zero, suc-add, suc-mul, zero-mul}
+use native.Mathlib.Nat.{suc-add, suc-mul, zero-mul}
 use lib.ListN.{length, take, drop, length-append, take-append-drop}
 use lib.Seq.{drop-drop}
 use Rattle.whole.specs.Answer.{good}
 use Rattle.whole.specs.Lists.{all, ascend}
-use Rattle.whole.proofs.Cases.{yes, no, holds, not-less, is-upTo, is-between}
-use Rattle.words.specs.Words.{word, bytesOf}
-use Rattle.words.proofs.Words.{Bytes, word-after, word-bytesOf, length-bytesOf}
+use Rattle.whole.proofs.Cases.{holds, is-upTo}
+use Rattle.words.specs.Words.{bytesOf}
+use Rattle.words.proofs.Words.{Bytes, length-bytesOf}
 use Rattle.words.proofs.Parts.{word-forth}
-use Rattle.section.specs.Section.{Kind, Run, countAt, records, sectionAt, encoded}
+use Rattle.section.specs.Section.{Kind, Run, records, sectionAt, encoded}
 use Rattle.section.proofs.Walk.{good-same, then-good, then-read, judged-read, Counted, counted, records-next, records-within, records-room}
-use Rattle.section.proofs.Trips.{records-forth}
+use Rattle.section.proofs.Trips.{count-back, records-forth}
 
 -- each element of a list is so
 abbrev pub Each : {A : Type 0} → (A → Type 0) → List A → Type 0
@@ -106,17 +106,8 @@ module _ {A : Type 0} (K : Kind A) (s : List ℕ) where
           ap₂ (λ a b. a ++ b) others after ∙ take-append-drop n (drop (at + 4) s) ∙ sym (drop-drop 4 at s) in
           ap₂ (λ a b. a ++ b) first rest ∙ take-append-drop 4 (drop at s)
 
--- ---- a count that was written, and a run of whole records after it
+-- ---- a run of whole records after its count
 module _ (p t : List ℕ) (n low high : ℕ) (small : n < 256 ^ 4) (from : low ≤ n) (to : n ≤ high) where
-  pub count-back : countAt (p ++ (bytesOf 4 n ++ t)) (length p) low high ≡ good n
-  unfolding countAt
-  count-back =
-      let s = p ++ (bytesOf 4 n ++ t) in
-      let z : length p + 0 ≡ length p = add-zero (length p) in
-      let count : word 4 s (length p) ≡ n = (rw z at (word-after 4 p (bytesOf 4 n ++ t) 0)) ∙ word-bytesOf 4 n t small in
-      let room : 4 ≤ length s - length p = simp (length-append, length-bytesOf) (omega arith) in
-      rw count (sym (no _ _ _ (not-less _ _ room) (yes _ _ _ (is-between _ _ _ from to) refl)))
-
   -- a kind with no limits and no order
   module _ {A : Type 0} (K : Kind A) (free : (s : List ℕ) (at : ℕ) → K .fieldsOk s at ≡ true) (flat : (a : A) → K .after a ≡ 0)
       (long : length t ≡ n * K .size)
@@ -129,4 +120,4 @@ module _ (p t : List ℕ) (n low high : ℕ) (small : n < 256 ^ 4) (from : low �
           let all : length s ≡ length p + 4 + n * K .size = simp (length-append, length-bytesOf) (omega arith) in
           let run = records-room K s (free s) flat n (length p + 4) (omega arith) in
           let end = records-next K s n (length p + 4) 0 (run .0) (run .1) in
-          (run .0, then-good _ _ count-back ∙ run .1, end .1, end .0 ∙ sym all)
+          (run .0, then-good _ _ (count-back p t n low high small from to) ∙ run .1, end .1, end .0 ∙ sym all)

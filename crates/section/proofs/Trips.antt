@@ -16,6 +16,16 @@ use Rattle.section.specs.Section.{Kind, Run, countAt, judgedAt, records,
 use Rattle.section.proofs.Walk.{good-same, then-good, then-read, judged-read}
 
 -- ---- writing, then reading
+-- a count that was written is read back
+pub count-back : (p t : List ℕ) (n low high : ℕ) → n < 256 ^ 4 → low ≤ n → n ≤ high → countAt (p ++ (bytesOf 4 n ++ t)) (length p) low high ≡ good n
+unfolding countAt
+count-back p t n low high small from to =
+    let s = p ++ (bytesOf 4 n ++ t) in
+    let z : length p + 0 ≡ length p = add-zero (length p) in
+    let count : word 4 s (length p) ≡ n = (rw z at (word-after 4 p (bytesOf 4 n ++ t) 0)) ∙ word-bytesOf 4 n t small in
+    let room : 4 ≤ length s - length p = simp (length-append, length-bytesOf) (omega arith) in
+    rw count (sym (no _ _ _ (not-less _ _ room) (yes _ _ _ (is-between _ _ _ from to) refl)))
+
 -- Held: what a record has to be so that its bytes hold it
 module _ {A : Type 0} (K : Kind A) (bytes : A → List ℕ) (Held : A → Type 0) where
   -- records that may stand in a section: each held, each with a key from the floor before it up
@@ -57,16 +67,12 @@ module _ {A : Type 0} (K : Kind A) (bytes : A → List ℕ) (Held : A → Type 0
       pub section-back : (l : List A) (p r : List ℕ) (low high : ℕ) → Chain 0 l → low ≤ length l → length l ≤ high → length l < 256 ^ 4
           → sectionAt K (p ++ (bytesOf 4 (length l) ++ (encoded bytes l ++ r))) low high (length p)
           ≡ good (record { items = l; next = length p + 4 + length l * K .size })
-      unfolding sectionAt countAt
+      unfolding sectionAt
       section-back l p r low high c from to small =
           let b = bytesOf 4 (length l) in
-          let s = p ++ (b ++ (encoded bytes l ++ r)) in
-          let z : length p + 0 ≡ length p = add-zero (length p) in
-          let count : word 4 s (length p) ≡ length l = (rw z at (word-after 4 p (b ++ (encoded bytes l ++ r)) 0)) ∙ word-bytesOf 4 (length l) (encoded bytes l ++ r) small in
-          let room : 4 ≤ length s - length p = simp (length-append, length-bytesOf) (omega arith) in
           let m : length (p ++ b) ≡ length p + 4 = length-append p b ∙ ap (λ n. length p + n) (length-bytesOf 4 (length l)) in
           let rest = records-back l (p ++ b) r 0 c in
-          then-good _ _ (rw count (sym (no _ _ _ (not-less _ _ room) (yes _ _ _ (is-between _ _ _ from to) refl))))
+          then-good _ _ (count-back p (encoded bytes l ++ r) (length l) low high small from to)
           ∙ (simp (m, append-assoc p b (encoded bytes l ++ r)) at rest)
 
 -- ---- reading, then writing
