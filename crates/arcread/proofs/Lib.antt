@@ -1,2 +1,5 @@
 pub mod Prefix
-pub mod Read
+pub mod Accepted
+pub mod Fill
+pub mod Parts
+pub mod Places

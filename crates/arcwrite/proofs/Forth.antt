@@ -20,7 +20,7 @@ use Rattle.limits.specs.declared.Station.{Station}
 use Rattle.heading.specs.declared.Heading.{Heading}
 use Rattle.arcread.specs.Kinds.{settingsBytes, labelBytes, stationBytes, settingsKind, labelKind, stationKind, recordKind, recordSize}
 use Rattle.arcread.specs.Arc.{Arc, noSettings, headingOf, readArc}
-use Rattle.arcread.proofs.Read.{Parts, read-parts, labels-of, stations-of, single, Passed, heading-passed}
+use Rattle.arcread.proofs.Accepted.{Parts, read-parts, labels-of, stations-of, single, Passed, heading-passed}
 use Rattle.arcwrite.specs.Write.{recordsIn, arcBytes, writeArc, leftIn}
 use Rattle.arcwrite.proofs.Records.{settings-forth, label-forth, station-forth}
 use Rattle.arcwrite.proofs.Back.{records-on, stations-on, labels-on, file}

@@ -40,13 +40,6 @@ pub enum Found {
     Nowhere,
 }
 
-// A station's number, by which stations ascend.
-fn station_key(t: Station) -> u64
-    ensures { λ r. ⌜ (r ≡ stationKey t) × (r < 65536) ⌝ }
-{
-    t.number as u64
-}
-
 // Whether the two counts are ones that the paper allows.
 pub fn counts_ok(h: Heading) -> bool
     ensures { λ r. ⌜ r ≡ countsOk h ⌝ }
@@ -120,7 +113,7 @@ fn stations_ascend(h: Heading) -> bool
     let mut floor: u64 = 0;
     while i < n {
         let t = h.listed[i];
-        let number = station_key(t);
+        let number = limits::station_key(t);
         if number < floor {
             return false;
         }

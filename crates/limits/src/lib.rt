@@ -9,6 +9,7 @@ ghost use Rattle.limits.specs.Limits.{
   labelKey,
   correctionOk,
   stationOk,
+  stationKey,
 };
 
 pub struct Settings {
@@ -99,4 +100,11 @@ pub fn label_key(l: Label) -> u64
     ensures { λ r. ⌜ (r ≡ labelKey l) × (r < 4294967296) ⌝ }
 {
     l.kind as u64 * 65536 + l.index as u64
+}
+
+// A station's number, by which stations ascend.
+pub fn station_key(t: Station) -> u64
+    ensures { λ r. ⌜ (r ≡ stationKey t) × (r < 65536) ⌝ }
+{
+    t.number as u64
 }

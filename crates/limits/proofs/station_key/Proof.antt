@@ -1,11 +1,11 @@
--- `heading::station_key` meets its contract.
+-- `limits::station_key` meets its contract.
 -- Assumes nothing.
 use borrow.Author.Needs.{needs}
 use native.Mathlib.Omega.{arith}
 use mathlib.Core.Path.{refl}
 use Rattle.limits.specs.Limits.{stationKey}
-use Rattle.heading.proofs.station_key.Statement.{statement}
-use Rattle.heading.proofs.station_key.Tie as tie
+use Rattle.limits.proofs.station_key.Statement.{statement}
+use Rattle.limits.proofs.station_key.Tie as tie
 
 cast-result : tie.Need-cast-result
 cast-result c = search needs
