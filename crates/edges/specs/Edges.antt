@@ -1,8 +1,14 @@
 -- Document 01, 'At the edges': the cases marked (proved), about the definitions that the promises cite.
+use Prim.Native.Nat.{ℕ, _+_, _-_, _*_, _^_}
 use mathlib.Core.Path.{_≡_}
 use mathlib.Core.List.{List, [], _∷_}
+use lib.IntN.{pos, negsuc}
+use lib.Ieee.{Float, binary64, ofBits}
 use Rattle.whole.specs.Answer.{given, refused}
 use Rattle.days.specs.Calendar.{dayOfDate, dateOf}
+use Rattle.nearest.specs.Doubles.{nearestUnit, quotient}
+use Rattle.units.specs.Types.{turn}
+use Rattle.units.specs.Units.{unitOf, residualOf, reading}
 
 infix 20 _gives_
 -- a case: what a definition gives, and what the paper says
@@ -18,6 +24,17 @@ abbrev pub Each : List Edge → Type 0
 Each [] = Unit {0}
 Each (e ∷ l) = Holds e × Each l
 
+-- a double above zero by its exponent's field and its fraction, and one below zero
+abbrev pub above : ℕ → ℕ → Float
+above e f = ofBits binary64 (e * 2 ^ 52 + f)
+
+abbrev pub under : ℕ → ℕ → Float
+under e f = ofBits binary64 (2 ^ 63 + e * 2 ^ 52 + f)
+
+-- the double nearest to -0.001, whose pattern is bf50624dd2f1a9fc
+abbrev pub lessMilli : Float
+lessMilli = under 1013 108086391056892
+
 abbrev pub edges : List Edge
 edges =
     -- 1. 1972 Jan 1 is 8,036; 2000 Jan 1 is 18,263; 2000 Feb 29 is 18,322; 1950 Jan 0 as a date: 4
@@ -25,4 +42,12 @@ edges =
     ∷ (dayOfDate (dateOf 2000 1 1) gives given 18263)
     ∷ (dayOfDate (dateOf 2000 2 29) gives given 18322)
     ∷ (dayOfDate (dateOf 1950 1 0) gives refused 4)
+    -- 2. Ranges: 2^-11 m gives 0, 3·2^-11 gives 2, −2^-11 gives 0; −0.001 gives −1, so 16
+    ∷ (unitOf 1 (above 1012 0) gives given (pos 0))
+    ∷ (unitOf 1 (above 1013 (2 ^ 51)) gives given (pos 2))
+    ∷ (unitOf 1 (under 1012 0) gives given (pos 0))
+    ∷ (nearestUnit 10 lessMilli gives negsuc 0)
+    ∷ (unitOf 1 lessMilli gives refused 16)
+    -- 3. Azimuth observed 5, computed T−5: r = 10
+    ∷ (residualOf (reading 7 (quotient 28 (pos 5)) (quotient 28 (pos (turn - 5)))) gives given (pos 10))
     ∷ []

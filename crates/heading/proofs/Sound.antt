@@ -3,15 +3,15 @@
 use Prim.Native.Nat.{ℕ, _+_, _≤_, _<_, min}
 use mathlib.Core.Path.{_≡_, refl, sym, _∙_}
 use mathlib.Core.List.{List}
-use mathlib.Core.Bool.{Bool, true, false}
+use mathlib.Core.Bool.{true}
 use native.Mathlib.Omega.{arith}
 use lib.IntN.{pos}
 use lib.ListN.{length, take, getD}
 use lib.Seq.{take-all}
-use Rattle.whole.specs.Tests.{less, pick}
-use Rattle.whole.specs.Answer.{Answered, given, refused}
+use Rattle.whole.specs.Tests.{less}
+use Rattle.whole.specs.Answer.{given, refused}
 use Rattle.whole.specs.Lists.{all, ascend, rest}
-use Rattle.whole.proofs.Cases.{yes, no, is-same, not-same, by-cases, less-true, less-false, both-first, both-second, between-true, upTo-true}
+use Rattle.whole.proofs.Cases.{chosen, yes, no, is-same, not-same, by-cases, less-true, less-false, both-first, both-second, between-true, upTo-true}
 use Rattle.whole.proofs.Walks.{rest-end, rest-more}
 use Rattle.limits.specs.Limits.{settingsOk, labelOk, labelKey, stationOk, stationKey}
 use Rattle.heading.specs.Judge.{labelsOf, stationsOf, countsOk, fieldsOk, ordersOk, judged, findFrom}
@@ -54,14 +54,6 @@ unfolding countsOk
 counts-fit h e = (between-true _ _ _ (both-first _ _ e) .1, upTo-true _ _ (both-second _ _ e))
 
 -- ---- what a sound heading is
-refused-not : {x : Answered (Unit {0})} {n : ℕ} → x ≡ refused n → x ≡ given tt → ⊥
-refused-not p e = let z : _≡_ {A = ℕ} 0 1 = cc in omega arith
-
-chosen : (k : ℕ) (b : Bool) (x : Answered (Unit {0})) → pick b x (refused k) ≡ given tt → (b ≡ true) × (x ≡ given tt)
-unfolding pick
-chosen k true x e = (refl, e)
-chosen k false x e = absurd (refused-not refl e)
-
 pub record Sound (h : Heading) : Type 0 where
   pub some : 1 ≤ h .parameters
   pub few : h .parameters ≤ 50

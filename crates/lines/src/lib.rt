@@ -2,7 +2,7 @@
 // that is written. Nothing here refuses: past the end a byte is 0, and where no digit stands the number is 0.
 use libc::STDOUT_FILENO;
 use refusal::Refusal;
-ghost use Prim.Native.Nat.{_+_, _≤_, min};
+ghost use Prim.Native.Nat.{_+_, _<_, _≤_, min};
 ghost use lib.ListN.{length};
 
 // The place after the line that a place is in: past its line end, or the text's end.
@@ -42,39 +42,113 @@ pub fn byte_at(text: &[u8], at: usize) -> u8 {
     if at < text.len() { text[at] } else { 0 }
 }
 
-// What a digit stands for, or 10 where a byte is none.
+// What a digit stands for in bases up to 16, or 16 where a byte is none.
 fn digit(byte: u8) -> u64 {
     if byte < b'0' {
-        return 10;
+        return 16;
     }
-    if byte > b'9' {
-        return 10;
+    if byte <= b'9' {
+        return (byte - b'0') as u64;
     }
-    (byte - b'0') as u64
+    if byte < b'a' {
+        return 16;
+    }
+    if byte <= b'f' {
+        return (byte - b'a') as u64 + 10;
+    }
+    16
 }
 
-// A number with one digit more, or the largest where that is too large.
-fn longer(value: u64, digit: u64) -> u64 {
-    if (u64::MAX - digit) / 10 < value {
+// A number with one digit more in a base, or the largest where that is too large.
+fn longer(value: u64, base: u64, digit: u64) -> u64
+    requires { ⌜ 0 < base ⌝ }
+{
+    if (u64::MAX - digit) / base < value {
         u64::MAX
     } else {
-        value * 10 + digit
+        value * base + digit
     }
 }
 
-// The number whose decimal digits begin at a place, or the largest where it is too large.
-pub fn decimal_at(text: &[u8], at: usize) -> u64 {
+// The number whose digits in a base begin at a place, or the largest where it is too large.
+fn number_at(text: &[u8], at: usize, base: u64) -> u64
+    requires { ⌜ 0 < base ⌝ }
+{
     let mut value: u64 = 0;
     let mut i = at;
     while i < text.len() {
         let next = digit(text[i]);
-        if next > 9 {
+        if next >= base {
             return value;
         }
-        value = longer(value, next);
+        value = longer(value, base, next);
         i += 1;
     }
     value
+}
+
+// The number whose decimal digits begin at a place, or the largest where it is too large.
+pub fn decimal_at(text: &[u8], at: usize) -> u64 {
+    number_at(text, at, 10)
+}
+
+// The number whose hexadecimal digits, in lower case, begin at a place, or the largest where it is too large.
+pub fn hex_at(text: &[u8], at: usize) -> u64 {
+    number_at(text, at, 16)
+}
+
+// Puts the bytes that pairs of hexadecimal digits at a line's start stand for into room for them, and gives their number.
+pub fn hex_bytes(line: &[u8], out: &mut [u8]) -> usize {
+    let mut i: usize = 0;
+    let mut n: usize = 0;
+    while i < line.len() {
+        if line.len() - i < 2 {
+            return n;
+        }
+        let high = digit(line[i]);
+        let low = digit(line[i + 1]);
+        if high > 15 {
+            return n;
+        }
+        if low > 15 {
+            return n;
+        }
+        if n >= out.len() {
+            return n;
+        }
+        out[n] = (high * 16 + low) as u8;
+        n += 1;
+        i += 2;
+    }
+    n
+}
+
+// n, or the greatest signed number where n is above it.
+fn plus(n: u64) -> i64 {
+    if n < 0x8000_0000_0000_0000 {
+        n as i64
+    } else {
+        i64::MAX
+    }
+}
+
+// -n, or the least signed number where -n is below it.
+fn minus(n: u64) -> i64 {
+    if n < 0x8000_0000_0000_0000 {
+        0 - n as i64
+    } else {
+        i64::MIN
+    }
+}
+
+// The number whose decimal digits begin at a place, after a minus or none, as far as a signed number goes.
+pub fn signed_at(text: &[u8], at: usize) -> i64 {
+    if at < text.len() {
+        if text[at] == b'-' {
+            return minus(decimal_at(text, at + 1));
+        }
+    }
+    plus(decimal_at(text, at))
 }
 
 // The number that a word of a line is, or the largest of 32 bits where it is too large.
@@ -96,6 +170,31 @@ pub fn put(bytes: &[u8]) {
 pub fn put_number(value: u64, after: &[u8]) {
     io::print_decimal(STDOUT_FILENO, value);
     put(after);
+}
+
+// Writes a signed number in decimal, and what stands after it.
+pub fn put_signed(value: i64, after: &[u8]) {
+    if value < 0 {
+        put(b"-");
+        put_number((-1 - value) as u64 + 1, after);
+    } else {
+        put_number(value as u64, after);
+    }
+}
+
+// Writes a number as 16 hexadecimal digits, and what stands after it.
+pub fn put_hex(value: u64, after: &[u8]) {
+    io::print_hex(STDOUT_FILENO, value, 16);
+    put(after);
+}
+
+// Writes bytes as two hexadecimal digits each.
+pub fn put_bytes(bytes: &[u8]) {
+    let mut i: usize = 0;
+    while i < bytes.len() {
+        io::print_hex(STDOUT_FILENO, byte_at(bytes, i) as u64, 2);
+        i += 1;
+    }
 }
 
 // Writes a refusal by its number, and what stands after it.

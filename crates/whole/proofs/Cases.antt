@@ -5,7 +5,9 @@ use Prim.Native.Nat.{ℕ, _≤_, _<_}
 use mathlib.Core.Path.{_≡_, refl, sym, subst}
 use mathlib.Core.Bool.{Bool, true, false, not}
 use borrow.Author.Tests.{ltb-true, ltb-false, leb-true, leb-false, eqb-true, eqb-false, lt-ltb, le-ltb, le-leb, lt-leb, eq-eqb, ne-eqb}
+use native.Mathlib.Omega.{arith}
 use lib.Dec.{T, ltb, leb, eqb}
+use Rattle.whole.specs.Answer.{Answered, given, refused}
 use Rattle.whole.specs.Tests.{less, upTo, same, pick, both, either, between}
 
 -- true is not false
@@ -140,3 +142,17 @@ module _ (low x high : ℕ) where
 pub by-cases : {A : Type 0} (b : Bool) → (b ≡ true → A) → (b ≡ false → A) → A
 by-cases true f g = f refl
 by-cases false f g = g refl
+
+-- ---- what an acceptance says of the tests before it
+pub refused-not : {A : Type 0} {x : Answered A} {k : ℕ} {a : A} → x ≡ refused k → x ≡ given a → ⊥
+refused-not p e = let z : _≡_ {A = ℕ} 0 1 = cc in omega arith
+
+pub chosen : {A : Type 0} (k : ℕ) (b : Bool) (x : Answered A) {a : A} → pick b x (refused k) ≡ given a → (b ≡ true) × (x ≡ given a)
+unfolding pick
+chosen k true x e = (refl, e)
+chosen k false x e = absurd (refused-not refl e)
+
+pub passed : {A : Type 0} (k : ℕ) (b : Bool) (x : Answered A) {a : A} → pick b (refused k) x ≡ given a → (b ≡ false) × (x ≡ given a)
+unfolding pick
+passed k true x e = absurd (refused-not refl e)
+passed k false x e = (refl, e)

@@ -1,15 +1,15 @@
--- `lines::decimal_at` is safe and ends. The measure is what is left of the text. Assumes nothing.
+-- `lines::number_at` is safe and ends. The measure is what is left of the text. Assumes nothing.
 use Prim.Native.Nat.{_-_}
 use borrow.Author.Needs.{needs}
 use lib.ListN.{length}
-use Rattle.lines.proofs.decimal_at.Statement.{statement}
-use Rattle.lines.proofs.decimal_at.Tie as tie
+use Rattle.lines.proofs.number_at.Statement.{statement}
+use Rattle.lines.proofs.number_at.Tie as tie
 
 abbrev Inv-loop : tie.InvT-loop
-Inv-loop text at value₀ i₀ value i = Unit {0}
+Inv-loop text at base value₀ i₀ value i = Unit {0}
 
 abbrev μ-loop : tie.MeasureT-loop
-μ-loop text at value₀ i₀ value i = length text - i
+μ-loop text at base value₀ i₀ value i = length text - i
 
 loop-holds : tie.Need-loop-holds Inv-loop μ-loop
 loop-holds c = search needs
@@ -38,8 +38,8 @@ loop-again c = search needs
 returns-2 : tie.Need-returns-2 Inv-loop μ-loop
 returns-2 c = search needs
 
-pub decimal-at-spec : {M : Type 1} → statement M
-decimal-at-spec =
+pub number-at-spec : {M : Type 1} → statement M
+number-at-spec =
     tie.close
     (tie.spec
     Inv-loop

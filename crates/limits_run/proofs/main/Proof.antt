@@ -1,0 +1,34 @@
+-- `limits_run::main` is safe and ends. The measure is how many types are left. Assumes nothing.
+use Prim.Native.Nat.{_-_}
+use borrow.Author.Needs.{needs}
+use Rattle.limits_run.proofs.main.Statement.{statement}
+use Rattle.limits_run.proofs.main.Tie as tie
+
+abbrev Inv-loop : tie.InvT-loop
+Inv-loop kind₀ kind = Unit {0}
+
+abbrev μ-loop : tie.MeasureT-loop
+μ-loop kind₀ kind = 12 - kind
+
+loop-holds : tie.Need-loop-holds Inv-loop μ-loop
+loop-holds c = search needs
+
+limits-requires : tie.Need-limits-requires Inv-loop μ-loop
+limits-requires c κs = search needs
+
+add-kind : tie.Need-add-kind Inv-loop μ-loop
+add-kind c = search needs
+
+loop-less : tie.Need-loop-less Inv-loop μ-loop
+loop-less c = search needs
+
+loop-again : tie.Need-loop-again Inv-loop μ-loop
+loop-again c = search needs
+
+returns : tie.Need-returns Inv-loop μ-loop
+returns c = search needs
+
+pub main-spec : {M : Type 1} → statement M
+main-spec =
+    tie.close
+    (tie.spec Inv-loop μ-loop loop-holds limits-requires add-kind loop-less loop-again returns)

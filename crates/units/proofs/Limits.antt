@@ -1,0 +1,113 @@
+-- Numbers within limits, and what an answer of `unitWithin` says by the tests of the residual.
+-- Assumes nothing.
+use Prim.Native.Nat.{ℕ, _^_, _≤_}
+use native.Mathlib.Omega.{arith}
+use mathlib.Core.Path.{_≡_, refl, sym, ap, _∙_, subst}
+use mathlib.Core.Bool.{Bool, true, false, cond, _&&_}
+use borrow.Author.Tests.{leb-true}
+use lib.Dec.{leb}
+use lib.IntN.{ℤ, pos, negsuc, natAbs}
+use lib.Signed.{leZ}
+use lib.Ieee.{Float, nan, inf, fin}
+use lib.Ieee.Scale.{finite}
+use Rattle.whole.specs.Answer.{Answered, given, refused}
+use Rattle.whole.proofs.Cases.{apart, yes, no, by-cases}
+use Rattle.nearest.specs.Doubles.{fitsIn, nearestUnit, unitWithin}
+use Rattle.units.specs.declared.Row.{Row}
+use Rattle.units.specs.Parts.{Narrow}
+use Rattle.units.specs.Units.{isTurn, onCircle, topOf, fitsRow}
+
+-- ---- sizes
+pub and-first : (a b : Bool) → a && b ≡ true → a ≡ true
+and-first true b e = refl
+and-first false b e = e
+
+pub and-second : (a b : Bool) → a && b ≡ true → b ≡ true
+and-second true b e = e
+and-second false b e = absurd (apart (sym e))
+
+-- what lies within limits is no larger than they are
+pub within-limits : (lo hi q : ℤ) {m : ℕ} → fitsIn lo hi q ≡ true → natAbs lo ≤ m → natAbs hi ≤ m → natAbs q ≤ m
+within-limits lo (pos h) (pos n) t a b = omega (arith, leb-true n h (and-second (leZ lo (pos n)) (leb n h) t))
+within-limits lo (negsuc h) (pos n) t a b = absurd (apart (sym (and-second (leZ lo (pos n)) false t)))
+within-limits (pos l) hi (negsuc n) t a b = absurd (apart (sym t))
+within-limits (negsuc l) hi (negsuc n) t a b = omega (arith, leb-true n l (and-first (leb n l) (leZ (negsuc n) hi) t))
+
+pub row-small : (r : Row) → Narrow r → (q : ℤ) → fitsIn (r .low) (r .high) q ≡ true → natAbs q ≤ 2 ^ 40
+row-small r n q f = within-limits (r .low) (r .high) q f (n .low) (n .high)
+
+pub top-small : (r : Row) → Narrow r → natAbs (topOf r) ≤ 2 ^ 40
+unfolding topOf
+top-small r h =
+    by-cases (r .turns)
+    (λ e. subst (λ z. natAbs z ≤ 2 ^ 40) (yes (r .turns) _ _ e refl) (omega arith))
+    (λ e. subst (λ z. natAbs z ≤ 2 ^ 40) (no (r .turns) _ _ e refl) (h .high))
+
+pub circle-small : (r : Row) (q : ℤ) {m : ℕ} → natAbs q ≤ m → natAbs (onCircle r q) ≤ m
+unfolding onCircle
+circle-small r q {m} h =
+    by-cases (r .turns)
+    (λ e. by-cases (isTurn q)
+    (λ t. subst (λ z. natAbs z ≤ m) (yes (r .turns) _ _ e (yes (isTurn q) _ _ t refl)) (omega arith))
+    (λ t. subst (λ z. natAbs z ≤ m) (yes (r .turns) _ _ e (no (isTurn q) _ _ t refl)) h))
+    (λ e. subst (λ z. natAbs z ≤ m) (no (r .turns) _ _ e refl) h)
+
+-- ---- the three answers
+-- a refusal is no value
+pub never : {A : Type 0} (n : ℕ) (v : A) → refused n ≡ given v → ⊥
+never n v e = let z : _≡_ {A = ℕ} 0 1 = cc in omega arith
+
+-- which of the three a finite number gives
+inner : (b : Bool) (n q : ℤ) → cond b (given n) (refused 16) ≡ given q → (b ≡ true) × (n ≡ q)
+inner true n q e = (refl, cc)
+inner false n q e = absurd (never 16 q e)
+
+outer : (b : Bool) (n : ℤ) → cond b (given n) (refused 16) ≡ refused 16 → b ≡ false
+outer true n e = absurd (never 16 n (sym e))
+outer false n e = refl
+
+neither : (b : Bool) (n : ℤ) → cond b (given n) (refused 16) ≡ refused 15 → ⊥
+neither true n e = never 15 n (sym e)
+neither false n e = let z : _≡_ {A = ℕ} 16 15 = cc in omega arith
+
+-- the answer of a row, before T becomes 0
+abbrev pub inRow : Row → Float → Answered ℤ
+inRow r x = unitWithin (r .k) (r .low) (r .high) x
+
+-- a number whose q is out of a row's limits, and one whose q is within them
+pub record Outside (r : Row) (x : Float) : Type 0 where
+  pub number : finite x ≡ true
+  pub out : fitsRow r x ≡ false
+
+pub record Inside (r : Row) (x : Float) (q : ℤ) : Type 0 where
+  pub number : finite x ≡ true
+  pub fits : fitsRow r x ≡ true
+  pub is : nearestUnit (r .k) x ≡ q
+
+-- 15, 16 and a unit, each by the tests
+module _ (r : Row) where
+  pub not-finite : (x : Float) → inRow r x ≡ refused 15 → finite x ≡ false
+  unfolding unitWithin
+  not-finite nan e = refl
+  not-finite (inf s) e = refl
+  not-finite (fin s m d) e =
+      let n = nearestUnit (r .k) (fin s m d) in absurd (neither (fitsIn (r .low) (r .high) n) n e)
+
+  pub outside : (x : Float) → inRow r x ≡ refused 16 → Outside r x
+  unfolding unitWithin fitsRow
+  outside nan e = absurd (let z : _≡_ {A = ℕ} 15 16 = cc in omega arith)
+  outside (inf s) e = absurd (let z : _≡_ {A = ℕ} 15 16 = cc in omega arith)
+  outside (fin s m d) e = record { number = refl; out = outer _ _ e }
+
+  pub inside : (x : Float) (q : ℤ) → inRow r x ≡ given q → Inside r x q
+  unfolding unitWithin fitsRow
+  inside nan q e = absurd (never 15 q e)
+  inside (inf s) q e = absurd (never 15 q e)
+  inside (fin s m d) q e = let h = inner _ _ q e in record { number = refl; fits = h .0; is = h .1 }
+
+  -- a unit that a row answers is within 2 ^ 40
+  pub inside-small : (x : Float) (q : ℤ) → Narrow r → inRow r x ≡ given q → natAbs q ≤ 2 ^ 40
+  unfolding fitsRow
+  inside-small x q n e =
+      let h = inside x q e in
+      row-small r n q (ap (λ z. fitsIn (r .low) (r .high) z) (sym (h .is)) ∙ h .fits)

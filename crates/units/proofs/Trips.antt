@@ -1,0 +1,172 @@
+-- Doubles to units and back, for every type: a law over k of the crate below, at the row of the type.
+-- Assumes nothing.
+use Prim.Native.Nat.{ℕ, _-_, _^_, _<_, _≤_}
+use native.Mathlib.Omega.{arith}
+use mathlib.Core.Path.{_≡_, refl, sym, ap, ap₂, _∙_, subst}
+use mathlib.Core.Bool.{Bool, true, false, cond, _&&_}
+use borrow.Author.Tests.{leb-true, le-leb}
+use lib.Dec.{T, leb}
+use lib.IntN.{ℤ, pos, negsuc, natAbs}
+use lib.Ieee.{Float, binary64, ofBits}
+use lib.Ieee.Scale.{finite}
+use lib.Ieee.Bits.{is-true}
+use Rattle.whole.specs.Answer.{Answered, given, refused}
+use Rattle.whole.specs.Tests.{pick, same}
+use Rattle.whole.proofs.Cases.{apart, yes, by-cases, not-same, same-false}
+use Rattle.nearest.specs.Doubles.{size, nearestUnit, fitsIn, unitWithin, quotient, times1074, wholeBits, Nearest, Exactly}
+use Rattle.nearest.proofs.Claims.{answered, answers, answered-bits, unit-bits, round-trip}
+use Rattle.nearest.proofs.Back.{quotient-exact}
+use Rattle.units.specs.declared.Row.{Row}
+use Rattle.units.specs.Types.{turn, circle, isType, rowOf}
+use Rattle.units.specs.Units.{isTurn, onCircle, turned, unitOf, topOf, doubleOf}
+use Rattle.units.proofs.Rows.{by-rows, InTable, in-table}
+use Rattle.units.proofs.Limits.{never, and-second, within-limits, top-small}
+
+-- ---- what an answer was made of
+-- a value where a test may refuse: the test held
+pub tested : {A : Type 0} (b : Bool) (a : Answered A) (n : ℕ) (v : A) → pick b a (refused n) ≡ given v → (b ≡ true) × (a ≡ given v)
+unfolding pick
+tested true a n v e = (refl, e)
+tested false a n v e = absurd (never n v e)
+
+-- a unit before T becomes 0
+record Before (r : Row) (a : Answered ℤ) (q : ℤ) : Type 0 where
+  pub whole : ℤ
+  pub answer : a ≡ given whole
+  pub circle : q ≡ onCircle r whole
+
+before : (r : Row) (a : Answered ℤ) (q : ℤ) → turned r a ≡ given q → Before r a q
+unfolding turned
+before r (given n) q e = record { whole = n; answer = refl; circle = cc }
+before r (refused n) q e = absurd (never n q e)
+
+answer : (t : ℕ) (x : Float) (q : ℤ) → unitOf t x ≡ given q → Before (rowOf t) (unitWithin (rowOf t .k) (rowOf t .low) (rowOf t .high) x) q
+unfolding unitOf
+answer t x q e = before (rowOf t) _ q (tested (isType t) _ 11 q e .1)
+
+-- ---- "A double x becomes q, the whole number nearest to x·2^k, ties to even, with at most half a unit between q and x·2^k."
+-- "The limits and the half unit apply to q before T becomes 0." X is x * 2 ^ 1074.
+pub record UnitOf (t : ℕ) (X q : ℤ) : Type 0 where
+  pub whole : ℤ
+  pub nearest : Nearest (rowOf t .k) X whole
+  pub limits : fitsIn (rowOf t .low) (rowOf t .high) whole ≡ true
+  pub circle : q ≡ onCircle (rowOf t) whole
+
+pub unit-nearest : (t : ℕ) (x : Float) (q : ℤ) → unitOf t x ≡ given q → UnitOf t (times1074 x) q
+unit-nearest t x q e =
+    let b = answer t x q e in
+    let h = answered (rowOf t .k) (rowOf t .low) (rowOf t .high) x (b .whole) (b .answer) in
+    record { whole = b .whole; nearest = h .0; limits = is-true _ (h .1); circle = b .circle }
+
+-- the same by the bits of the double
+pub unit-nearest-bits : (t p : ℕ) (q : ℤ) → unitOf t (ofBits binary64 p) ≡ given q → UnitOf t (wholeBits p) q
+unit-nearest-bits t p q e =
+    let r = rowOf t in
+    let b = answer t (ofBits binary64 p) q e in
+    let h = answered-bits (r .k) (r .low) (r .high) p (b .whole) (sym (unit-bits (r .k) (r .low) (r .high) p) ∙ b .answer) in
+    record { whole = b .whole; nearest = h .0; limits = is-true _ (h .1); circle = b .circle }
+
+-- and the other way: what is nearest and within the limits is the unit
+pub nearest-is-unit : (t : ℕ) (x : Float) (q : ℤ) → isType t ≡ true → T (finite x) → UnitOf t (times1074 x) q → unitOf t x ≡ given q
+unfolding unitOf turned
+nearest-is-unit t x q y f u =
+    let r = rowOf t in
+    sym (yes (isType t) _ _ y (ap given (u .circle)
+    ∙ ap (λ a. turned r a) (sym (answers (r .k) (r .low) (r .high) x (u .whole) f (u .nearest) (subst T (sym (u .limits)) tt)))))
+
+-- "Minus zero gives 0", for every type
+pub minus-zero : (t : ℕ) → isType t ≡ true → unitOf t (ofBits binary64 (2 ^ 63)) ≡ given (pos 0)
+unfolding unitOf turned unitWithin nearestUnit size ofBits onCircle isTurn same pick
+minus-zero t y =
+    rw y (by-rows (λ r. turned r (unitWithin (r .k) (r .low) (r .high) (ofBits binary64 (2 ^ 63))) ≡ given (pos 0)) refl refl refl refl refl refl t)
+
+-- ---- T and 0
+-- on the circle a unit is below T, and one below T stays
+on-circle : (q : ℤ) → fitsIn (pos 0) (pos turn) q ≡ true → fitsIn (pos 0) (pos (turn - 1)) (onCircle circle q) ≡ true
+unfolding onCircle isTurn pick
+on-circle (negsuc n) h = absurd (apart (sym h))
+on-circle (pos n) h =
+    by-cases (same n turn) (λ e. rw e)
+    (λ e. rw e (below n (leb-true n turn (and-second (leb 0 n) (leb n turn) h)) (same-false n turn e)))
+  where
+    below : (n : ℕ) → n ≤ turn → (n ≡ turn → ⊥) → fitsIn (pos 0) (pos (turn - 1)) (pos n) ≡ true
+    below n h e = ap₂ (λ a b. a && b) (le-leb 0 n (omega arith)) (le-leb n (turn - 1) (omega arith))
+
+record Stays (r : Row) (q : ℤ) : Type 0 where
+  pub limits : fitsIn (r .low) (r .high) q ≡ true
+  pub stays : onCircle r q ≡ q
+
+below-turn : (q : ℤ) → fitsIn (pos 0) (pos (turn - 1)) q ≡ true → Stays circle q
+unfolding onCircle isTurn pick
+below-turn (negsuc n) h = absurd (apart (sym h))
+below-turn (pos n) h =
+    let l : n ≤ turn - 1 = leb-true n (turn - 1) (and-second (leb 0 n) (leb n (turn - 1)) h) in
+    record {
+      limits = ap₂ (λ a b. a && b) (le-leb 0 n (omega arith)) (le-leb n turn (omega arith));
+      stays = rw (not-same n turn (λ e. omega arith));
+    }
+
+module _ (r : Row) (h : InTable r) (q : ℤ) where
+  -- the unit of a double is one that becomes a double again
+  pub top-of-circle : fitsIn (r .low) (r .high) q ≡ true → fitsIn (r .low) (topOf r) (onCircle r q) ≡ true
+  unfolding topOf onCircle pick
+  top-of-circle f =
+      by-cases (r .turns)
+      (λ e. subst (λ s. fitsIn (s .low) (s .high) q ≡ true → fitsIn (s .low) (topOf s) (onCircle s q) ≡ true) (sym (h .round e)) (on-circle q) f)
+      (λ e. rw e f)
+
+  -- and one that becomes a double is a unit as it stands
+  below-top : fitsIn (r .low) (topOf r) q ≡ true → Stays r q
+  unfolding topOf onCircle pick
+  below-top f =
+      by-cases (r .turns)
+      (λ e. subst (λ s. fitsIn (s .low) (topOf s) q ≡ true → Stays s q) (sym (h .round e)) (below-turn q) f)
+      (λ e. record { limits = rw e at f; stays = rw e })
+
+-- ---- "All |q| stay below 2^53", and a unit of types 7 and 9 is below T
+pub unit-limits : (t : ℕ) (x : Float) (q : ℤ) → unitOf t x ≡ given q → fitsIn (rowOf t .low) (topOf (rowOf t)) q ≡ true
+unit-limits t x q e =
+    let u = unit-nearest t x q e in
+    ap (λ z. fitsIn (rowOf t .low) (topOf (rowOf t)) z) (u .circle) ∙ top-of-circle (rowOf t) (in-table t) (u .whole) (u .limits)
+
+-- a unit of a type's limits is small
+pub small : (t : ℕ) (q : ℤ) → fitsIn (rowOf t .low) (topOf (rowOf t)) q ≡ true → natAbs q ≤ 2 ^ 40
+small t q f =
+    let n = in-table t .narrow in within-limits (rowOf t .low) (topOf (rowOf t)) q f (n .low) (top-small (rowOf t) n)
+
+pub unit-small : (t : ℕ) (x : Float) (q : ℤ) → unitOf t x ≡ given q → natAbs q < 2 ^ 53
+unit-small t x q e = let h : natAbs q ≤ 2 ^ 40 = small t q (unit-limits t x q e) in omega arith
+
+-- ---- "so q becomes a double, and q/2^k is exact"
+pub record Back (t : ℕ) (q : ℤ) (x : Float) : Type 0 where
+  pub limits : fitsIn (rowOf t .low) (topOf (rowOf t)) q ≡ true
+  pub exact : Exactly (rowOf t .k) q x
+  -- rounding back gives the unit
+  pub unit : unitOf t x ≡ given q
+
+pub back : (t : ℕ) (q : ℤ) (x : Float) → doubleOf t q ≡ given x → Back t q x
+unfolding doubleOf unitOf turned
+back t q x e =
+    let r = rowOf t in
+    let a = tested (isType t) _ 11 x e in
+    let b = tested (fitsIn (r .low) (topOf r) q) _ 16 x (a .1) in
+    let h : natAbs q ≤ 2 ^ 40 = small t q (b .0) in
+    let s = below-top r (in-table t) q (b .0) in
+    let v : quotient (r .k) q ≡ x = cc in
+    let y : Exactly (r .k) q x = subst (λ z. Exactly (r .k) q z) v (quotient-exact (r .k) q (omega arith) (in-table t .narrow .scale)) in
+    record {
+      limits = b .0;
+      exact = y;
+      unit =
+          sym (yes (isType t) _ _ (a .0) (ap given (sym (s .stays))
+          ∙ ap (λ z. turned r z) (sym (round-trip (r .k) (r .low) (r .high) q x y ∙ ap (λ b. cond b (given q) (refused 16)) (s .limits)))));
+    }
+
+-- every unit within its type's limits becomes a double, and so does every unit of a double
+pub there : (t : ℕ) (q : ℤ) → isType t ≡ true → fitsIn (rowOf t .low) (topOf (rowOf t)) q ≡ true → doubleOf t q ≡ given (quotient (rowOf t .k) q)
+unfolding doubleOf
+there t q y f = sym (yes (isType t) _ _ y (yes (fitsIn (rowOf t .low) (topOf (rowOf t)) q) _ _ f refl))
+
+pub unit-there : (t : ℕ) (x : Float) (q : ℤ) → unitOf t x ≡ given q → doubleOf t q ≡ given (quotient (rowOf t .k) q)
+unfolding unitOf
+unit-there t x q e = there t q (tested (isType t) _ 11 q e .0) (unit-limits t x q e)

@@ -1,0 +1,39 @@
+-- `units::double_of_unit` meets its contract.
+-- Assumes nothing.
+use mathlib.Core.Path.{refl, ap₂, _∙_}
+use lib.IntN.{ℤ}
+use mir.Facts.{toZ-ofZ}
+use borrow.Author.Needs.{needs}
+use Rattle.whole.specs.Answer.{given, refused}
+use Rattle.whole.specs.Tests.{pick}
+use Rattle.whole.proofs.Cases.{yes, no}
+use Rattle.nearest.specs.Doubles.{fitsIn, quotient}
+use Rattle.units.specs.declared.Row.{Row}
+use Rattle.units.specs.Units.{topOf, doubleOf}
+use Rattle.units.proofs.Rows.{narrow-row}
+use Rattle.units.proofs.double_of_unit.Statement.{statement}
+use Rattle.units.proofs.double_of_unit.Tie as tie
+
+is-type-requires : tie.Need-is-type-requires
+is-type-requires c κs = search needs
+
+table-row-requires : tie.Need-table-row-requires
+table-row-requires c κs = search needs
+
+double-by-requires : tie.Need-double-by-requires
+double-by-requires c κs = narrow-row _ (c .table-row .ensures)
+
+returns : tie.Need-returns
+unfolding doubleOf
+returns c =
+    let s = c .before .before .before .before in
+    yes _ _ _ (cc) (c .double-by .ensures
+    ∙ ap₂ (λ (r : Row) (z : ℤ). pick (fitsIn (r .low) (topOf r) z) (given (quotient (r .k) z)) (refused 16)) (c .before .table-row .ensures) (toZ-ofZ (s .fits .q)))
+
+returns-2 : tie.Need-returns-2
+unfolding doubleOf
+returns-2 c = no _ _ _ (cc) refl
+
+pub double-of-unit-spec : {M : Type 1} → statement M
+double-of-unit-spec =
+    tie.close (tie.spec is-type-requires table-row-requires double-by-requires returns returns-2)

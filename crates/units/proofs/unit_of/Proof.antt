@@ -1,0 +1,34 @@
+-- `units::unit_of` meets its contract.
+-- Assumes nothing.
+use mathlib.Core.Path.{refl, ap, _∙_}
+use borrow.Author.Needs.{needs}
+use Rattle.whole.proofs.Cases.{yes, no}
+use Rattle.nearest.specs.Doubles.{unitWithin}
+use Rattle.units.specs.declared.Row.{Row}
+use Rattle.units.specs.Units.{turned, unitOf}
+use Rattle.units.proofs.Rows.{narrow-row}
+use Rattle.units.proofs.unit_of.Statement.{statement}
+use Rattle.units.proofs.unit_of.Tie as tie
+
+is-type-requires : tie.Need-is-type-requires
+is-type-requires c κs = search needs
+
+table-row-requires : tie.Need-table-row-requires
+table-row-requires c κs = search needs
+
+unit-by-requires : tie.Need-unit-by-requires
+unit-by-requires c κs = narrow-row _ (c .table-row .ensures)
+
+returns : tie.Need-returns
+unfolding unitOf
+returns c =
+    let x = c .before .before .before .before .args .x in
+    yes _ _ _ (cc) (c .unit-by .ensures ∙ ap (λ (r : Row). turned r (unitWithin (r .k) (r .low) (r .high) x)) (c .before .table-row .ensures))
+
+returns-2 : tie.Need-returns-2
+unfolding unitOf
+returns-2 c = no _ _ _ (cc) refl
+
+pub unit-of-spec : {M : Type 1} → statement M
+unit-of-spec =
+    tie.close (tie.spec is-type-requires table-row-requires unit-by-requires returns returns-2)
