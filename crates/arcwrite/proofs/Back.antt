@@ -29,6 +29,7 @@ use Rattle.heading.proofs.Sound.{sound, counts-fit}
 use Rattle.arcread.specs.Kinds.{settingsBytes, labelBytes, stationBytes, settingsKind, labelKind, stationKind, recordKind, recordSize}
 use Rattle.arcread.specs.Arc.{headingOf, readArc}
 use Rattle.arcwrite.specs.Write.{recordsIn, arcBytes}
+use Rattle.arcwrite.proofs.Laws.{arc-long}
 use Rattle.arcwrite.proofs.Records.{length-settings, length-label, length-station, settings-back, label-back, station-back}
 
 -- ---- lists of records that may stand in a section
@@ -175,9 +176,7 @@ module _ (h : Heading) (run : List ℕ) (places : length (h .labels) ≡ 50) (se
 
     -- how long the file is
     pub length-arc : length (arcBytes h run) ≡ 28 + 16 * h .parameters + 8 * h .stations + length run
-    length-arc =
-        ap length as-file ∙ length-file (h .settings) (labelsOf h) (stationsOf h) (recordsIn h run) run
-        ∙ simp (as-many-labels, as-many-stations) (omega arith)
+    length-arc = arc-long h run (omega (arith, counts-fit h ok .0)) (omega (arith, counts-fit h ok .1))
 
   -- written, then read
   pub written-read : judged h ≡ given tt → Each (λ l. SFits w64 (l .estimate)) (labelsOf h) → length run % recordSize (h .parameters) ≡ 0 → recordsIn h run ≤ 65535

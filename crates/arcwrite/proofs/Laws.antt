@@ -1,0 +1,91 @@
+-- Laws of the bytes of an arc file: their lengths, and what is left to lay at each turn of a loop that lays them one by one.
+-- Assumes nothing.
+use Prim.Native.Nat.{ℕ, suc, _+_, _*_, _/_, _≤_, _<_}
+use mathlib.Core.Path.{_≡_, sym, _∙_, ap}
+use mathlib.Core.List.{List, [], _∷_, _++_, append-assoc}
+use native.Mathlib.Omega.{arith}
+use native.Mathlib.Numerals.{add-one}
+use native.Mathlib.Nat.{mul-suc, mul-zero, div-lt-iff-lt-mul}
+use lib.ListN.{length, drop, getD, set, length-append, drop-of-length-le}
+use lib.Seq.{drop-cons, length-take-le}
+use Rattle.whole.specs.Lists.{rest}
+use Rattle.whole.proofs.Walks.{rest-end, rest-more}
+use Rattle.words.specs.Words.{bytesOf, lay}
+use Rattle.words.proofs.Words.{lay-append, length-bytesOf}
+use Rattle.section.specs.Section.{encoded}
+use Rattle.heading.specs.Judge.{labelsOf, stationsOf}
+use Rattle.heading.specs.declared.Heading.{Heading}
+use Rattle.arcread.specs.Kinds.{settingsBytes, labelBytes, stationBytes, recordSize}
+use Rattle.arcwrite.proofs.Records.{length-settings, length-label, length-station}
+use Rattle.arcwrite.specs.Write.{recordsIn, arcBytes}
+use Rattle.arcwrite.specs.Room.{neededFor}
+
+-- ---- a run of so few records is short
+pub run-short : (p n : ℕ) → p ≤ 50 → n / recordSize p ≤ 65535 → n < 8650752
+run-short p n few h =
+    let some : 0 < recordSize p = omega arith in
+    let less : n < 65536 * recordSize p = div-lt-iff-lt-mul some .0 (omega arith) in
+    omega arith
+
+-- ---- records of k bytes each, one after the other
+module _ {A : Type 0} (bytes : A → List ℕ) (k : ℕ) (long : (a : A) → length (bytes a) ≡ k) where
+  pub encoded-long : (l : List A) → length (encoded bytes l) ≡ k * length l
+  unfolding encoded
+  encoded-long [] = rw mul-zero
+  encoded-long (a ∷ l) = simp (length-append, long, encoded-long l, mul-suc) (omega arith)
+
+  -- a loop that lays the first n of a list: what is left at each turn
+  module _ (out : List ℕ) (at : ℕ) (l : List A) (n i : ℕ) where
+    pub encoded-end : n ≤ i → lay out at (encoded bytes (rest l n i)) ≡ out
+    unfolding encoded lay
+    encoded-end e = rw (rest-end l n i e)
+
+    pub encoded-turn : (d : A) → n ≤ length l → i < n
+        → lay out at (encoded bytes (rest l n i)) ≡ lay (lay out at (bytes (getD l i d))) (at + k) (encoded bytes (rest l n (i + 1)))
+    unfolding encoded
+    encoded-turn d fits more = rw (rest-more l n i d fits more) (sym (lay-append _ _ _ _ _ (simp long)))
+
+-- ---- a loop that copies a run: what is left at each turn
+module _ (out run : List ℕ) (start i : ℕ) where
+  pub run-end : length run ≤ i → lay out (start + i) (drop i run) ≡ out
+  unfolding lay
+  run-end e = rw (drop-of-length-le run e)
+
+  pub run-turn : i < length run
+      → lay out (start + i) (drop i run) ≡ lay (set out (start + i) (getD run i 0)) (start + (i + 1)) (drop (i + 1) run)
+  unfolding lay
+  run-turn more =
+      let next : start + (i + 1) ≡ suc (start + i) = omega arith in
+      rw (drop-cons run i 0 more, next, add-one)
+
+-- ---- the whole file, of a heading whose counts are within its arrays
+module _ (h : Heading) (run : List ℕ) (few : h .parameters ≤ length (h .labels)) (seats : h .stations ≤ length (h .listed)) where
+  labels-all : length (encoded labelBytes (labelsOf h)) ≡ 16 * h .parameters
+  unfolding labelsOf
+  labels-all = encoded-long labelBytes 16 length-label (labelsOf h) ∙ ap (λ n. 16 * n) (length-take-le _ _ few)
+
+  stations-all : length (encoded stationBytes (stationsOf h)) ≡ 8 * h .stations
+  unfolding stationsOf
+  stations-all = encoded-long stationBytes 8 length-station (stationsOf h) ∙ ap (λ n. 8 * n) (length-take-le _ _ seats)
+
+  pub arc-long : length (arcBytes h run) ≡ neededFor (h .parameters) (h .stations) (length run)
+  unfolding arcBytes
+  arc-long = simp (length-append, length-bytesOf, length-settings, labels-all, stations-all) (omega arith)
+
+  -- its parts laid one after the other, each where the last one ends
+  pub arc-laid : (out : List ℕ)
+      → let stations-at = 20 + 16 * h .parameters in
+      let records-at = stations-at + 4 + 8 * h .stations in
+      let a = lay out 0 (bytesOf 4 1 ++ settingsBytes (h .settings)) in
+      let b = lay (lay a 16 (bytesOf 4 (h .parameters))) 20 (encoded labelBytes (labelsOf h)) in
+      let c = lay (lay b stations-at (bytesOf 4 (h .stations))) (stations-at + 4) (encoded stationBytes (stationsOf h)) in
+      lay (lay c records-at (bytesOf 4 (length run / recordSize (h .parameters)))) (records-at + 4) run ≡ lay out 0 (arcBytes h run)
+  unfolding arcBytes recordsIn
+  arc-laid out =
+      lay-append _ _ _ _ _ (simp length-bytesOf)
+      ∙ lay-append _ _ _ _ _ (simp stations-all)
+      ∙ lay-append _ _ _ _ _ (simp length-bytesOf)
+      ∙ lay-append _ _ _ _ _ (simp labels-all)
+      ∙ lay-append _ _ _ _ _ (simp length-bytesOf)
+      ∙ lay-append _ _ _ _ _ (simp (length-append, length-bytesOf, length-settings))
+      ∙ simp append-assoc
