@@ -3,7 +3,7 @@
 use Prim.Native.Nat.{ℕ, _-_, _^_, _<_, _≤_}
 use native.Mathlib.Omega.{arith}
 use mathlib.Core.Path.{_≡_, refl, sym, ap, ap₂, _∙_, subst}
-use mathlib.Core.Bool.{Bool, true, false, cond, _&&_}
+use mathlib.Core.Bool.{true, cond, _&&_}
 use borrow.Author.Tests.{leb-true, le-leb}
 use lib.Dec.{T, leb}
 use lib.IntN.{ℤ, pos, negsuc, natAbs}
@@ -12,7 +12,7 @@ use lib.Ieee.Scale.{finite}
 use lib.Ieee.Bits.{is-true}
 use Rattle.whole.specs.Answer.{Answered, given, refused}
 use Rattle.whole.specs.Tests.{pick, same}
-use Rattle.whole.proofs.Cases.{apart, yes, by-cases, not-same, same-false}
+use Rattle.whole.proofs.Cases.{chosen, apart, yes, by-cases, not-same, same-false}
 use Rattle.nearest.specs.Doubles.{size, nearestUnit, fitsIn, unitWithin, quotient, times1074, wholeBits, Nearest, Exactly}
 use Rattle.nearest.proofs.Claims.{answered, answers, answered-bits, unit-bits, round-trip}
 use Rattle.nearest.proofs.Back.{quotient-exact}
@@ -23,12 +23,6 @@ use Rattle.units.proofs.Rows.{by-rows, InTable, in-table}
 use Rattle.units.proofs.Limits.{never, and-second, within-limits, top-small}
 
 -- ---- what an answer was made of
--- a value where a test may refuse: the test held
-pub tested : {A : Type 0} (b : Bool) (a : Answered A) (n : ℕ) (v : A) → pick b a (refused n) ≡ given v → (b ≡ true) × (a ≡ given v)
-unfolding pick
-tested true a n v e = (refl, e)
-tested false a n v e = absurd (never n v e)
-
 -- a unit before T becomes 0
 record Before (r : Row) (a : Answered ℤ) (q : ℤ) : Type 0 where
   pub whole : ℤ
@@ -42,7 +36,7 @@ before r (refused n) q e = absurd (never n q e)
 
 answer : (t : ℕ) (x : Float) (q : ℤ) → unitOf t x ≡ given q → Before (rowOf t) (unitWithin (rowOf t .k) (rowOf t .low) (rowOf t .high) x) q
 unfolding unitOf
-answer t x q e = before (rowOf t) _ q (tested (isType t) _ 11 q e .1)
+answer t x q e = before (rowOf t) _ q (chosen 11 (isType t) _ e .1)
 
 -- ---- "A double x becomes q, the whole number nearest to x·2^k, ties to even, with at most half a unit between q and x·2^k."
 -- "The limits and the half unit apply to q before T becomes 0." X is x * 2 ^ 1074.
@@ -148,8 +142,8 @@ pub back : (t : ℕ) (q : ℤ) (x : Float) → doubleOf t q ≡ given x → Back
 unfolding doubleOf unitOf turned
 back t q x e =
     let r = rowOf t in
-    let a = tested (isType t) _ 11 x e in
-    let b = tested (fitsIn (r .low) (topOf r) q) _ 16 x (a .1) in
+    let a = chosen 11 (isType t) _ e in
+    let b = chosen 16 (fitsIn (r .low) (topOf r) q) _ (a .1) in
     let h : natAbs q ≤ 2 ^ 40 = small t q (b .0) in
     let s = below-top r (in-table t) q (b .0) in
     let v : quotient (r .k) q ≡ x = cc in
@@ -169,4 +163,4 @@ there t q y f = sym (yes (isType t) _ _ y (yes (fitsIn (rowOf t .low) (topOf (ro
 
 pub unit-there : (t : ℕ) (x : Float) (q : ℤ) → unitOf t x ≡ given q → doubleOf t q ≡ given (quotient (rowOf t .k) q)
 unfolding unitOf
-unit-there t x q e = there t q (tested (isType t) _ 11 q e .0) (unit-limits t x q e)
+unit-there t x q e = there t q (chosen 11 (isType t) _ e .0) (unit-limits t x q e)

@@ -10,7 +10,7 @@ use lib.Dec.{leb}
 use lib.IntN.{ℤ, pos, negsuc, natAbs, _+ℤ_, _-ℤ_, +ℤ-assoc, +ℤ-idr, -ℤ-+ℤ-cancel}
 use Rattle.whole.specs.Answer.{given}
 use Rattle.whole.specs.Tests.{pick}
-use Rattle.whole.proofs.Cases.{apart, yes, no, both-first, both-second, by-cases}
+use Rattle.whole.proofs.Cases.{chosen, apart, yes, no, both-first, both-second, by-cases}
 use Rattle.nearest.specs.Doubles.{fitsIn, nearestUnit}
 use Rattle.nearest.proofs.Laws.{either}
 use Rattle.nearest.proofs.Signs.{sub-abs, apart as distance}
@@ -21,7 +21,7 @@ use Rattle.units.specs.Units.{halfTurn, onCircle, topOf, brought, apartB
 use Rattle.units.proofs.Rows.{in-table}
 use Rattle.units.proofs.Words.{minus-within}
 use Rattle.units.proofs.Limits.{and-second, row-small}
-use Rattle.units.proofs.Trips.{tested, top-of-circle}
+use Rattle.units.proofs.Trips.{top-of-circle}
 
 -- r is within half a turn, and differs from z by nothing, a turn down or a turn up
 pub record Brought (z r : ℤ) : Type 0 where
@@ -106,7 +106,7 @@ pub residual-apart : (m : Reading) (v : ℤ) → residualOf m ≡ given v → Ap
 unfolding residualOf residualBy fitsRow
 residual-apart m v e =
     let r = rowOf (m .kind) in
-    let a = tested _ _ 16 v (tested _ _ 15 v e .1) in
+    let a = chosen 16 _ _ (chosen 15 _ _ e .1) in
     record {
       observed = nearestUnit (r .k) (m .observed);
       computed = nearestUnit (r .k) (m .computed);
