@@ -1,0 +1,37 @@
+-- The machine's tests of signed numbers.
+-- Assumes nothing.
+use mathlib.Core.Path.{_≡_, refl, sym, _∙_, subst}
+use mathlib.Core.Bool.{Bool, true, false}
+use Prim.Native.Nat.{ℕ, zero, suc, _-_, _^_, _<_}
+use native.Mathlib.Omega.{arith}
+use borrow.Author.Tests.{eq-eqb, ne-eqb}
+use lib.Dec.{eqb}
+use lib.IntN.{ℤ, pos, negsuc, negℤ}
+use lib.Signed.{_≤ℤ_, ltZ}
+use mir.Syntax.{w64}
+use mir.Val.{SFits, ofZ}
+use Rattle.sums.specs.Sound.{isZero}
+
+-- a number is 0 where its bits are
+pub zero-bits : (z : ℤ) → SFits w64 z → eqb (ofZ w64 z) 0 ≡ isZero z
+zero-bits (pos n) f = refl
+zero-bits (negsuc n) f = ne-eqb (2 ^ 64 - suc n) 0 (λ e. never n (f .sfits) e)
+  where
+    never : (n : ℕ) → n < 2 ^ 63 → 2 ^ 64 - suc n ≡ 0 → ⊥
+    never n h e = omega arith
+
+pub is-zero : (z : ℤ) → SFits w64 z → ofZ w64 z ≡ 0 → isZero z ≡ true
+is-zero z f e = sym (zero-bits z f) ∙ eq-eqb (ofZ w64 z) 0 e
+
+pub not-zero : (z : ℤ) → SFits w64 z → (ofZ w64 z ≡ 0 → ⊥) → isZero z ≡ false
+not-zero z f e = sym (zero-bits z f) ∙ ne-eqb (ofZ w64 z) 0 e
+
+-- 0 - b, of a b that is not negative
+pub neg-fits : (b : ℤ) → pos 0 ≤ℤ b → SFits w64 b → SFits w64 (negℤ b)
+neg-fits (pos zero) p f = f
+neg-fits (pos (suc n)) p f = record { sfits = omega (arith, f .sfits) }
+neg-fits (negsuc n) p f = absurd (p .le)
+
+-- a test of two numbers, from the machine's test of what it reads back
+pub test-of : (x y a b : ℤ) (t : Bool) → x ≡ a → y ≡ b → ltZ x y ≡ t → ltZ a b ≡ t
+test-of x y a b t p q e = subst (λ z. ltZ z b ≡ t) p (subst (λ z. ltZ x z ≡ t) q e)

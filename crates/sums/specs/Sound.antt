@@ -1,0 +1,44 @@
+-- Document 01, 'Normal file': "a zero diagonal has zeros in its row, column and right side"; "diagonal not negative"; "Each sum is judged
+-- alone: it is unsound if it breaks a bound, or should be zero and isn't"; "for 6 the first unsound sum in file order".
+use mathlib.Core.Path.{_≡_}
+use mathlib.Core.Bool.{Bool, true, false, cond}
+use mathlib.Core.List.{List}
+use Prim.Native.Nat.{ℕ, _+_, _≤_, _<_}
+use lib.Dec.{eqb}
+use lib.IntN.{ℤ, pos, negsuc, negℤ}
+use lib.Signed.{ltZ}
+use lib.ListN.{getD}
+use Rattle.sums.specs.Triangle.{tri}
+use Rattle.sums.specs.declared.Walked.{Walked}
+use Rattle.sums.specs.declared.Walked.the-variants.{Sound, Unsound}
+
+-- the entry of row i and column j
+abbrev pub entry : List ℤ → ℕ → ℕ → ℤ
+entry s i j = getD s (tri j + i) (pos 0)
+
+abbrev pub isZero : ℤ → Bool
+isZero (pos n) = eqb n 0
+isZero (negsuc n) = false
+
+-- an entry is too large, or is below 0 on the diagonal, or is not 0 where the diagonal of its row or of its column is 0
+unfoldable pub breaks : ℤ → List ℤ → ℕ → ℕ → Bool
+breaks b s i j =
+    cond (ltZ b (entry s i j)) true
+    (cond (ltZ (entry s i j) (negℤ b)) true
+    (cond (eqb i j) (ltZ (entry s i j) (pos 0))
+    (cond (isZero (entry s i j)) false
+    (cond (isZero (entry s i i)) true (isZero (entry s j j))))))
+
+pub record FirstBreak (b : ℤ) (s : List ℤ) (p k : ℕ) : Type 0 where
+  pub row : ℕ
+  pub column : ℕ
+  pub upper : row ≤ column
+  pub inside : column < p
+  pub place : k ≡ tri column + row
+  pub broken : breaks b s row column ≡ true
+  pub first : (i j : ℕ) → i ≤ j → tri j + i < k → breaks b s i j ≡ false
+
+-- what the judge says of a triangle of p columns
+abbrev pub Right : ℤ → List ℤ → ℕ → Walked → Type 0
+Right b s p Sound = (i j : ℕ) → i ≤ j → j < p → breaks b s i j ≡ false
+Right b s p (Unsound k) = FirstBreak b s p k

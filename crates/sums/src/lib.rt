@@ -1,0 +1,129 @@
+// Inner to `taking`: the terms of one record added to the packed triangle and to the right sides, and the first sum that is not sound.
+ghost use mathlib.Core.Path.{_≡_};
+ghost use Prim.Native.Nat.{_+_, _*_, _≤_, _<_, _^_};
+ghost use lib.IntN.{pos, _+ℤ_, _*ℤ_, natAbs};
+ghost use lib.ListN.{length};
+ghost use mathlib.Core.Bool.{true, false};
+ghost use lib.Signed.{_≤ℤ_};
+ghost use Rattle.whole.specs.Sums.{plus, Within};
+ghost use Rattle.sums.specs.Sound.{breaks, Right};
+ghost use Rattle.sums.specs.Triangle.{times, triangle, tri};
+
+fn mac(s: i64, f: i64, x: i16) -> i64
+    requires { ⌜ (natAbs s ≤ 2 ^ 62) × (natAbs f ≤ 2 ^ 31) ⌝ }
+    ensures { λ r. ⌜ r ≡ s +ℤ f *ℤ x ⌝ }
+{
+    s + f * (x as i64)
+}
+
+fn scale(w: u32, x: i16) -> i64
+    requires { ⌜ w ≤ 65536 ⌝ }
+    ensures { λ r. ⌜ (r ≡ pos w *ℤ x) × (natAbs r ≤ 2 ^ 31) ⌝ }
+{
+    (w as i64) * (x as i64)
+}
+
+// Adds f times a's number at each place to the part's there.
+pub fn add_times(part: &mut [i64], f: i64, a: &[i16])
+    requires { ⌜ length (now part) ≤ length (now a) ⌝ }
+    requires { ⌜ natAbs f ≤ 2 ^ 31 ⌝ }
+    requires { ⌜ Within (2 ^ 62) (now part) ⌝ }
+    ensures { λ _. ⌜ now (part .exit) ≡ plus (now (part .entry)) (times f (now (a .entry))) ⌝ }
+{
+    let n = part.len();
+    let mut i: usize = 0;
+    while i < n {
+        let s = part[i];
+        let x = a[i];
+        let y = mac(s, f, x);
+        part[i] = y;
+        i += 1;
+    }
+}
+
+// Adds w times the products of a's numbers to the packed triangle, column by column.
+pub fn add_matrix(sums: &mut [i64], a: &[i16], w: u32)
+    requires { ⌜ tri (length (now a)) ≤ length (now sums) ⌝ }
+    requires { ⌜ (w ≤ 65536) × (length (now a) ≤ 50) ⌝ }
+    requires { ⌜ Within (2 ^ 62) (now sums) ⌝ }
+    ensures { λ _. ⌜ now (sums .exit) ≡ plus (now (sums .entry)) (triangle (pos w) (now (a .entry))) ⌝ }
+{
+    let mut j: usize = 0;
+    let mut k: usize = 0;
+    while j < a.len() {
+        let f = scale(w, a[j]);
+        let mut i: usize = 0;
+        while i <= j {
+            let s = sums[k];
+            let x = a[i];
+            let y = mac(s, f, x);
+            sums[k] = y;
+            k += 1;
+            i += 1;
+        }
+        j += 1;
+    }
+}
+
+// The place of row i and column j in the packed triangle.
+fn place(i: usize, j: usize) -> usize
+    requires { ⌜ (i ≤ j) × (j < 500) ⌝ }
+    ensures { λ r. ⌜ r ≡ tri j + i ⌝ }
+{
+    j * (j + 1) / 2 + i
+}
+
+// Whether the entry of row i and column j is one that sums cannot have.
+fn is_broken(s: &[i64], i: usize, j: usize, bound: i64) -> bool
+    requires { ⌜ (i ≤ j) × (j < 500) ⌝ }
+    requires { ⌜ tri (j + 1) ≤ length (now s) ⌝ }
+    requires { ⌜ pos 0 ≤ℤ bound ⌝ }
+    ensures { λ r. ⌜ r ≡ breaks bound (now (s .entry)) i j ⌝ }
+{
+    let x = s[place(i, j)];
+    if bound < x {
+        return true;
+    }
+    if x < 0 - bound {
+        return true;
+    }
+    if i == j {
+        return x < 0;
+    }
+    if x == 0 {
+        return false;
+    }
+    let p = s[place(i, i)];
+    if p == 0 {
+        return true;
+    }
+    let q = s[place(j, j)];
+    q == 0
+}
+
+pub enum Walked {
+    Sound,
+    Unsound(usize),
+}
+
+// The first entry that sums of p columns cannot have, where there is one.
+pub fn first_unsound(s: &[i64], p: usize, bound: i64) -> Walked
+    requires { ⌜ (p ≤ 500) × (tri p ≤ length (now s)) ⌝ }
+    requires { ⌜ pos 0 ≤ℤ bound ⌝ }
+    ensures { λ r. ⌜ Right bound (now (s .entry)) p r ⌝ }
+{
+    let mut found = Walked::Sound;
+    let mut j: usize = 0;
+    'all: while j < p {
+        let mut i: usize = 0;
+        while i <= j {
+            if is_broken(s, i, j, bound) {
+                found = Walked::Unsound(place(i, j));
+                break 'all;
+            }
+            i += 1;
+        }
+        j += 1;
+    }
+    found
+}
