@@ -18,14 +18,14 @@ use Rattle.words.proofs.Words.{Bytes, word-small}
 use Rattle.section.specs.Section.{Run, sectionAt, closed}
 use Rattle.section.proofs.Walk.{good-same, pick-read, then-read}
 use Rattle.section.proofs.Read.{Each, section-read, records-each, records-all, records-ascend}
-use Rattle.limits.specs.Limits.{settingsOk, labelOk, labelKey, stationOk, stationKey}
+use Rattle.limits.specs.Limits.{settingsOk, labelOk, labelKey, stationOk, stationKey, noSettings, noLabel, noStation}
 use Rattle.heading.specs.Judge.{labelsOf, stationsOf, countsOk, fieldsOk, ordersOk, judged}
 use Rattle.limits.specs.declared.Settings.{Settings}
 use Rattle.limits.specs.declared.Label.{Label}
 use Rattle.limits.specs.declared.Station.{Station}
 use Rattle.heading.specs.declared.Heading.{Heading}
 use Rattle.arcread.specs.Kinds.{labelAt, stationAtOk, settingsKind, labelKind, stationKind, recordKind}
-use Rattle.arcread.specs.Arc.{noSettings, noLabel, noStation, padded, headingOf, Arc, readArc}
+use Rattle.arcread.specs.Arc.{padded, headingOf, Arc, readArc}
 
 -- ---- its four sections
 pub record Parts (s : List ℕ) (a : Arc) : Type 0 where

@@ -5,6 +5,7 @@ use mathlib.Core.Path.{_≡_, refl, sym, ap, _∙_}
 use mathlib.Core.List.{List, [], _∷_}
 use native.Mathlib.Omega.{arith}
 use lib.ListN.{length}
+use Rattle.limits.specs.Limits.{noLabel, noStation}
 use Rattle.whole.specs.Answer.{Judged, good, bad}
 use Rattle.whole.proofs.Cases.{yes, no, is-less, not-less}
 use Rattle.refusal.specs.Number.{numberOf}
@@ -15,7 +16,7 @@ use Rattle.limits.specs.declared.Settings.{Settings}
 use Rattle.limits.specs.declared.Label.{Label}
 use Rattle.heading.specs.declared.Heading.{Heading}
 use Rattle.arcread.specs.Kinds.{settingsKind, labelKind, stationKind}
-use Rattle.arcread.specs.Arc.{headingOf, noLabel, noStation, readArc}
+use Rattle.arcread.specs.Arc.{headingOf, readArc}
 use Rattle.arcread.specs.Parts.{Slots, slotted, Span, settingsPart, labelsFrom, labelsPart, stationsFrom, stationsPart, recordsPart, headingPart, arcFrom, toldSlots, toldHeading}
 use Rattle.arcread.specs.declared.ReadAnswer.the-variants as Answers
 use Rattle.arcread.specs.declared.SectionAnswer.{SectionAnswer}

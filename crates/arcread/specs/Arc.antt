@@ -1,12 +1,12 @@
 -- Document 01, 'Arc file': "Four sections in this order, each after its u32 count"; "Files are read left to right".
 use Prim.Native.Nat.{ℕ, suc, _+_, _-_, _*_}
 use mathlib.Core.List.{List, [], _++_}
-use lib.IntN.{pos}
 use lib.ListN.{length, getD, take, drop, replicate}
+use Rattle.limits.specs.Limits.{noSettings, noLabel, noStation}
 use Rattle.whole.specs.Tests.{upTo, pick, both}
 use Rattle.whole.specs.Answer.{Judged, good, bad}
 use Rattle.refusal.specs.Number.{numberOf}
-use Rattle.section.specs.Section.{Run, andThen, sectionAt, closed}
+use Rattle.section.specs.Section.{andThen, sectionAt, closed}
 use Rattle.limits.specs.declared.Settings.{Settings}
 use Rattle.limits.specs.declared.Label.{Label}
 use Rattle.limits.specs.declared.Station.{Station}
@@ -15,16 +15,6 @@ use Rattle.arcread.specs.Kinds.{settingsKind, labelKind, stationKind, re
 use Rattle.arcread.specs.declared.ReadAnswer.{ReadAnswer}
 use Rattle.arcread.specs.declared.ReadAnswer.the-variants as Answers
 use Rattle.arcread.specs.declared.ArcRead.{ArcRead}
-
--- what stands in a slot past the counts
-abbrev pub noSettings : Settings
-noSettings = record { arc = 0; first = 0; days = 0; level = 0 }
-
-abbrev pub noLabel : Label
-noLabel = record { kind = 0; index = 0; weight = 0; estimate = pos 0 }
-
-abbrev pub noStation : Station
-noStation = record { number = 0; correction = pos 0 }
 
 -- a list with a filling after it, n elements in all
 abbrev pub padded : {A : Type 0} → ℕ → A → List A → List A

@@ -2,6 +2,7 @@
 use Prim.Native.Nat.{ℕ, _+_}
 use mathlib.Core.List.{List}
 use lib.ListN.{length}
+use Rattle.limits.specs.Limits.{noLabel, noStation}
 use Rattle.whole.specs.Answer.{Judged, good, bad}
 use Rattle.refusal.specs.Number.{numberOf}
 use Rattle.section.specs.Section.{Run, andThen, countAt, judgedAt, records, sectionAt, closed}
@@ -10,7 +11,7 @@ use Rattle.limits.specs.declared.Label.{Label}
 use Rattle.limits.specs.declared.Station.{Station}
 use Rattle.heading.specs.declared.Heading.{Heading}
 use Rattle.arcread.specs.Kinds.{settingsKind, labelKind, stationKind, recordKind}
-use Rattle.arcread.specs.Arc.{Arc, noLabel, noStation, padded, toldAnswer}
+use Rattle.arcread.specs.Arc.{Arc, padded, toldAnswer}
 use Rattle.arcread.specs.declared.SettingsAnswer.{SettingsAnswer}
 use Rattle.arcread.specs.declared.SettingsAnswer.the-variants as SettingsAnswers
 use Rattle.arcread.specs.declared.LabelAnswer.{LabelAnswer}

@@ -11,9 +11,9 @@ ghost use lib.ListN.{length, replicate};
 ghost use Rattle.refusal.specs.Number.{numberOf};
 ghost use Rattle.whole.specs.Answer.{bad};
 ghost use Rattle.section.specs.Section.{judgedAt};
-ghost use Rattle.limits.specs.Limits.{labelKey, stationKey};
+ghost use Rattle.limits.specs.Limits.{labelKey, stationKey, noLabel, noStation};
 ghost use Rattle.arcread.specs.Kinds.{settingsAt, settingsKind, labelAt, labelKind, stationAt, stationKind};
-ghost use Rattle.arcread.specs.Arc.{noLabel, noStation, blank, readArc, recordPart, shown, toldRead};
+ghost use Rattle.arcread.specs.Arc.{blank, readArc, recordPart, shown, toldRead};
 ghost use Rattle.arcread.specs.Parts.{
   settingsPart,
   labelsPart,

@@ -7,6 +7,7 @@ use native.Mathlib.Omega.{arith}
 use native.Mathlib.Nat.{mul-div-left, mul-mod-left}
 use lib.ListN.{length, getD, drop, length-drop, take-append-drop}
 use lib.Seq.{drop-drop}
+use Rattle.limits.specs.Limits.{noSettings}
 use Rattle.whole.specs.Answer.{good, given}
 use Rattle.whole.proofs.Cases.{yes, no, holds, is-upTo, is-same, not-less}
 use Rattle.words.specs.Words.{bytesOf}
@@ -19,7 +20,7 @@ use Rattle.limits.specs.declared.Label.{Label}
 use Rattle.limits.specs.declared.Station.{Station}
 use Rattle.heading.specs.declared.Heading.{Heading}
 use Rattle.arcread.specs.Kinds.{settingsBytes, labelBytes, stationBytes, settingsKind, labelKind, stationKind, recordKind, recordSize}
-use Rattle.arcread.specs.Arc.{Arc, noSettings, headingOf, readArc}
+use Rattle.arcread.specs.Arc.{Arc, headingOf, readArc}
 use Rattle.arcread.proofs.Accepted.{Parts, read-parts, labels-of, stations-of, single, Passed, heading-passed}
 use Rattle.arcwrite.specs.Write.{recordsIn, arcBytes, writeArc, leftIn}
 use Rattle.arcwrite.proofs.Records.{settings-forth, label-forth, station-forth}

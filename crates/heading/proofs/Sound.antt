@@ -5,7 +5,6 @@ use mathlib.Core.Path.{_≡_, refl, sym, _∙_}
 use mathlib.Core.List.{List}
 use mathlib.Core.Bool.{true}
 use native.Mathlib.Omega.{arith}
-use lib.IntN.{pos}
 use lib.ListN.{length, take, getD}
 use lib.Seq.{take-all}
 use Rattle.whole.specs.Tests.{less}
@@ -13,18 +12,10 @@ use Rattle.whole.specs.Answer.{given, refused}
 use Rattle.whole.specs.Lists.{all, ascend, rest}
 use Rattle.whole.proofs.Cases.{chosen, yes, no, is-same, not-same, by-cases, less-true, less-false, both-first, both-second, between-true, upTo-true}
 use Rattle.whole.proofs.Walks.{rest-end, rest-more}
-use Rattle.limits.specs.Limits.{settingsOk, labelOk, labelKey, stationOk, stationKey}
+use Rattle.limits.specs.Limits.{settingsOk, labelOk, labelKey, stationOk, stationKey, noStation}
 use Rattle.heading.specs.Judge.{labelsOf, stationsOf, countsOk, fieldsOk, ordersOk, judged, findFrom}
-use Rattle.limits.specs.declared.Label.{Label}
 use Rattle.limits.specs.declared.Station.{Station}
 use Rattle.heading.specs.declared.Heading.{Heading}
-
--- what the logic reads past the end of an array of labels, of stations
-abbrev pub no-label : Label
-no-label = record { kind = 0; index = 0; weight = 0; estimate = pos 0 }
-
-abbrev pub no-station : Station
-no-station = record { number = 0; correction = pos 0 }
 
 -- a count past the list's length is as the length
 pub take-least : {A : Type 0} (n m : ℕ) (l : List A) → length l ≡ m → take n l ≡ take (min n m) l
@@ -40,13 +31,13 @@ module _ (l : List Station) (n i number : ℕ) where
   find-end e = rw (rest-end l n i e)
 
   module _ (fits : n ≤ length l) (more : i < n) where
-    pub find-here : getD l i no-station .number ≡ number → given i ≡ findFrom number i (rest l n i)
+    pub find-here : getD l i noStation .number ≡ number → given i ≡ findFrom number i (rest l n i)
     unfolding findFrom stationKey
-    find-here e = rw (rest-more l n i no-station fits more) (yes _ _ _ (is-same _ _ e) refl)
+    find-here e = rw (rest-more l n i noStation fits more) (yes _ _ _ (is-same _ _ e) refl)
 
-    pub find-on : (getD l i no-station .number ≡ number → ⊥) → findFrom number i (rest l n i) ≡ findFrom number (i + 1) (rest l n (i + 1))
+    pub find-on : (getD l i noStation .number ≡ number → ⊥) → findFrom number i (rest l n i) ≡ findFrom number (i + 1) (rest l n (i + 1))
     unfolding findFrom stationKey
-    find-on e = rw (rest-more l n i no-station fits more) (sym (no _ _ _ (not-same _ _ e) refl))
+    find-on e = rw (rest-more l n i noStation fits more) (sym (no _ _ _ (not-same _ _ e) refl))
 
 -- ---- a heading whose counts are allowed has them within the arrays
 pub counts-fit : (h : Heading) → countsOk h ≡ true → (h .parameters ≤ 50) × (h .stations ≤ 16)

@@ -45,3 +45,13 @@ stationOk t = both (upTo (t .number) 999) (correctionOk (t .correction))
 -- "Strictly ascending by number"
 unfoldable pub stationKey : Station → ℕ
 stationKey t = t .number
+
+-- ---- what a slot that holds nothing has
+abbrev pub noSettings : Settings
+noSettings = record { arc = 0; first = 0; days = 0; level = 0 }
+
+abbrev pub noLabel : Label
+noLabel = record { kind = 0; index = 0; weight = 0; estimate = pos 0 }
+
+abbrev pub noStation : Station
+noStation = record { number = 0; correction = pos 0 }

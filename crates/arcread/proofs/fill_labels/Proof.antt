@@ -4,8 +4,8 @@ use borrow.Author.Needs.{needs}
 use native.Mathlib.Omega.{arith}
 use Prim.Native.Nat.{_+_, _-_, _*_, _≤_}
 use mathlib.Core.Path.{_≡_, refl, sym, ap, _∙_}
+use Rattle.limits.specs.Limits.{noLabel}
 use Rattle.section.specs.Section.{records}
-use Rattle.arcread.specs.Arc.{noLabel}
 use Rattle.arcread.specs.Kinds.{labelKind}
 use Rattle.arcread.specs.Parts.{labelsFrom, toldLabel}
 use Rattle.arcread.proofs.Fill.{filling, fill-start, fill-end, fill-good, fill-bad}

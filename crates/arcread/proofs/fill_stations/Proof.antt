@@ -4,8 +4,8 @@ use borrow.Author.Needs.{needs}
 use native.Mathlib.Omega.{arith}
 use Prim.Native.Nat.{_+_, _-_, _*_, _≤_}
 use mathlib.Core.Path.{_≡_, refl, sym, ap, _∙_}
+use Rattle.limits.specs.Limits.{noStation}
 use Rattle.section.specs.Section.{records}
-use Rattle.arcread.specs.Arc.{noStation}
 use Rattle.arcread.specs.Kinds.{stationKind}
 use Rattle.arcread.specs.Parts.{stationsFrom, toldStation}
 use Rattle.arcread.proofs.Fill.{filling, fill-start, fill-end, fill-good, fill-bad}

@@ -5,12 +5,12 @@ use borrow.Author.Needs.{needs}
 use Prim.Native.Nat.{_≤_, _+_, _*_, _-_}
 use mathlib.Core.Path.{_≡_, refl, sym, _∙_}
 use lib.ListN.{length, length-map}
+use Rattle.limits.specs.Limits.{noStation}
 use Rattle.whole.specs.Lists.{rest}
 use Rattle.words.specs.Words.{lay}
 use Rattle.words.proofs.Words.{length-lay}
 use Rattle.section.specs.Section.{encoded}
 use Rattle.heading.specs.Judge.{stationsOf}
-use Rattle.heading.proofs.Sound.{no-station}
 use Rattle.arcread.specs.Kinds.{stationBytes}
 use Rattle.arcwrite.proofs.Records.{length-station}
 use Rattle.arcwrite.proofs.Laws.{encoded-end, encoded-turn}
@@ -58,7 +58,7 @@ loop-again c =
       search needs,
       rw e (length-lay _ _ _ ∙ inv .2),
       search needs,
-      rw e (inv .4 ∙ encoded-turn _ _ length-station _ _ _ _ _ no-station (omega arith) (omega arith)),
+      rw e (inv .4 ∙ encoded-turn _ _ length-station _ _ _ _ _ noStation (omega arith) (omega arith)),
     )
 
 same-length : tie.Need-same-length Inv-loop μ-loop

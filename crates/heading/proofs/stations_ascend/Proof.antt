@@ -5,10 +5,9 @@ use mathlib.Core.Path.{_≡_, refl, sym, _∙_}
 use Prim.Native.Nat.{_≤_, _-_}
 use lib.ListN.{length, length-map}
 use borrow.Author.Needs.{needs}
-use Rattle.heading.proofs.Sound.{no-station}
 use Rattle.whole.specs.Lists.{ascend, rest}
 use Rattle.whole.proofs.Walks.{ascend-end, ascend-pass, ascend-fail}
-use Rattle.limits.specs.Limits.{stationKey}
+use Rattle.limits.specs.Limits.{stationKey, noStation}
 use Rattle.heading.specs.Judge.{stationsOf}
 use Rattle.heading.proofs.stations_ascend.Statement.{statement}
 use Rattle.heading.proofs.stations_ascend.Tie as tie
@@ -33,7 +32,7 @@ station-key-requires : tie.Need-station-key-requires Inv-loop μ-loop
 station-key-requires c κs = search needs
 
 returns : tie.Need-returns Inv-loop μ-loop
-returns c = sym (c .before .before .before .before .loop .inv .2 ∙ ascend-fail _ _ _ _ _ no-station (omega arith) (omega arith) (omega arith))
+returns c = sym (c .before .before .before .before .loop .inv .2 ∙ ascend-fail _ _ _ _ _ noStation (omega arith) (omega arith) (omega arith))
 
 add-floor : tie.Need-add-floor Inv-loop μ-loop
 add-floor c = search needs
@@ -45,7 +44,7 @@ loop-less : tie.Need-loop-less Inv-loop μ-loop
 loop-less c = search needs
 
 loop-again : tie.Need-loop-again Inv-loop μ-loop
-loop-again c = (search needs, search needs, c .before .before .before .before .loop .inv .2 ∙ rw (c .before .station-key .ensures .0) (ascend-pass _ _ _ _ _ no-station (omega arith) (omega arith) (omega arith)))
+loop-again c = (search needs, search needs, c .before .before .before .before .loop .inv .2 ∙ rw (c .before .station-key .ensures .0) (ascend-pass _ _ _ _ _ noStation (omega arith) (omega arith) (omega arith)))
 
 returns-2 : tie.Need-returns-2 Inv-loop μ-loop
 returns-2 c = sym (c .before .loop .inv .2 ∙ ascend-end _ _ _ _ _ (omega arith))

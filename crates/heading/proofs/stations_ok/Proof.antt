@@ -5,10 +5,9 @@ use mathlib.Core.Path.{_≡_, refl, sym, _∙_}
 use Prim.Native.Nat.{_≤_, _-_}
 use lib.ListN.{length, length-map}
 use borrow.Author.Needs.{needs}
-use Rattle.heading.proofs.Sound.{no-station}
 use Rattle.whole.specs.Lists.{all, rest}
 use Rattle.whole.proofs.Walks.{all-end, all-pass, all-fail}
-use Rattle.limits.specs.Limits.{stationOk}
+use Rattle.limits.specs.Limits.{stationOk, noStation}
 use Rattle.heading.specs.Judge.{stationsOf}
 use Rattle.heading.proofs.stations_ok.Statement.{statement}
 use Rattle.heading.proofs.stations_ok.Tie as tie
@@ -39,10 +38,10 @@ loop-less : tie.Need-loop-less Inv-loop μ-loop
 loop-less c = search needs
 
 loop-again : tie.Need-loop-again Inv-loop μ-loop
-loop-again c = (search needs, search needs, c .before .before .before .before .loop .inv .2 ∙ all-pass _ _ _ _ no-station (omega arith) (omega arith) (cc))
+loop-again c = (search needs, search needs, c .before .before .before .before .loop .inv .2 ∙ all-pass _ _ _ _ noStation (omega arith) (omega arith) (cc))
 
 returns : tie.Need-returns Inv-loop μ-loop
-returns c = sym (c .before .before .before .before .loop .inv .2 ∙ all-fail _ _ _ _ no-station (omega arith) (omega arith) (cc))
+returns c = sym (c .before .before .before .before .loop .inv .2 ∙ all-fail _ _ _ _ noStation (omega arith) (omega arith) (cc))
 
 returns-2 : tie.Need-returns-2 Inv-loop μ-loop
 returns-2 c = sym (c .before .loop .inv .2 ∙ all-end _ _ _ _ (omega arith))
