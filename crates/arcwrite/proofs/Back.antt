@@ -101,10 +101,10 @@ before-records x ls ts = before-stations x ls ++ (bytesOf 4 (length ts) ++ encod
 
 module _ (x : Settings) (ls : List Label) (ts : List Station) where
   long-labels : length (encoded labelBytes ls) ≡ length ls * 16
-  long-labels = length-encoded labelKind labelBytes Labelled length-label label-back ls
+  long-labels = length-encoded labelBytes 16 length-label ls
 
   long-stations : length (encoded stationBytes ts) ≡ length ts * 8
-  long-stations = length-encoded stationKind stationBytes Stationed length-station station-back ts
+  long-stations = length-encoded stationBytes 8 length-station ts
 
   length-first : length (before-labels x) ≡ 16
   length-first = simp (length-append, length-bytesOf, length-settings)

@@ -2,10 +2,10 @@
 -- Assumes nothing.
 use Prim.Native.Nat.{ℕ, suc, _+_, _*_, _/_, _≤_, _<_}
 use mathlib.Core.Path.{_≡_, sym, _∙_, ap}
-use mathlib.Core.List.{List, [], _∷_, _++_, append-assoc}
+use mathlib.Core.List.{List, _++_, append-assoc}
 use native.Mathlib.Omega.{arith}
 use native.Mathlib.Numerals.{add-one}
-use native.Mathlib.Nat.{mul-suc, mul-zero, div-lt-iff-lt-mul}
+use native.Mathlib.Nat.{div-lt-iff-lt-mul}
 use lib.ListN.{length, drop, getD, set, length-append, drop-of-length-le}
 use lib.Seq.{drop-cons, length-take-le}
 use Rattle.whole.specs.Lists.{rest}
@@ -13,6 +13,7 @@ use Rattle.whole.proofs.Walks.{rest-end, rest-more}
 use Rattle.words.specs.Words.{bytesOf, lay}
 use Rattle.words.proofs.Words.{lay-append, length-bytesOf}
 use Rattle.section.specs.Section.{encoded}
+use Rattle.section.proofs.Trips.{length-encoded}
 use Rattle.heading.specs.Judge.{labelsOf, stationsOf}
 use Rattle.heading.specs.declared.Heading.{Heading}
 use Rattle.arcread.specs.Kinds.{settingsBytes, labelBytes, stationBytes, recordSize}
@@ -29,11 +30,6 @@ run-short p n few h =
 
 -- ---- records of k bytes each, one after the other
 module _ {A : Type 0} (bytes : A → List ℕ) (k : ℕ) (long : (a : A) → length (bytes a) ≡ k) where
-  pub encoded-long : (l : List A) → length (encoded bytes l) ≡ k * length l
-  unfolding encoded
-  encoded-long [] = rw mul-zero
-  encoded-long (a ∷ l) = simp (length-append, long, encoded-long l, mul-suc) (omega arith)
-
   -- a loop that lays the first n of a list: what is left at each turn
   module _ (out : List ℕ) (at : ℕ) (l : List A) (n i : ℕ) where
     pub encoded-end : n ≤ i → lay out at (encoded bytes (rest l n i)) ≡ out
@@ -62,11 +58,11 @@ module _ (out run : List ℕ) (start i : ℕ) where
 module _ (h : Heading) (run : List ℕ) (few : h .parameters ≤ length (h .labels)) (seats : h .stations ≤ length (h .listed)) where
   labels-all : length (encoded labelBytes (labelsOf h)) ≡ 16 * h .parameters
   unfolding labelsOf
-  labels-all = encoded-long labelBytes 16 length-label (labelsOf h) ∙ ap (λ n. 16 * n) (length-take-le _ _ few)
+  labels-all = length-encoded labelBytes 16 length-label (labelsOf h) ∙ ap (λ n. n * 16) (length-take-le _ _ few) ∙ omega arith
 
   stations-all : length (encoded stationBytes (stationsOf h)) ≡ 8 * h .stations
   unfolding stationsOf
-  stations-all = encoded-long stationBytes 8 length-station (stationsOf h) ∙ ap (λ n. 8 * n) (length-take-le _ _ seats)
+  stations-all = length-encoded stationBytes 8 length-station (stationsOf h) ∙ ap (λ n. n * 8) (length-take-le _ _ seats) ∙ omega arith
 
   pub arc-long : length (arcBytes h run) ≡ neededFor (h .parameters) (h .stations) (length run)
   unfolding arcBytes

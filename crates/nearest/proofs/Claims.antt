@@ -14,6 +14,7 @@ use borrow.Author.Tests.{eqb-true, ne-eqb}
 use Rattle.whole.specs.Answer.{Answered, given, refused}
 use lib.Signed.{leZ}
 use lib.Ieee.Bits.{is-true}
+use Rattle.whole.proofs.Cases.{refused-not}
 use Rattle.nearest.specs.Doubles.{mant, negative, fieldOf, fractionOf, wholeBits, patternUnit, size, minus, signed, times1074, nearestUnit, Nearest, within, unitWithin, Exactly}
 use Rattle.nearest.proofs.Values.{bits-are, unit-of-fields, unit-of-special}
 use lib.Ieee.Scale.{finite}
@@ -136,13 +137,10 @@ picked : (b : Bool) (n q : ℤ) → cond b (given n) (refused 16) ≡ given q �
 picked true n q h = (tt, cc)
 picked false n q h = absurd (let z : _≡_ {A = ℕ} 0 1 = cc in omega arith)
 
-nothing : (q : ℤ) → (refused 15) ≡ given q → ⊥
-nothing q h = let z : _≡_ {A = ℕ} 0 1 = cc in omega arith
-
 pub answered : (k : ℕ) (lo hi : ℤ) (x : Float) (q : ℤ) → unitWithin k lo hi x ≡ given q → Nearest k (times1074 x) q × T (leZ lo q && leZ q hi)
 unfolding unitWithin
-answered k lo hi nan q h = absurd (nothing q h)
-answered k lo hi (inf s) q h = absurd (nothing q h)
+answered k lo hi nan q h = absurd (refused-not refl h)
+answered k lo hi (inf s) q h = absurd (refused-not refl h)
 answered k lo hi (fin s m e) q h =
     let n = nearestUnit k (fin s m e) in
     let r = picked (leZ lo n && leZ n hi) n q h in
@@ -160,7 +158,7 @@ not-special k lo hi p q h =
     go (eqb (fieldOf p) 2047) (within lo hi (signed (negative p) (closest (mant (fieldOf p) (fractionOf p) * 2 ^ k) (2 ^ 1074)))) h
   where
     go : (b : Bool) (a : Answered ℤ) → cond b (refused 15) a ≡ given q → b ≡ false
-    go true a h = absurd (nothing q h)
+    go true a h = absurd (refused-not refl h)
     go false a h = refl
 
 pub answered-bits : (k : ℕ) (lo hi : ℤ) (p : ℕ) (q : ℤ) → patternUnit k lo hi p ≡ given q → Nearest k (wholeBits p) q × T (leZ lo q && leZ q hi)

@@ -15,6 +15,12 @@ use Rattle.words.proofs.Words.{word-after, word-bytesOf, length-bytesOf}
 use Rattle.section.specs.Section.{Kind, Run, countAt, judgedAt, records, sectionAt, encoded}
 use Rattle.section.proofs.Walk.{good-same, then-good, then-read, judged-read}
 
+-- ---- how long records of k bytes each are
+pub length-encoded : {A : Type 0} (bytes : A → List ℕ) (k : ℕ) → ((a : A) → length (bytes a) ≡ k) → (l : List A) → length (encoded bytes l) ≡ length l * k
+unfolding encoded
+length-encoded bytes k long [] = sym (zero-mul k)
+length-encoded bytes k long (a ∷ l) = length-append (bytes a) (encoded bytes l) ∙ omega (arith, long a, length-encoded bytes k long l, suc-mul (length l) k)
+
 -- ---- writing, then reading
 -- a count that was written is read back
 pub count-back : (p t : List ℕ) (n low high : ℕ) → n < 256 ^ 4 → low ≤ n → n ≤ high → countAt (p ++ (bytesOf 4 n ++ t)) (length p) low high ≡ good n
@@ -44,11 +50,6 @@ module _ {A : Type 0} (K : Kind A) (bytes : A → List ℕ) (Held : A → Type 0
           let b = back p a r h in
           let room : K .size ≤ length (p ++ (bytes a ++ r)) - length p = simp (length-append, long) (omega arith) in
           rw (b .0) (sym (no _ _ _ (not-less _ _ room) (yes _ _ _ (b .1) (yes _ _ _ (is-upTo _ _ up) refl))))
-
-      pub length-encoded : (l : List A) → length (encoded bytes l) ≡ length l * K .size
-      unfolding encoded
-      length-encoded [] = sym (zero-mul (K .size))
-      length-encoded (a ∷ l) = length-append (bytes a) (encoded bytes l) ∙ omega (arith, long a, length-encoded l, suc-mul (length l) (K .size))
 
       pub records-back : (l : List A) (p r : List ℕ) (floor : ℕ) → Chain floor l
           → records K (p ++ (encoded bytes l ++ r)) (length l) (length p) floor ≡ good (record { items = l; next = length p + length l * K .size })

@@ -11,7 +11,7 @@ use lib.Signed.{leZ}
 use lib.Ieee.{Float, nan, inf, fin}
 use lib.Ieee.Scale.{finite}
 use Rattle.whole.specs.Answer.{Answered, given, refused}
-use Rattle.whole.proofs.Cases.{apart, yes, no, by-cases}
+use Rattle.whole.proofs.Cases.{refused-not, apart, yes, no, by-cases}
 use Rattle.nearest.specs.Doubles.{fitsIn, nearestUnit, unitWithin}
 use Rattle.units.specs.declared.Row.{Row}
 use Rattle.units.specs.Parts.{Narrow}
@@ -53,21 +53,17 @@ circle-small r q {m} h =
     (λ e. subst (λ z. natAbs z ≤ m) (no (r .turns) _ _ e refl) h)
 
 -- ---- the three answers
--- a refusal is no value
-pub never : {A : Type 0} (n : ℕ) (v : A) → refused n ≡ given v → ⊥
-never n v e = let z : _≡_ {A = ℕ} 0 1 = cc in omega arith
-
 -- which of the three a finite number gives
 inner : (b : Bool) (n q : ℤ) → cond b (given n) (refused 16) ≡ given q → (b ≡ true) × (n ≡ q)
 inner true n q e = (refl, cc)
-inner false n q e = absurd (never 16 q e)
+inner false n q e = absurd (refused-not refl e)
 
 outer : (b : Bool) (n : ℤ) → cond b (given n) (refused 16) ≡ refused 16 → b ≡ false
-outer true n e = absurd (never 16 n (sym e))
+outer true n e = absurd (refused-not refl (sym e))
 outer false n e = refl
 
 neither : (b : Bool) (n : ℤ) → cond b (given n) (refused 16) ≡ refused 15 → ⊥
-neither true n e = never 15 n (sym e)
+neither true n e = refused-not refl (sym e)
 neither false n e = let z : _≡_ {A = ℕ} 16 15 = cc in omega arith
 
 -- the answer of a row, before T becomes 0
@@ -101,8 +97,8 @@ module _ (r : Row) where
 
   pub inside : (x : Float) (q : ℤ) → inRow r x ≡ given q → Inside r x q
   unfolding unitWithin fitsRow
-  inside nan q e = absurd (never 15 q e)
-  inside (inf s) q e = absurd (never 15 q e)
+  inside nan q e = absurd (refused-not refl e)
+  inside (inf s) q e = absurd (refused-not refl e)
   inside (fin s m d) q e = let h = inner _ _ q e in record { number = refl; fits = h .0; is = h .1 }
 
   -- a unit that a row answers is within 2 ^ 40

@@ -12,7 +12,7 @@ use lib.Ieee.Scale.{finite}
 use lib.Ieee.Bits.{is-true}
 use Rattle.whole.specs.Answer.{Answered, given, refused}
 use Rattle.whole.specs.Tests.{pick, same}
-use Rattle.whole.proofs.Cases.{chosen, apart, yes, by-cases, not-same, same-false}
+use Rattle.whole.proofs.Cases.{refused-not, chosen, apart, yes, by-cases, not-same, same-false}
 use Rattle.nearest.specs.Doubles.{size, nearestUnit, fitsIn, unitWithin, quotient, times1074, wholeBits, Nearest, Exactly}
 use Rattle.nearest.proofs.Claims.{answered, answers, answered-bits, unit-bits, round-trip}
 use Rattle.nearest.proofs.Back.{quotient-exact}
@@ -20,7 +20,7 @@ use Rattle.units.specs.declared.Row.{Row}
 use Rattle.units.specs.Types.{turn, circle, isType, rowOf}
 use Rattle.units.specs.Units.{isTurn, onCircle, turned, unitOf, topOf, doubleOf}
 use Rattle.units.proofs.Rows.{by-rows, InTable, in-table}
-use Rattle.units.proofs.Limits.{never, and-second, within-limits, top-small}
+use Rattle.units.proofs.Limits.{and-second, within-limits, top-small}
 
 -- ---- what an answer was made of
 -- a unit before T becomes 0
@@ -32,7 +32,7 @@ record Before (r : Row) (a : Answered ℤ) (q : ℤ) : Type 0 where
 before : (r : Row) (a : Answered ℤ) (q : ℤ) → turned r a ≡ given q → Before r a q
 unfolding turned
 before r (given n) q e = record { whole = n; answer = refl; circle = cc }
-before r (refused n) q e = absurd (never n q e)
+before r (refused n) q e = absurd (refused-not refl e)
 
 answer : (t : ℕ) (x : Float) (q : ℤ) → unitOf t x ≡ given q → Before (rowOf t) (unitWithin (rowOf t .k) (rowOf t .low) (rowOf t .high) x) q
 unfolding unitOf

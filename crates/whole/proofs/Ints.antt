@@ -3,14 +3,14 @@
 use mathlib.Core.Path.{_≡_, refl, sym, ap, _∙_, subst}
 use mathlib.Core.Bool.{Bool, true, false, not, cond}
 use Prim.Native.Nat.{ℕ, zero, suc, _+_, _*_, _-_, _^_, _<_, _≤_, zero-le}
-use native.Mathlib.Nat.{mul-zero, mul-assoc, le-refl, mul-le-mul, lt-of-le-of-lt, le-suc, zero-add, not-suc-le-zero}
+use native.Mathlib.Nat.{mul-zero, mul-assoc, le-refl, mul-le-mul, lt-of-le-of-lt, le-suc, not-suc-le-zero}
 use native.Mathlib.Omega.{arith}
 use lib.Dec.{T, ltb, ltb→lt, le→leb}
 use lib.IntN.{ℤ, pos, negsuc, negℤ, natAbs, subℕ, predℤ, _+ℤ_, _-ℤ_, _*ℤ_, negℤ-negℤ, sucℤ-+ℤ, predℤ-+ℤ, sucℤ-*ℤ, predℤ-*ℤ, +ℤ-assoc, +ℤ-comm, +ℤ-idl, +ℤ-invl, zero-*ℤ, *ℤ-comm}
 use lib.Signed.{mag, ltZ, nonNeg, _≤ℤ_, leZ-yes}
 use borrow.Author.Tests.{ltb-true}
-use mir.Syntax.{Width, w64}
-use mir.Val.{SFits, hbits, ofZ}
+use mir.Syntax.{Width}
+use mir.Val.{SFits, hbits}
 
 -- ---- the product
 pub *-neg : (m k : ℤ) → m *ℤ negℤ k ≡ negℤ (m *ℤ k)
@@ -131,11 +131,6 @@ pub square-nonneg : (z : ℤ) → pos 0 ≤ℤ (z *ℤ z)
 square-nonneg (pos n) = leZ-yes (le→leb 0 (n * n) zero-le)
 square-nonneg (negsuc n) = leZ-yes (le→leb 0 (suc n * suc n) zero-le)
 
--- ---- the machine's numbers: -1 - m, of an m below half the width's power, has the bits of negsuc m
-pub minus-one : (m : ℕ) → negsuc 0 -ℤ pos m ≡ negsuc m
-minus-one zero = refl
-minus-one (suc k) = rw zero-add
-
 one-less : (n : ℕ) → negsuc 0 -ℤ negsuc n ≡ pos n
 one-less n = by-test (ltb (suc n) 1) (negsuc (1 - suc (suc n))) (pos (suc n - 1)) (λ z. z ≡ pos n) (λ t. absurd (never n (ltb→lt (suc n) 1 t))) (λ t. ap pos (less n))
   where
@@ -149,14 +144,6 @@ one-less n = by-test (ltb (suc n) 1) (negsuc (1 - suc (suc n))) (pos (suc n - 1)
 pub flip : (z : ℤ) → ltZ z (pos 0) ≡ true → negsuc 0 -ℤ z ≡ pos (mag z)
 flip (pos n) t = absurd (not-suc-le-zero (ltb-true n 0 t))
 flip (negsuc n) t = one-less n
-
-pub bits-below : (z : ℤ) → ltZ z (pos 0) ≡ true → 2 ^ 64 - 1 - mag z ≡ ofZ w64 z
-bits-below (pos n) t = absurd (not-suc-le-zero (ltb-true n 0 t))
-bits-below (negsuc n) t = omega arith
-
-pub bits-above : (z : ℤ) → ltZ z (pos 0) ≡ false → natAbs z ≡ ofZ w64 z
-bits-above (pos n) t = refl
-bits-above (negsuc n) t = absurd (subst T t tt)
 
 pub above : (z : ℤ) → ltZ z (pos 0) ≡ false → T (nonNeg z)
 above (pos n) t = tt

@@ -1,4 +1,4 @@
--- A rule over a table or over all numbers below a bound, by one test that antt computes: the test's passing is the rule at each place.
+-- A rule over a table or over all numbers below a bound, by one test that the checker computes: the test's passing is the rule at each place.
 -- Assumes nothing.
 use mathlib.Core.Path.{_≡_, _∙_, subst, sym}
 use mathlib.Core.Bool.{Bool, true}

@@ -1,4 +1,4 @@
--- `cells::table::entry` meets its contract: the test of the table's agreement with the index rules passes, which antt computes.
+-- `cells::table::entry` meets its contract: the test of the table's agreement with the index rules passes, which the checker computes.
 -- Assumes nothing.
 use borrow.Author.Needs.{needs}
 use borrow.Table.Row.{get}
