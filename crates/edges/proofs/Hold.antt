@@ -7,8 +7,14 @@ use Rattle.days.specs.Calendar.{leap, monthLength, daysOfMonths, daysOfYears, i
 use Rattle.nearest.specs.Doubles.{size, nearestUnit, unitWithin, quotient}
 use Rattle.units.specs.Types.{isType, rowOf}
 use Rattle.units.specs.Units.{isTurn, onCircle, turned, unitOf, brought, apartBy, fitsRow, residualBy, residualOf}
+use Rattle.words.specs.Words.{word, bytesOf}
+use Rattle.refusal.specs.First.{when, unless, numberIn, first, valueOr}
+use Rattle.heading.specs.Judge.{findFrom}
+use Rattle.rules.specs.Rules.{sigmaOk, weightOf, clockOk, timeOf, inWindow, passesEdit}
+use Rattle.records.specs.Record.{recordIn}
+use Rattle.account.specs.Taking.{stationIn, placeOf, momentOf, stamp, columnOf, residualIn, residual, lengthTests, recordTests, stationTests, judgedBy}
 use Rattle.edges.specs.Edges.{edges, Each}
 
 pub hold : Each edges
-unfolding less upTo same pick both either between leap monthLength daysOfMonths daysOfYears isDate dayNumber dayOfDate ofBits round size nearestUnit unitWithin quotient isType rowOf isTurn onCircle turned unitOf brought apartBy fitsRow residualBy residualOf
-hold = (refl, (refl, (refl, (refl, (refl, (refl, (refl, (refl, (refl, (refl, tt))))))))))
+unfolding less upTo same pick both either between leap monthLength daysOfMonths daysOfYears isDate dayNumber dayOfDate ofBits round size nearestUnit unitWithin quotient isType rowOf isTurn onCircle turned unitOf brought apartBy fitsRow residualBy residualOf word bytesOf when unless numberIn first valueOr findFrom sigmaOk weightOf clockOk timeOf inWindow passesEdit recordIn stationIn placeOf momentOf stamp columnOf residualIn residual lengthTests recordTests stationTests judgedBy
+hold = (refl, (refl, (refl, (refl, (refl, (refl, (refl, (refl, (refl, (refl, (refl, (refl, (refl, (refl, (refl, (refl, (refl, (refl, (refl, tt)))))))))))))))))))

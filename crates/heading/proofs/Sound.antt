@@ -13,7 +13,7 @@ use Rattle.whole.specs.Lists.{all, ascend, rest}
 use Rattle.whole.proofs.Cases.{chosen, yes, no, is-same, not-same, by-cases, less-true, less-false, both-first, both-second, between-true, upTo-true}
 use Rattle.whole.proofs.Walks.{rest-end, rest-more}
 use Rattle.limits.specs.Limits.{settingsOk, labelOk, labelKey, stationOk, stationKey, noStation}
-use Rattle.heading.specs.Judge.{labelsOf, stationsOf, countsOk, fieldsOk, ordersOk, judged, findFrom}
+use Rattle.heading.specs.Judge.{labelsOf, stationsOf, countsOk, fieldsOk, ordersOk, judged, findFrom, numbersOf}
 use Rattle.limits.specs.declared.Station.{Station}
 use Rattle.heading.specs.declared.Heading.{Heading}
 
@@ -26,17 +26,17 @@ take-least n m l e =
 
 -- ---- the search for a station
 module _ (l : List Station) (n i number : ℕ) where
-  pub find-end : n ≤ i → refused 10 ≡ findFrom number i (rest l n i)
-  unfolding findFrom
+  pub find-end : n ≤ i → refused 10 ≡ findFrom number i (numbersOf (rest l n i))
+  unfolding findFrom numbersOf
   find-end e = rw (rest-end l n i e)
 
   module _ (fits : n ≤ length l) (more : i < n) where
-    pub find-here : getD l i noStation .number ≡ number → given i ≡ findFrom number i (rest l n i)
-    unfolding findFrom stationKey
+    pub find-here : getD l i noStation .number ≡ number → given i ≡ findFrom number i (numbersOf (rest l n i))
+    unfolding findFrom numbersOf stationKey
     find-here e = rw (rest-more l n i noStation fits more) (yes _ _ _ (is-same _ _ e) refl)
 
-    pub find-on : (getD l i noStation .number ≡ number → ⊥) → findFrom number i (rest l n i) ≡ findFrom number (i + 1) (rest l n (i + 1))
-    unfolding findFrom stationKey
+    pub find-on : (getD l i noStation .number ≡ number → ⊥) → findFrom number i (numbersOf (rest l n i)) ≡ findFrom number (i + 1) (numbersOf (rest l n (i + 1)))
+    unfolding findFrom numbersOf stationKey
     find-on e = rw (rest-more l n i noStation fits more) (sym (no _ _ _ (not-same _ _ e) refl))
 
 -- ---- a heading whose counts are allowed has them within the arrays

@@ -1,7 +1,7 @@
 -- Document 01: a heading that is handed in, of any values, is refused by 2, then 4, then 5, over the whole heading, or is sound. Slots past
 -- the counts are not looked at.
 use Prim.Native.Nat.{ℕ, _+_}
-use mathlib.Core.List.{List, [], _∷_}
+use mathlib.Core.List.{List, [], _∷_, map}
 use mathlib.Core.Bool.{Bool}
 use lib.ListN.{take}
 use Rattle.whole.specs.Tests.{upTo, same, pick, both, between}
@@ -37,14 +37,18 @@ ordersOk h = both (ascend labelKey 0 (labelsOf h)) (ascend stationKey 0 (station
 unfoldable pub judged : Heading → Answered (Unit {0})
 judged h = pick (countsOk h) (pick (fieldsOk h) (pick (ordersOk h) (given tt) (refused 5)) (refused 4)) (refused 2)
 
--- where a number stands among stations counted from i; 10 where it is not listed
-unfoldable pub findFrom : ℕ → ℕ → List Station → Answered ℕ
+-- where a number stands among stations' numbers counted from i; 10 where it is not listed
+unfoldable pub findFrom : ℕ → ℕ → List ℕ → Answered ℕ
 findFrom number i [] = refused 10
-findFrom number i (t ∷ l) = pick (same (stationKey t) number) (given i) (findFrom number (i + 1) l)
+findFrom number i (x ∷ l) = pick (same x number) (given i) (findFrom number (i + 1) l)
+
+-- the numbers of stations, in their order
+unfoldable pub numbersOf : List Station → List ℕ
+numbersOf ts = map stationKey ts
 
 -- among the stations of a heading: a count past the capacity is as the capacity
 unfoldable pub rowOf : Heading → ℕ → Answered ℕ
-rowOf h number = findFrom number 0 (stationsOf h)
+rowOf h number = findFrom number 0 (numbersOf (stationsOf h))
 
 -- ---- what the answers say
 abbrev pub toldVerdict : Verdict → Answered (Unit {0})

@@ -1,7 +1,8 @@
--- No two refusals share a number: so a promise about the number fixes the case.
+-- No two refusals share a number, so that a promise about the number fixes the case; and none has the number 0, which stands for 'nothing wrong'.
 -- Assumes nothing.
 use mathlib.Core.Path.{_≡_, refl, sym, ap, _∙_}
-use Prim.Native.Nat.{ℕ}
+use Prim.Native.Nat.{ℕ, _≤_}
+use native.Mathlib.Omega.{arith}
 use lib.Dec.{eqb}
 use Rattle.whole.specs.Tests.{pick}
 use Rattle.refusal.specs.Number.{numberOf}
@@ -59,3 +60,36 @@ back Unlike = refl
 
 pub apart : (r s : Refusal) → numberOf r ≡ numberOf s → r ≡ s
 apart r s e = sym (back r) ∙ ap caseOf e ∙ back s
+
+-- a number is from 1 to 24
+pub spanned : (r : Refusal) → (1 ≤ numberOf r) × (numberOf r ≤ 24)
+spanned Short = (omega arith, omega arith)
+spanned Count = (omega arith, omega arith)
+spanned Surplus = (omega arith, omega arith)
+spanned Limits = (omega arith, omega arith)
+spanned Order = (omega arith, omega arith)
+spanned Unsound = (omega arith, omega arith)
+spanned NoStation = (omega arith, omega arith)
+spanned NoType = (omega arith, omega arith)
+spanned Sigma = (omega arith, omega arith)
+spanned Clock = (omega arith, omega arith)
+spanned Window = (omega arith, omega arith)
+spanned NotFinite = (omega arith, omega arith)
+spanned UnitLimits = (omega arith, omega arith)
+spanned NotLater = (omega arith, omega arith)
+spanned Edit = (omega arith, omega arith)
+spanned Full = (omega arith, omega arith)
+spanned Room = (omega arith, omega arith)
+spanned SharedArc = (omega arith, omega arith)
+spanned ManyArcs = (omega arith, omega arith)
+spanned ManyParameters = (omega arith, omega arith)
+spanned Unlike = (omega arith, omega arith)
+
+pub some : (r : Refusal) → 1 ≤ numberOf r
+some r = spanned r .0
+
+pub few : (r : Refusal) → numberOf r ≤ 24
+few r = spanned r .1
+
+pub not-none : (r : Refusal) → numberOf r ≡ 0 → ⊥
+not-none r e = omega (arith, some r)

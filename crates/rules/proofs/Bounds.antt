@@ -1,14 +1,16 @@
 -- What the rules leave possible: the weight's span, and the bounds of a residual that passes the edit and of the terms it makes.
 -- Assumes nothing.
 use Prim.Native.Nat.{ℕ, _*_, _≤_, _^_}
-use mathlib.Core.Path.{_≡_, sym, ap, _∙_}
+use mathlib.Core.Path.{_≡_, sym, ap, _∙_, subst}
 use mathlib.Core.Bool.{true}
 use native.Mathlib.Nat.{mul-one, div-mul-le-self, mul-le-mul, mul-assoc, mul-comm, le-trans, le-of-eq, mul-le-mul-left, mul-le-mul-right, le-div-iff-mul-le, mul-pos}
 use native.Mathlib.Omega.{arith}
-use lib.IntN.{ℤ, pos, natAbs, _*ℤ_}
+use lib.Dec.{T}
+use lib.IntN.{ℤ, pos, negsuc, natAbs, _*ℤ_}
+use lib.Signed.{nonNeg}
 use Rattle.whole.proofs.Cases.{upTo-true}
 use Rattle.whole.proofs.Ints.{natAbs-*}
-use Rattle.rules.specs.Rules.{weightOf, passesEdit}
+use Rattle.rules.specs.Rules.{weightOf, inWindow, passesEdit}
 
 -- the weight is from 1 to 65,536
 pub weight-low : (s : ℕ) → 1 ≤ s → s ≤ 256 → 1 ≤ weightOf s
@@ -61,3 +63,9 @@ square-bound s m h =
   where
     squares : (s : ℕ) → 2560 * s * (2560 * s) ≡ 6553600 * (s * s)
     squares s = mul-assoc 2560 s (2560 * s) ∙ ap (λ n. 2560 * n) (sym (mul-assoc s 2560 s) ∙ ap (λ n. n * s) (mul-comm s 2560) ∙ mul-assoc 2560 s s) ∙ sym (mul-assoc 2560 2560 (s * s))
+
+-- a time in the window is not below 0
+pub window-above : (first days : ℕ) (t : ℤ) → inWindow first days t ≡ true → T (nonNeg t)
+unfolding inWindow
+window-above first days (pos n) e = tt
+window-above first days (negsuc n) e = absurd (subst T (sym e) tt)

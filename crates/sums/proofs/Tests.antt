@@ -1,15 +1,16 @@
 -- The machine's tests of signed numbers.
 -- Assumes nothing.
-use mathlib.Core.Path.{_≡_, refl, sym, _∙_, subst}
+use mathlib.Core.Path.{_≡_, refl, sym, ap, _∙_, subst}
 use mathlib.Core.Bool.{Bool, true, false}
 use Prim.Native.Nat.{ℕ, zero, suc, _-_, _^_, _<_}
 use native.Mathlib.Omega.{arith}
 use borrow.Author.Tests.{eq-eqb, ne-eqb}
 use lib.Dec.{eqb}
-use lib.IntN.{ℤ, pos, negsuc, negℤ}
+use lib.IntN.{ℤ, pos, negsuc, negℤ, _-ℤ_, +ℤ-idl}
 use lib.Signed.{_≤ℤ_, ltZ}
 use mir.Syntax.{w64}
-use mir.Val.{SFits, ofZ}
+use mir.Val.{SFits, toZ, ofZ}
+use mir.ValLaws.{toZ-ofZ}
 use Rattle.sums.specs.Sound.{isZero}
 
 -- a number is 0 where its bits are
@@ -31,6 +32,12 @@ pub neg-fits : (b : ℤ) → pos 0 ≤ℤ b → SFits w64 b → SFits w64 (neg�
 neg-fits (pos zero) p f = f
 neg-fits (pos (suc n)) p f = record { sfits = omega (arith, f .sfits) }
 neg-fits (negsuc n) p f = absurd (p .le)
+
+pub lower : (b : ℤ) → SFits w64 b → pos 0 -ℤ toZ w64 (ofZ w64 b) ≡ negℤ b
+lower b f = ap (λ z. pos 0 -ℤ z) (toZ-ofZ w64 b f) ∙ +ℤ-idl (negℤ b)
+
+pub lower-back : (b : ℤ) → pos 0 ≤ℤ b → SFits w64 b → toZ w64 (ofZ w64 (pos 0 -ℤ toZ w64 (ofZ w64 b))) ≡ negℤ b
+lower-back b p f = ap (λ z. toZ w64 (ofZ w64 z)) (lower b f) ∙ toZ-ofZ w64 (negℤ b) (neg-fits b p f)
 
 -- a test of two numbers, from the machine's test of what it reads back
 pub test-of : (x y a b : ℤ) (t : Bool) → x ≡ a → y ≡ b → ltZ x y ≡ t → ltZ a b ≡ t

@@ -29,6 +29,13 @@ breaks b s i j =
     (cond (isZero (entry s i j)) false
     (cond (isZero (entry s i i)) true (isZero (entry s j j))))))
 
+-- a right side is too large, or is not 0 where the diagonal of its parameter is 0
+unfoldable pub breaksSide : ℤ → List ℤ → List ℤ → ℕ → Bool
+breaksSide b s r i =
+    cond (ltZ b (getD r i (pos 0))) true
+    (cond (ltZ (getD r i (pos 0)) (negℤ b)) true
+    (cond (isZero (getD r i (pos 0))) false (isZero (entry s i i))))
+
 pub record FirstBreak (b : ℤ) (s : List ℤ) (p k : ℕ) : Type 0 where
   pub row : ℕ
   pub column : ℕ
@@ -42,3 +49,13 @@ pub record FirstBreak (b : ℤ) (s : List ℤ) (p k : ℕ) : Type 0 where
 abbrev pub Right : ℤ → List ℤ → ℕ → Walked → Type 0
 Right b s p Sound = (i j : ℕ) → i ≤ j → j < p → breaks b s i j ≡ false
 Right b s p (Unsound k) = FirstBreak b s p k
+
+-- what the judge says of p right sides
+pub record FirstSide (b : ℤ) (s r : List ℤ) (p k : ℕ) : Type 0 where
+  pub inside : k < p
+  pub broken : breaksSide b s r k ≡ true
+  pub first : (i : ℕ) → i < k → breaksSide b s r i ≡ false
+
+abbrev pub RightSides : ℤ → List ℤ → List ℤ → ℕ → Walked → Type 0
+RightSides b s r p Sound = (i : ℕ) → i < p → breaksSide b s r i ≡ false
+RightSides b s r p (Unsound k) = FirstSide b s r p k

@@ -6,7 +6,7 @@ ghost use lib.ListN.{length};
 ghost use mathlib.Core.Bool.{true, false};
 ghost use lib.Signed.{_≤ℤ_};
 ghost use Rattle.whole.specs.Sums.{plus, Within};
-ghost use Rattle.sums.specs.Sound.{breaks, Right};
+ghost use Rattle.sums.specs.Sound.{breaks, Right, breaksSide, RightSides};
 ghost use Rattle.sums.specs.Triangle.{times, triangle, tri};
 
 fn mac(s: i64, f: i64, x: i16) -> i64
@@ -66,7 +66,7 @@ pub fn add_matrix(sums: &mut [i64], a: &[i16], w: u32)
 }
 
 // The place of row i and column j in the packed triangle.
-fn place(i: usize, j: usize) -> usize
+pub fn place(i: usize, j: usize) -> usize
     requires { ⌜ (i ≤ j) × (j < 500) ⌝ }
     ensures { λ r. ⌜ r ≡ tri j + i ⌝ }
 {
@@ -126,4 +126,41 @@ pub fn first_unsound(s: &[i64], p: usize, bound: i64) -> Walked
         j += 1;
     }
     found
+}
+
+// Whether the right side of parameter i is one that sums cannot have.
+fn is_broken_side(s: &[i64], r: &[i64], i: usize, bound: i64) -> bool
+    requires { ⌜ i < 500 ⌝ }
+    requires { ⌜ (tri (i + 1) ≤ length (now s)) × (i < length (now r)) ⌝ }
+    requires { ⌜ pos 0 ≤ℤ bound ⌝ }
+    ensures { λ b. ⌜ b ≡ breaksSide bound (now (s .entry)) (now (r .entry)) i ⌝ }
+{
+    let y = r[i];
+    if bound < y {
+        return true;
+    }
+    if y < 0 - bound {
+        return true;
+    }
+    if y == 0 {
+        return false;
+    }
+    let d = s[place(i, i)];
+    d == 0
+}
+
+// The first right side that sums of p parameters cannot have, where there is one.
+pub fn first_broken_side(s: &[i64], r: &[i64], p: usize, bound: i64) -> Walked
+    requires { ⌜ (p ≤ 500) × (tri p ≤ length (now s)) × (p ≤ length (now r)) ⌝ }
+    requires { ⌜ pos 0 ≤ℤ bound ⌝ }
+    ensures { λ w. ⌜ RightSides bound (now (s .entry)) (now (r .entry)) p w ⌝ }
+{
+    let mut i: usize = 0;
+    while i < p {
+        if is_broken_side(s, r, i, bound) {
+            return Walked::Unsound(i);
+        }
+        i += 1;
+    }
+    Walked::Sound
 }

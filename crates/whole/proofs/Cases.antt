@@ -23,6 +23,11 @@ module _ {A : Type 0} (b : Bool) {x : A} (y z : A) where
   unfolding pick
   no e h = rw e h
 
+pub last-fails : (a : Bool) {b : Bool} → b ≡ false → both a b ≡ false
+unfolding both
+last-fails true e = e
+last-fails false e = refl
+
 module _ (a b : Bool) where
   pub fails : a ≡ false → false ≡ both a b
   unfolding both
@@ -127,12 +132,8 @@ module _ (low x high : ℕ) where
   is-below p = sym (fails _ _ (not-upTo low x p))
 
   pub is-above : high < x → between low x high ≡ false
-  unfolding between both
-  is-above q = go (upTo low x) (not-upTo x high q)
-    where
-      go : (b : Bool) {c : Bool} → c ≡ false → both b c ≡ false
-      go true e = e
-      go false e = refl
+  unfolding between
+  is-above q = last-fails (upTo low x) (not-upTo x high q)
 
   pub between-true : between low x high ≡ true → (low ≤ x) × (x ≤ high)
   unfolding between

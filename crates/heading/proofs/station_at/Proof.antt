@@ -6,13 +6,13 @@ use Prim.Native.Nat.{_≤_, _-_}
 use lib.ListN.{length, take, length-map}
 use borrow.Author.Needs.{needs}
 use Rattle.whole.specs.Lists.{rest}
-use Rattle.heading.specs.Judge.{stationsOf, findFrom, rowOf}
+use Rattle.heading.specs.Judge.{stationsOf, findFrom, numbersOf, rowOf}
 use Rattle.heading.proofs.Sound.{take-least, find-end, find-here, find-on}
 use Rattle.heading.proofs.station_at.Statement.{statement}
 use Rattle.heading.proofs.station_at.Tie as tie
 
 abbrev Inv-loop : tie.InvT-loop
-Inv-loop number h n i₀ i = (i ≤ n) × (n ≤ length (h .listed)) × (rowOf h number ≡ findFrom number i (rest (h .listed) n i))
+Inv-loop number h n i₀ i = (i ≤ n) × (n ≤ length (h .listed)) × (rowOf h number ≡ findFrom number i (numbersOf (rest (h .listed) n i)))
 
 abbrev μ-loop : tie.MeasureT-loop
 μ-loop number h n i₀ i = n - i
@@ -25,7 +25,7 @@ unfolding rowOf stationsOf rest
 loop-holds c =
     let long = simp length-map at (c .before .good .0 .1 .1 .1 .1 .1 .1 .0 .1 .0 .1) in
     let h = c .before .args .t1 in
-    (search needs, omega arith, ap (findFrom (c .before .args .number) 0) (take-least (h .stations) 16 (h .listed) long ∙ ap (λ k. take k (h .listed)) (sym (c .least .ensures))))
+    (search needs, omega arith, ap (λ l. findFrom (c .before .args .number) 0 (numbersOf l)) (take-least (h .stations) 16 (h .listed) long ∙ ap (λ k. take k (h .listed)) (sym (c .least .ensures))))
 
 mul-t : tie.Need-mul-t Inv-loop μ-loop
 mul-t c = search needs

@@ -5,7 +5,7 @@ use mathlib.Core.Bool.{Bool, true, false, cond}
 use Prim.Native.Nat.{_≤_, _+_}
 use native.Mathlib.Omega.{arith}
 use borrow.Author.Tests.{eq-eqb, ne-eqb}
-use lib.IntN.{ℤ, pos, negℤ, _-ℤ_, +ℤ-idl}
+use lib.IntN.{ℤ, pos, negℤ, _-ℤ_}
 use lib.Signed.{ltZ}
 use lib.ListN.{getD}
 use mir.Syntax.{w64}
@@ -14,7 +14,7 @@ use mir.ValLaws.{toZ-ofZ}
 use Rattle.sums.specs.Triangle.{tri}
 use Rattle.sums.specs.Sound.{entry, isZero, breaks}
 use Rattle.sums.proofs.Lists.{tri-next, tri-within}
-use Rattle.sums.proofs.Tests.{zero-bits, is-zero, not-zero, neg-fits, test-of}
+use Rattle.sums.proofs.Tests.{zero-bits, is-zero, not-zero, neg-fits, lower, lower-back, test-of}
 use borrow.Author.Needs.{needs}
 use Rattle.sums.proofs.is_broken.Statement.{statement}
 use Rattle.sums.proofs.is_broken.Tie as tie
@@ -39,21 +39,12 @@ value c = toZ-ofZ w64 (getD (c .before .before .args .s .now) (c .before .place 
 limit : (s : tie.Start) → toZ w64 (ofZ w64 (s .args .bound)) ≡ s .args .bound
 limit s = toZ-ofZ w64 (s .args .bound) (s .fits .bound)
 
-lower : (s : tie.Start) → pos 0 -ℤ toZ w64 (ofZ w64 (s .args .bound)) ≡ negℤ (s .args .bound)
-lower s = ap (λ z. pos 0 -ℤ z) (limit s) ∙ +ℤ-idl (negℤ (s .args .bound))
-
-lower-fits : (s : tie.Start) → SFits w64 (negℤ (s .args .bound))
-lower-fits s = neg-fits (s .args .bound) (s .pre .1 .1) (s .fits .bound)
-
-lower-back : (s : tie.Start) → toZ w64 (ofZ w64 (pos 0 -ℤ toZ w64 (ofZ w64 (s .args .bound)))) ≡ negℤ (s .args .bound)
-lower-back s = ap (λ z. toZ w64 (ofZ w64 z)) (lower s) ∙ toZ-ofZ w64 (negℤ (s .args .bound)) (lower-fits s)
-
 -- the tests, as they were left
 above : (c : tie.After-x) (t : Bool) → ltZ (toZ w64 (ofZ w64 (c .before .before .args .bound))) (toZ w64 (ofZ w64 (getD (c .before .before .args .s .now) (c .before .place .result) (pos 0)))) ≡ t → ltZ (c .before .before .args .bound) (x (c .before .before)) ≡ t
 above c t e = test-of _ _ _ _ t (limit (c .before .before)) (value c) e
 
 below : (c : tie.Else1) (t : Bool) → ltZ (toZ w64 (ofZ w64 (getD (c .before .before .before .args .s .now) (c .before .before .place .result) (pos 0)))) (toZ w64 (ofZ w64 (pos 0 -ℤ toZ w64 (ofZ w64 (c .before .before .before .args .bound))))) ≡ t → ltZ (x (c .before .before .before)) (negℤ (c .before .before .before .args .bound)) ≡ t
-below c t e = test-of _ _ _ _ t (value (c .before)) (lower-back (c .before .before .before)) e
+below c t e = test-of _ _ _ _ t (value (c .before)) (lower-back _ (c .before .before .before .pre .1 .1) (c .before .before .before .fits .bound)) e
 
 zero-x : (c : tie.After-x) (t : Bool) → (SFits w64 (getD (c .before .before .args .s .now) (c .before .place .result) (pos 0)) → isZero (getD (c .before .before .args .s .now) (c .before .place .result) (pos 0)) ≡ t) → isZero (x (c .before .before)) ≡ t
 unfolding x
@@ -72,7 +63,7 @@ unfolding breaks x
 returns c = simp (above (c .before) true (c .if1 .taken))
 
 sub-if2 : tie.Need-sub-if2
-sub-if2 c = rw (lower (c .before .before .before)) (lower-fits (c .before .before .before))
+sub-if2 c = rw (lower _ (c .before .before .before .fits .bound)) (neg-fits _ (c .before .before .before .pre .1 .1) (c .before .before .before .fits .bound))
 
 returns-2 : tie.Need-returns-2
 unfolding breaks x

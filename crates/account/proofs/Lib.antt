@@ -1,0 +1,14 @@
+pub mod Accepted
+pub mod Parts
+pub mod Kept
+pub mod Guarded
+pub mod Lists
+pub mod Trace
+pub mod Booking
+pub mod Order
+pub mod SumsOver
+pub mod Silence
+pub mod Numbers
+pub mod Never
+pub mod Runs
+pub mod Priors

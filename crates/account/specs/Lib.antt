@@ -1,0 +1,10 @@
+pub mod Machine
+pub mod Taking
+pub mod Mix
+pub mod Arc
+pub mod Order
+pub mod SumsOver
+pub mod Silence
+pub mod Never
+pub mod Runs
+pub mod Priors

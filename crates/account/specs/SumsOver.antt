@@ -1,0 +1,28 @@
+-- Demand 2, the sums: a state has the sums, counts and last times of just these records, by document 01's terms: "w·aᵢ·aⱼ to each matrix sum,
+-- w·aᵢ·R to each right side, w·R² to the square sum, 1 to the station's count". No prior weight stands in it.
+use Prim.Native.Nat.{ℕ, _≤_, _<_}
+use mathlib.Core.Path.{_≡_}
+use mathlib.Core.List.{List, map}
+use lib.IntN.{ℤ, pos, _*ℤ_}
+use lib.ListN.{length, getD}
+use Rattle.whole.specs.Sums.{total}
+use Rattle.sums.specs.Sound.{entry}
+use Rattle.records.specs.Record.{partialsIn}
+use Rattle.state.specs.State.{State, countOf, lastTimes, accepted}
+use Rattle.account.specs.Taking.{Frame, placeOf, stamp, columnOf, scaled, weightIn}
+use Rattle.account.specs.Mix.{only, lastOr}
+
+-- the partial of parameter i
+abbrev pub partialOf : Frame → List ℕ → ℕ → ℤ
+partialOf f b i = getD (partialsIn (f .parameters) b) i (pos 0)
+
+pub record SumsOver (f : Frame) (s : State) (bs : List (List ℕ)) : Type 0 where
+  -- each matrix sum, of row i and column j
+  pub matrix : (i j : ℕ) → i ≤ j → j < f .parameters → entry (s .matrix) i j ≡ total (λ b. pos (weightIn b) *ℤ (partialOf f b i *ℤ partialOf f b j)) bs
+  pub rights : (i : ℕ) → i < f .parameters → getD (s .rights) i (pos 0) ≡ total (λ b. pos (weightIn b) *ℤ (partialOf f b i *ℤ scaled b)) bs
+  pub square : pos (s .tally .square) ≡ total (λ b. pos (weightIn b) *ℤ (scaled b *ℤ scaled b)) bs
+  -- the count of the station in row k, and n, their total
+  pub counts : (k : ℕ) → k < 16 → countOf (s .tally) k ≡ length (only (placeOf f) k bs)
+  pub accepted : accepted (s .tally) ≡ length bs
+  -- the last time of the station in row k and of type c + 1; 0 for none
+  pub times : (k c : ℕ) → k < 16 → c < 10 → getD (lastTimes (s .tally) k .times) c 0 ≡ lastOr 0 (map (stamp f) (only columnOf c (only (placeOf f) k bs)))

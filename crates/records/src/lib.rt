@@ -1,0 +1,43 @@
+// A tracking record decoded by value, and its partials.
+ghost use mathlib.Core.Path.{_≡_};
+ghost use lib.ListN.{length};
+ghost use Rattle.records.specs.Record.{recordIn, partialsIn};
+
+pub struct Record {
+    pub station: u16,
+    pub sigma: u16,
+    pub kind: u32,
+    pub day: u32,
+    pub ms: u32,
+    pub observed: f64,
+    pub computed: f64,
+}
+
+// The record of some bytes; bytes past the end count as 0.
+pub fn decode(bytes: &[u8]) -> Record
+    ensures { λ r. ⌜ r ≡ recordIn (now (bytes .entry)) ⌝ }
+{
+    Record {
+        station: words::read_u16(bytes, 0),
+        sigma: words::read_u16(bytes, 2),
+        kind: words::read_u32(bytes, 4),
+        day: words::read_u32(bytes, 8),
+        ms: words::read_u32(bytes, 12),
+        observed: units::double_of_bits(words::read_u64(bytes, 16)),
+        computed: units::double_of_bits(words::read_u64(bytes, 24)),
+    }
+}
+
+// Fills the room with a record's partials; bytes past the end count as 0.
+pub fn partials(bytes: &[u8], out: &mut [i16])
+    ensures { λ _. ⌜ now (out .exit) ≡ partialsIn (length (now (out .entry))) (now (bytes .entry)) ⌝ }
+{
+    let n = out.len();
+    let mut i: usize = 0;
+    let mut at: usize = 32;
+    while i < n {
+        out[i] = words::read_i16(bytes, at);
+        at += 2;
+        i += 1;
+    }
+}

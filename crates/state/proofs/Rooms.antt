@@ -1,0 +1,137 @@
+-- Refusals of a heading with its state, in their order, what room an accepted one has, and what starting leaves in the room.
+-- Assumes nothing.
+use Prim.Native.Nat.{ℕ, suc, _+_, _-_, _≤_, _<_, min}
+use mathlib.Core.Path.{_≡_, refl, sym, ap, _∙_}
+use mathlib.Core.Bool.{Bool, true, false}
+use mathlib.Core.List.{List, [], _∷_, _++_}
+use native.Mathlib.Numerals.{add-one}
+use native.Mathlib.Omega.{arith}
+use lib.IntN.{ℤ, pos}
+use lib.ListN.{length, getD, take, drop, set, take-append-drop}
+use lib.Seq.{drop-cons, drop-set-lt, take-suc-set, append-snoc}
+use Rattle.whole.specs.Tests.{same, pick}
+use Rattle.whole.specs.Answer.{Answered, given, refused}
+use Rattle.whole.proofs.Cases.{yes, no, is-same, not-same, same-true, same-false, by-cases, both-first, both-second, upTo-true}
+use Rattle.refusal.specs.Number.{numberOf}
+use Rattle.refusal.specs.First.{numberIn, first, answered}
+use Rattle.refusal.specs.declared.Refusal.{Refusal}
+use Rattle.refusal.specs.declared.Refusal.the-variants.{Room, Unsound}
+use Rattle.refusal.proofs.Apart.{not-none}
+use Rattle.refusal.proofs.Firsts.{unless-true, unless-false, unless-none, first-pass, first-none, first-by, answered-given, answered-refused, answered-by, number-given, number-refused}
+use Rattle.sums.specs.Triangle.{tri}
+use Rattle.heading.specs.Judge.{judged, toldVerdict}
+use Rattle.heading.specs.declared.Heading.{Heading}
+use Rattle.heading.specs.declared.Verdict.{Verdict}
+use Rattle.heading.specs.declared.Verdict.the-variants as Verdicts
+use Rattle.heading.proofs.Sound.{Sound, sound}
+use Rattle.state.specs.declared.Tally.{Tally}
+use Rattle.state.specs.State.{State, emptyTally, stateOf, cleared, soundState, roomy, roomNumber, stateNumber, started}
+
+-- ---- an answer and its number
+only : (k : ℕ) → first (k ∷ []) ≡ k
+unfolding first
+only k = by-cases (same k 0) (λ t. sym (yes _ _ _ t (same-true k 0 t))) (λ t. sym (no _ _ _ t refl))
+
+told : (v : Verdict) → toldVerdict v ≡ answered (numberIn (toldVerdict v)) tt
+unfolding numberIn
+told Verdicts.Sound = answered-given 0 tt refl
+told (Verdicts.Refused r) = answered-refused (numberOf r) tt (not-none r)
+
+number-back : (k : ℕ) → numberIn (answered {A = Unit {0}} k tt) ≡ k
+number-back k =
+    by-cases (same k 0)
+    (λ t. number-given _ tt (sym (answered-given k tt (same-true k 0 t))) ∙ sym (same-true k 0 t))
+    (λ t. number-refused _ k (sym (answered-refused k tt (same-false k 0 t))))
+
+-- what an answer says of its number
+pub by-given : (k : ℕ) → given (tt {0}) ≡ answered k (tt {0}) → k ≡ 0
+unfolding numberIn
+by-given k e = sym (number-back k) ∙ ap numberIn (sym e)
+
+pub by-refused : (n k : ℕ) → refused n ≡ answered k (tt {0}) → k ≡ n
+unfolding numberIn
+by-refused n k e = sym (number-back k) ∙ ap numberIn (sym e)
+
+-- ---- room
+module _ (h : Heading) (m r : List ℤ) where
+  pub room-short : roomy h m r ≡ false → refused 20 ≡ answered (roomNumber h m r) (tt {0})
+  unfolding roomNumber
+  room-short e = answered-by _ tt Room (sym (first-by _ _ Room (unless-false 20 _ e)))
+
+  pub room-judged : roomy h m r ≡ true → (v : Verdict) → toldVerdict v ≡ judged h → toldVerdict v ≡ answered (roomNumber h m r) (tt {0})
+  unfolding roomNumber
+  room-judged e v j =
+      told v ∙ ap (λ k. answered k tt) (ap numberIn j ∙ sym (first-pass _ _ (unless-true 20 _ e) ∙ only (numberIn (judged h))))
+
+-- a test that a heading passed
+passed : (k : ℕ) → (k ≡ 0 → ⊥) → (b : Bool) (x : Answered (Unit {0})) → numberIn (pick b x (refused k)) ≡ 0 → (b ≡ true) × (numberIn x ≡ 0)
+unfolding pick numberIn
+passed k more true x e = (refl, e)
+passed k more false x e = absurd (more e)
+
+judged-given : (h : Heading) → numberIn (judged h) ≡ 0 → judged h ≡ given tt
+unfolding judged
+judged-given h e =
+    let a = passed 2 (λ z. omega arith) _ _ e in
+    let b = passed 4 (λ z. omega arith) _ _ (a .1) in
+    let c = passed 5 (λ z. omega arith) _ _ (b .1) in
+    sym (yes _ _ _ (a .0) (yes _ _ _ (b .0) (yes _ _ _ (c .0) refl)))
+
+-- what an accepted heading with room has
+pub record Roomed (h : Heading) (m r : List ℤ) : Type 0 where
+  pub sound : Sound h
+  pub matrix : tri (h .parameters) ≤ length m
+  pub rights : h .parameters ≤ length r
+
+pub roomed : (h : Heading) (m r : List ℤ) → roomNumber h m r ≡ 0 → Roomed h m r
+unfolding roomNumber roomy
+roomed h m r e =
+    let a = first-none _ _ e in
+    let room = unless-none 20 _ (λ z. omega arith) (a .0) in
+    let s = sound h (judged-given h (sym (only _) ∙ a .1)) in
+    let few : min (h .parameters) 50 ≡ h .parameters = omega (arith, s .few) in
+    record {
+      sound = s;
+      matrix = rw few at (upTo-true _ _ (both-first _ _ room));
+      rights = rw few at (upTo-true _ _ (both-second _ _ room));
+    }
+
+-- ---- the empty state
+module _ (h : Heading) (m r : List ℤ) where
+  pub started-kept : (f : Refusal) (t : Tally) → refused (numberOf f) ≡ answered (roomNumber h m r) (tt {0}) → t ≡ emptyTally → stateOf m r t ≡ started h m r
+  unfolding started
+  started-kept f t e k = no _ _ _ (not-same _ _ (λ z. not-none f (sym (by-refused _ _ e) ∙ z))) (ap (λ u. stateOf m r u) k)
+
+  pub started-cleared : (a b : List ℤ) (t : Tally) → roomNumber h m r ≡ 0 → a ≡ cleared (tri (h .parameters)) m → b ≡ cleared (h .parameters) r → t ≡ emptyTally → stateOf a b t ≡ started h m r
+  unfolding started
+  started-cleared a b t e x y z = yes _ _ _ (is-same _ _ e) (rw (x, y, z))
+
+-- clearing: what is done, with the rest cleared
+module _ (room : List ℤ) (n i : ℕ) where
+  pub clear-end : n ≤ i → take i room ++ cleared (n - i) (drop i room) ≡ room
+  unfolding cleared
+  clear-end h = let z : n - i ≡ 0 = omega arith in rw z (take-append-drop i room)
+
+  pub clear-turn : i < n → n ≤ length room → take i room ++ cleared (n - i) (drop i room) ≡ take (i + 1) (set room i (pos 0)) ++ cleared (n - (i + 1)) (drop (i + 1) (set room i (pos 0)))
+  unfolding cleared
+  clear-turn h l =
+      let more : n - i ≡ suc (n - (i + 1)) = omega arith in
+      let head : take (i + 1) (set room i (pos 0)) ≡ take i room ++ (pos 0 ∷ []) = rw add-one (take-suc-set room i (pos 0) (omega arith)) in
+      let tail : drop (i + 1) (set room i (pos 0)) ≡ drop (i + 1) room = drop-set-lt (i + 1) room i (pos 0) (omega arith) in
+      let cut : drop i room ≡ getD room i (pos 0) ∷ drop (i + 1) room = rw add-one (drop-cons room i (pos 0) (omega arith)) in
+      rw (more, cut, head, tail) (sym (append-snoc (take i room) (pos 0) _))
+
+-- ---- the state
+module _ (h : Heading) (s : State) where
+  pub state-room : (f : Refusal) → roomNumber h (s .matrix) (s .rights) ≡ numberOf f → refused (numberOf f) ≡ answered (stateNumber h s) (tt {0})
+  unfolding stateNumber
+  state-room f e = answered-by _ tt f (sym (first-by _ _ f e))
+
+  module _ (room : roomNumber h (s .matrix) (s .rights) ≡ 0) where
+    pub state-unsound : soundState (h .stations) (h .parameters) s ≡ false → refused 6 ≡ answered (stateNumber h s) (tt {0})
+    unfolding stateNumber
+    state-unsound e = answered-by _ tt Unsound (first-pass _ _ room ∙ only _ ∙ unless-false 6 _ e)
+
+    pub state-sound : soundState (h .stations) (h .parameters) s ≡ true → given (tt {0}) ≡ answered (stateNumber h s) (tt {0})
+    unfolding stateNumber
+    state-sound e = answered-given _ tt (first-pass _ _ room ∙ only _ ∙ unless-true 6 _ e)

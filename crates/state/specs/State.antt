@@ -1,0 +1,132 @@
+-- Document 01, 'Taking a record': "The state holds the packed upper triangle by columns, the right sides, the square sum, a count for each
+-- station and a table of sixteen rows of ten last times, 0 for none." What a state is, the empty one, and which states are sound (6).
+use Prim.Native.Nat.{ℕ, suc, _+_, _*_, _^_, min}
+use mathlib.Core.List.{List, [], _∷_, _++_}
+use mathlib.Core.Bool.{Bool, not}
+use lib.IntN.{ℤ, pos, negℤ}
+use lib.Signed.{ltZ}
+use lib.ListN.{length, getD, set, drop, replicate}
+use Rattle.whole.specs.Tests.{less, upTo, same, pick, both, either, below}
+use Rattle.whole.specs.Answer.{Answered}
+use Rattle.whole.specs.Lists.{all}
+use Rattle.refusal.specs.First.{unless, numberIn, first, answered}
+use Rattle.sums.specs.Triangle.{tri}
+use Rattle.sums.specs.Sound.{entry, isZero, breaks, breaksSide}
+use Rattle.heading.specs.Judge.{judged}
+use Rattle.heading.specs.declared.Heading.{Heading}
+use Rattle.heading.specs.declared.Verdict.{Verdict}
+use Rattle.state.specs.declared.Row.{Row}
+use Rattle.state.specs.declared.Tally.{Tally}
+use Rattle.state.specs.declared.Started.{Started}
+
+pub record State : Type 0 where
+  pub matrix : List ℤ
+  pub rights : List ℤ
+  pub tally : Tally
+
+abbrev pub stateOf : List ℤ → List ℤ → Tally → State
+stateOf m r t = record { matrix = m; rights = r; tally = t }
+
+-- ---- the tally
+-- what stands past the last row
+abbrev pub noRow : Row
+noRow = record { times = [] }
+
+abbrev pub countOf : Tally → ℕ → ℕ
+countOf t i = getD (t .counts) i 0
+
+abbrev pub lastTimes : Tally → ℕ → Row
+lastTimes t i = getD (t .rows) i noRow
+
+abbrev pub rowWith : Row → ℕ → ℕ → Row
+rowWith w k time = record { times = set (w .times) k time }
+
+-- one record more of row i and column k: its square term added, its count one more, its time kept
+unfoldable pub tallyWith : Tally → ℕ → ℕ → ℕ → ℕ → Tally
+tallyWith t i k time q =
+    record {
+      square = t .square + q;
+      counts = set (t .counts) i (countOf t i + 1);
+      rows = set (t .rows) i (rowWith (lastTimes t i) k time);
+    }
+
+-- ---- the empty state
+abbrev pub emptyTally : Tally
+emptyTally = record { square = 0; counts = replicate 16 0; rows = replicate 16 (record { times = replicate 10 0 }) }
+
+-- a list with its first n numbers 0
+unfoldable pub cleared : ℕ → List ℤ → List ℤ
+cleared n l = replicate n (pos 0) ++ drop n l
+
+-- ---- sound states
+-- "n is the total of its station counts"
+unfoldable pub sumOf : List ℕ → ℕ
+sumOf [] = 0
+sumOf (c ∷ l) = c + sumOf l
+
+abbrev pub accepted : Tally → ℕ
+accepted t = sumOf (t .counts)
+
+-- "no matrix sum passes n·2^46, no right side n·2^43, no square sum n·2^39"
+abbrev pub matrixTop : ℕ → ℕ
+matrixTop n = n * 2 ^ 46
+
+abbrev pub rightTop : ℕ → ℕ
+rightTop n = n * 2 ^ 43
+
+abbrev pub squareTop : ℕ → ℕ
+squareTop n = n * 2 ^ 39
+
+-- "a count above 256 .. or anything but 0 in a slot past the .. stations"
+unfoldable pub countsSound : ℕ → List ℕ → Bool
+countsSound stations counts = below (λ i. upTo (getD counts i 0) (pick (less i stations) 256 0)) 16
+
+unfoldable pub rowsSound : ℕ → List Row → Bool
+rowsSound stations rows = below (λ i. either (less i stations) (all (λ t. same t 0) (getD rows i noRow .times))) 16
+
+unfoldable pub tallySound : ℕ → Tally → Bool
+tallySound stations t =
+    both (countsSound stations (t .counts)) (both (rowsSound stations (t .rows)) (upTo (t .square) (squareTop (accepted t))))
+
+-- each sum of p parameters, alone: within its bound, and 0 beside a diagonal that is 0; the diagonal not negative
+unfoldable pub matrixSound : ℕ → ℕ → List ℤ → Bool
+matrixSound p top m = below (λ j. below (λ i. not (breaks (pos top) m i j)) (suc j)) p
+
+unfoldable pub rightsSound : ℕ → ℕ → List ℤ → List ℤ → Bool
+rightsSound p top m r = below (λ i. not (breaksSide (pos top) m r i)) p
+
+-- a state of some stations and p parameters; where n is 0 every bound is 0, and so is every sum
+unfoldable pub soundState : ℕ → ℕ → State → Bool
+soundState stations p s =
+    both (tallySound stations (s .tally))
+    (both (matrixSound p (matrixTop (accepted (s .tally))) (s .matrix))
+    (rightsSound p (rightTop (accepted (s .tally))) (s .matrix) (s .rights)))
+
+-- ---- what is lent
+-- "a number past its capacity standing as the capacity"
+abbrev pub capped : Heading → ℕ
+capped h = min (h .parameters) 50
+
+-- "a lent buffer shorter than needed": one element for each matrix sum, and one for each right side
+unfoldable pub roomy : Heading → List ℤ → List ℤ → Bool
+roomy h m r = both (upTo (tri (capped h)) (length m)) (upTo (capped h) (length r))
+
+-- 20, 2, 4, 5: a heading with room for its state
+unfoldable pub roomNumber : Heading → List ℤ → List ℤ → ℕ
+roomNumber h m r = first (unless 20 (roomy h m r) ∷ numberIn (judged h) ∷ [])
+
+-- 20, 2, 4, 5, 6: a heading with a state
+unfoldable pub stateNumber : Heading → State → ℕ
+stateNumber h s = first (roomNumber h (s .matrix) (s .rights) ∷ unless 6 (soundState (h .stations) (h .parameters) s) ∷ [])
+
+-- ---- the entries
+-- the empty state of a heading in lent room; a refusal leaves the room as it was
+unfoldable pub started : Heading → List ℤ → List ℤ → State
+started h m r =
+    pick (same (roomNumber h m r) 0)
+    (record { matrix = cleared (tri (h .parameters)) m; rights = cleared (h .parameters) r; tally = emptyTally })
+    (record { matrix = m; rights = r; tally = emptyTally })
+
+-- "A parameter is reported unseen exactly where its diagonal sum is 0"; an arc has at most 50 parameters
+unfoldable pub seenIn : List ℤ → ℕ → Bool
+seenIn m i = both (less i 50) (not (isZero (entry m i i)))

@@ -1,0 +1,96 @@
+-- Document 01, 'Normal file': what a normal file holds, the limits and the order of its labels, and which sums are sound.
+use Prim.Native.Nat.{ℕ, zero, suc, _+_, _*_, _^_}
+use mathlib.Core.List.{List, [], _∷_}
+use mathlib.Core.Bool.{Bool, true, false}
+use lib.IntN.{ℤ, pos}
+use lib.ListN.{length}
+use Rattle.whole.specs.Tests.{less, upTo, same, pick, both, either, between}
+use Rattle.limits.specs.Limits.{indexOk}
+use Rattle.sums.specs.Triangle.{tri}
+use Rattle.sums.specs.Sound.{breaks, breaksSide}
+use Rattle.system.specs.declared.NormalLabel.{NormalLabel}
+
+-- "arcs .., parameters .., matrix sums (P(P+1)/2), right sides (P), totals (accepted u64, square sum u64)"
+pub record System : Type 0 where
+  pub arcs : List ℕ
+  pub labels : List NormalLabel
+  pub matrix : List ℤ
+  pub rights : List ℤ
+  pub accepted : ℕ
+  pub square : ℕ
+
+-- ---- arcs and labels
+-- "arcs (.., strictly ascending, 1 to 999,999)"
+unfoldable pub arcOk : ℕ → Bool
+arcOk a = between 1 a 999999
+
+-- whether a number is one of a list
+unfoldable pub has : ℕ → List ℕ → Bool
+has a [] = false
+has a (x ∷ l) = either (same x a) (has a l)
+
+-- "arc 0 for kinds 1 and 2, else a listed arc"
+unfoldable pub arcListed : List ℕ → NormalLabel → Bool
+arcListed arcs l = pick (upTo (l .kind) 2) (same (l .arc) 0) (has (l .arc) arcs)
+
+-- "prior weight u32 (to 2^30)" and the indices of the four kinds are the arc file's
+unfoldable pub normalLabelOk : List ℕ → NormalLabel → Bool
+normalLabelOk arcs l = both (upTo (l .weight) (2 ^ 30)) (both (indexOk (l .kind) (l .index)) (arcListed arcs l))
+
+-- "strictly ascending by kind, arc, index": the three as one number
+unfoldable pub keyOf : NormalLabel → ℕ
+keyOf l = l .kind * 2 ^ 48 + l .arc * 2 ^ 16 + l .index
+
+-- ---- "Sound sums, for A arcs: |matrix| ≤ A·2^58, diagonal not negative, |right| ≤ A·2^55, accepted ≤ A·4,096, square sum ≤ A·2^51; a zero
+-- diagonal has zeros in its row, column and right side; accepted 0 has all sums zero." Where accepted is 0 every bound is 0.
+unfoldable pub boundOf : ℕ → ℕ → ℕ → ℕ
+boundOf arcs accepted unit = pick (same accepted 0) 0 (arcs * unit)
+
+-- where the first unsound sum stands: in which section, and at which number of it
+pub data Where : Type 0 where
+  nowhere : Where
+  inMatrix : ℕ → Where
+  inRights : ℕ → Where
+  inAccepted : Where
+  inSquare : Where
+
+-- the first of n numbers from i on at which a test holds
+pub data Found : Type 0 where
+  none : Found
+  at : ℕ → Found
+
+unfoldable pub firstFrom : (ℕ → Bool) → ℕ → ℕ → Found
+firstFrom f i zero = none
+firstFrom f i (suc n) = pick (f i) (at i) (firstFrom f (i + 1) n)
+
+-- the first unsound entry of n columns from the jth on, by its number in the packed triangle
+unfoldable pub inColumn : ℕ → Found → Found → Found
+inColumn base none rest = rest
+inColumn base (at i) rest = at (base + i)
+
+unfoldable pub columnsFrom : (ℕ → ℕ → Bool) → ℕ → ℕ → Found
+columnsFrom f j zero = none
+columnsFrom f j (suc n) = inColumn (tri j) (firstFrom (λ i. f i j) 0 (suc j)) (columnsFrom f (j + 1) n)
+
+-- ---- "for 6 the first unsound sum in file order"; "Accepted and square sum are judged as sums too. Each sum is judged alone"
+unfoldable pub afterMatrix : Found → Where → Where
+afterMatrix none w = w
+afterMatrix (at k) w = inMatrix k
+
+unfoldable pub afterRights : Found → Where → Where
+afterRights none w = w
+afterRights (at k) w = inRights k
+
+unfoldable pub totalsWhere : ℕ → ℕ → ℕ → Where
+totalsWhere arcs accepted square =
+    pick (less (arcs * 4096) accepted) inAccepted (pick (less (boundOf arcs accepted (2 ^ 51)) square) inSquare nowhere)
+
+unfoldable pub sumsWhere : ℕ → ℕ → List ℤ → List ℤ → ℕ → ℕ → Where
+sumsWhere arcs p m r accepted square =
+    afterMatrix (columnsFrom (breaks (pos (boundOf arcs accepted (2 ^ 58))) m) 0 p)
+    (afterRights (firstFrom (breaksSide (pos (boundOf arcs accepted (2 ^ 55))) m r) 0 p)
+    (totalsWhere arcs accepted square))
+
+-- the first unsound sum of a system
+unfoldable pub unsoundIn : System → Where
+unsoundIn x = sumsWhere (length (x .arcs)) (length (x .labels)) (x .matrix) (x .rights) (x .accepted) (x .square)

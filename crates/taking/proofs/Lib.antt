@@ -1,0 +1,6 @@
+pub mod Steps
+pub mod Runs
+pub mod Wide
+pub mod Copies
+pub mod Entries
+pub mod Answers

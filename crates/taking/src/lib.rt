@@ -1,0 +1,355 @@
+// Taking records: one record, or a run of them, into the state of an arc.
+use heading::Heading;
+use heading::Verdict;
+use judging::Fitted;
+use judging::Judgement;
+use limits::Settings;
+use refusal::Refusal;
+use state::Row;
+use state::Tally;
+ghost use mathlib.Core.Path.{_≡_};
+ghost use Prim.Native.Nat.{_*_, _/_, _≤_, _<_, _^_};
+ghost use lib.IntN.{pos, natAbs};
+ghost use lib.ListN.{length, getD};
+ghost use Rattle.whole.specs.Sums.{plus, Within};
+ghost use Rattle.refusal.specs.Number.{numberOf};
+ghost use Rattle.refusal.specs.First.{answered};
+ghost use Rattle.words.specs.Words.{lay};
+ghost use Rattle.heading.specs.Judge.{numbersOf, toldVerdict};
+ghost use Rattle.arcread.specs.Kinds.{recordSize};
+ghost use Rattle.sums.specs.Triangle.{times, triangle, tri};
+ghost use Rattle.records.specs.Record.{partialsIn};
+ghost use Rattle.state.specs.State.{stateOf, rowWith, stateNumber};
+ghost use Rattle.account.specs.Taking.{
+  frame,
+  frameOf,
+  correctionsOf,
+  recordAnswer,
+  recordStep,
+  takeAnswer,
+  takeStep,
+  runNumber,
+  runState,
+  runAnswers,
+};
+ghost use Rattle.taking.specs.Told.{toldTake, Prepared, runBy, answersBy};
+
+pub enum TakeAnswer {
+    Accepted,
+    Refused(Refusal),
+}
+
+pub struct Taken {
+    pub answer: TakeAnswer,
+    pub tally: Tally,
+}
+
+// The number of a refusal, in the byte that an answer has.
+fn code(e: Refusal) -> u8
+    ensures { λ r. ⌜ r ≡ numberOf e ⌝ }
+{
+    refusal::number(e) as u8
+}
+
+// The last time in a column of a row.
+fn last_of(row: Row, column: usize) -> u64
+    requires { ⌜ column < 10 ⌝ }
+    ensures { λ r. ⌜ r ≡ getD (row .times) column 0 ⌝ }
+{
+    row.times[column]
+}
+
+// The row with one time changed.
+fn row_with(row: Row, column: usize, time: u64) -> Row
+    requires { ⌜ column < 10 ⌝ }
+    ensures { λ r. ⌜ r ≡ rowWith row column time ⌝ }
+{
+    let mut r = row;
+    r.times[column] = time;
+    r
+}
+
+// Adds the terms of a record to the sums: w times the products of its partials, and w·R times each. The partials are laid out in `room`.
+fn add_record(
+    matrix: &mut [i64],
+    rights: &mut [i64],
+    room: &mut [i16],
+    bytes: &[u8],
+    weight: u32,
+    side: i64,
+)
+    requires { ⌜ (length (now rights) ≤ 50) × (length (now matrix) ≡ tri (length (now rights))) × (length (now room) ≡ length (now rights)) ⌝ }
+    requires { ⌜ (weight ≤ 65536) × (natAbs side ≤ 2 ^ 31) ⌝ }
+    requires { ⌜ Within (2 ^ 62) (now matrix) × Within (2 ^ 62) (now rights) ⌝ }
+    ensures matrix { λ _. ⌜ now (matrix .exit) ≡ plus (now (matrix .entry)) (triangle (pos weight) (partialsIn (length (now (rights .entry))) (now (bytes .entry)))) ⌝ }
+    ensures rights { λ _. ⌜ now (rights .exit) ≡ plus (now (rights .entry)) (times side (partialsIn (length (now (rights .entry))) (now (bytes .entry)))) ⌝ }
+{
+    records::partials(bytes, room);
+    sums::add_matrix(matrix, room, weight);
+    sums::add_times(rights, side, room);
+}
+
+// A record taken into sums of just its parameters, the heading and the state found sound.
+fn take_record(
+    settings: Settings,
+    numbers: &[u16],
+    corrections: &[i32],
+    t: Tally,
+    matrix: &mut [i64],
+    rights: &mut [i64],
+    room: &mut [i16],
+    bytes: &[u8],
+) -> Taken
+    requires { ⌜ Prepared settings (now numbers) (now corrections) (stateOf (now matrix) (now rights) t) × (length (now room) ≡ length (now rights)) ⌝ }
+    ensures { λ r. ⌜ toldTake (r .answer) ≡ answered (recordAnswer (frame settings (length (now (rights .entry))) (now (numbers .entry)) (now (corrections .entry))) (now (bytes .entry)) (stateOf (now (matrix .entry)) (now (rights .entry)) t)) tt ⌝ }
+    ensures state { λ r. ⌜ stateOf (now (matrix .exit)) (now (rights .exit)) (r .tally) ≡ recordStep (frame settings (length (now (rights .entry))) (now (numbers .entry)) (now (corrections .entry))) (now (bytes .entry)) (stateOf (now (matrix .entry)) (now (rights .entry)) t) ⌝ }
+{
+    match judging::fits(settings, rights.len(), numbers, corrections, bytes) {
+        Fitted::Is(x) => {
+            let place = x.place;
+            let row = t.rows[place];
+            let count = t.counts[place];
+            match judging::judge(settings.level, x, last_of(row, x.column), count) {
+                Judgement::Accepted(y) => {
+                    add_record(matrix, rights, room, bytes, y.weight, y.side);
+                    let mut after = t;
+                    after.square = t.square + y.square;
+                    after.counts[place] = count + 1;
+                    after.rows[place] = row_with(row, x.column, x.time);
+                    Taken {
+                        answer: TakeAnswer::Accepted,
+                        tally: after,
+                    }
+                }
+                Judgement::Refused(late) => Taken {
+                    answer: TakeAnswer::Refused(late),
+                    tally: t,
+                },
+            }
+        }
+        Fitted::Refused(e) => Taken {
+            answer: TakeAnswer::Refused(e),
+            tally: t,
+        },
+    }
+}
+
+// The whole records of a run taken one after another, each with its answer written: 0, or the number of its refusal.
+fn take_all(
+    settings: Settings,
+    numbers: &[u16],
+    corrections: &[i32],
+    t: Tally,
+    matrix: &mut [i64],
+    rights: &mut [i64],
+    room: &mut [i16],
+    run: &[u8],
+    out: &mut [u8],
+) -> Tally
+    requires { ⌜ Prepared settings (now numbers) (now corrections) (stateOf (now matrix) (now rights) t) × (length (now room) ≡ length (now rights)) ⌝ }
+    requires { ⌜ length (now run) / recordSize (length (now rights)) ≤ length (now out) ⌝ }
+    ensures state { λ r. ⌜ stateOf (now (matrix .exit)) (now (rights .exit)) r ≡ runBy (frame settings (length (now (rights .entry))) (now (numbers .entry)) (now (corrections .entry))) (stateOf (now (matrix .entry)) (now (rights .entry)) t) (now (run .entry)) ⌝ }
+    ensures told { λ _. ⌜ now (out .exit) ≡ lay (now (out .entry)) 0 (answersBy (frame settings (length (now (rights .entry))) (now (numbers .entry)) (now (corrections .entry))) (stateOf (now (matrix .entry)) (now (rights .entry)) t) (now (run .entry))) ⌝ }
+{
+    let p = rights.len();
+    let size = 32 + 2 * p;
+    let n = run.len() / size;
+    let mut u = t;
+    let mut i: usize = 0;
+    let mut at: usize = 0;
+    while i < n {
+        let e = at + size;
+        let bytes = &run[at..e];
+        match judging::fits(settings, p, numbers, corrections, bytes) {
+            Fitted::Is(x) => {
+                let place = x.place;
+                let row = u.rows[place];
+                let count = u.counts[place];
+                match judging::judge(settings.level, x, last_of(row, x.column), count) {
+                    Judgement::Accepted(y) => {
+                        add_record(matrix, rights, room, bytes, y.weight, y.side);
+                        u.square = u.square + y.square;
+                        u.counts[place] = count + 1;
+                        u.rows[place] = row_with(row, x.column, x.time);
+                        out[i] = 0;
+                        at = e;
+                        i += 1;
+                    }
+                    Judgement::Refused(e1) => {
+                        out[i] = code(e1);
+                        at = e;
+                        i += 1;
+                    }
+                }
+            }
+            Fitted::Refused(e2) => {
+                out[i] = code(e2);
+                at = e;
+                i += 1;
+            }
+        }
+    }
+    u
+}
+
+// The numbers of the listed stations, in the order of the heading.
+fn numbers_of(h: Heading) -> [u16; 16]
+    ensures { λ r. ⌜ r ≡ numbersOf (h .listed) ⌝ }
+{
+    let mut a: [u16; 16] = [0; 16];
+    let mut i: usize = 0;
+    while i < 16 {
+        let t = h.listed[i];
+        a[i] = t.number;
+        i += 1;
+    }
+    a
+}
+
+// Their corrections.
+fn corrections_of(h: Heading) -> [i32; 16]
+    ensures { λ r. ⌜ r ≡ correctionsOf (h .listed) ⌝ }
+{
+    let mut a: [i32; 16] = [0; 16];
+    let mut i: usize = 0;
+    while i < 16 {
+        let t = h.listed[i];
+        let c = t.correction;
+        a[i] = c;
+        i += 1;
+    }
+    a
+}
+
+// The number of matrix sums of p parameters.
+fn sums_of(p: usize) -> usize
+    requires { ⌜ p ≤ 50 ⌝ }
+    ensures { λ r. ⌜ r ≡ tri p ⌝ }
+{
+    sums::place(0, p)
+}
+
+// A record taken, the heading and the state found sound.
+fn take_sound(h: Heading, t: Tally, matrix: &mut [i64], rights: &mut [i64], bytes: &[u8]) -> Taken
+    requires { ⌜ stateNumber h (stateOf (now matrix) (now rights) t) ≡ 0 ⌝ }
+    ensures { λ r. ⌜ toldTake (r .answer) ≡ answered (recordAnswer (frameOf h) (now (bytes .entry)) (stateOf (now (matrix .entry)) (now (rights .entry)) t)) tt ⌝ }
+    ensures state { λ r. ⌜ stateOf (now (matrix .exit)) (now (rights .exit)) (r .tally) ≡ recordStep (frameOf h) (now (bytes .entry)) (stateOf (now (matrix .entry)) (now (rights .entry)) t) ⌝ }
+{
+    let p = h.parameters;
+    let n = h.stations;
+    let k = sums_of(p);
+    let numbers = numbers_of(h);
+    let corrections = corrections_of(h);
+    let mut room: [i16; 50] = [0; 50];
+    take_record(
+        h.settings,
+        &numbers[..n],
+        &corrections[..n],
+        t,
+        &mut matrix[..k],
+        &mut rights[..p],
+        &mut room[..p],
+        bytes,
+    )
+}
+
+// A record taken into a state: 20, 2, 4, 5, 6, 1, 3, 10 to 19, or accepted.
+pub fn take(h: Heading, t: Tally, matrix: &mut [i64], rights: &mut [i64], bytes: &[u8]) -> Taken
+    ensures { λ r. ⌜ toldTake (r .answer) ≡ answered (takeAnswer h (now (bytes .entry)) (stateOf (now (matrix .entry)) (now (rights .entry)) t)) tt ⌝ }
+    ensures state { λ r. ⌜ stateOf (now (matrix .exit)) (now (rights .exit)) (r .tally) ≡ takeStep h (now (bytes .entry)) (stateOf (now (matrix .entry)) (now (rights .entry)) t) ⌝ }
+{
+    match state::judge_state(h, t, matrix, rights) {
+        Verdict::Sound => take_sound(h, t, matrix, rights, bytes),
+        Verdict::Refused(e) => Taken {
+            answer: TakeAnswer::Refused(e),
+            tally: t,
+        },
+    }
+}
+
+// 20 where the room for the answers is short, else what the state's judge says, else 1 where the run ends inside a record.
+fn judge_run(
+    h: Heading,
+    t: Tally,
+    matrix: &[i64],
+    rights: &[i64],
+    run: &[u8],
+    answers: usize,
+) -> Verdict
+    ensures { λ r. ⌜ toldVerdict r ≡ answered (runNumber h (now (run .entry)) answers (stateOf (now (matrix .entry)) (now (rights .entry)) t)) tt ⌝ }
+{
+    let size = 32 + 2 * whole::least(h.parameters, 50);
+    let n = run.len() / size;
+    if answers < n {
+        return Verdict::Refused(Refusal::Room);
+    }
+    match state::judge_state(h, t, matrix, rights) {
+        Verdict::Sound => {
+            if n * size == run.len() {
+                return Verdict::Sound;
+            }
+            Verdict::Refused(Refusal::Short)
+        }
+        Verdict::Refused(e) => Verdict::Refused(e),
+    }
+}
+
+// A run taken, the heading, the state and the run found sound.
+fn run_sound(
+    h: Heading,
+    t: Tally,
+    matrix: &mut [i64],
+    rights: &mut [i64],
+    run: &[u8],
+    out: &mut [u8],
+) -> Tally
+    requires { ⌜ runNumber h (now run) (length (now out)) (stateOf (now matrix) (now rights) t) ≡ 0 ⌝ }
+    ensures state { λ r. ⌜ stateOf (now (matrix .exit)) (now (rights .exit)) r ≡ runState h (now (run .entry)) (length (now (out .entry))) (stateOf (now (matrix .entry)) (now (rights .entry)) t) ⌝ }
+    ensures told { λ _. ⌜ now (out .exit) ≡ runAnswers h (now (run .entry)) (now (out .entry)) (stateOf (now (matrix .entry)) (now (rights .entry)) t) ⌝ }
+{
+    let p = h.parameters;
+    let n = h.stations;
+    let k = sums_of(p);
+    let numbers = numbers_of(h);
+    let corrections = corrections_of(h);
+    let mut room: [i16; 50] = [0; 50];
+    take_all(
+        h.settings,
+        &numbers[..n],
+        &corrections[..n],
+        t,
+        &mut matrix[..k],
+        &mut rights[..p],
+        &mut room[..p],
+        run,
+        out,
+    )
+}
+
+// A run of whole records taken into a state, each with its answer written, one element a record: 0, or the number of its refusal.
+pub fn take_run(
+    h: Heading,
+    t: Tally,
+    matrix: &mut [i64],
+    rights: &mut [i64],
+    run: &[u8],
+    answers: &mut [u8],
+) -> Taken
+    ensures { λ r. ⌜ toldTake (r .answer) ≡ answered (runNumber h (now (run .entry)) (length (now (answers .entry))) (stateOf (now (matrix .entry)) (now (rights .entry)) t)) tt ⌝ }
+    ensures state { λ r. ⌜ stateOf (now (matrix .exit)) (now (rights .exit)) (r .tally) ≡ runState h (now (run .entry)) (length (now (answers .entry))) (stateOf (now (matrix .entry)) (now (rights .entry)) t) ⌝ }
+    ensures told { λ _. ⌜ now (answers .exit) ≡ runAnswers h (now (run .entry)) (now (answers .entry)) (stateOf (now (matrix .entry)) (now (rights .entry)) t) ⌝ }
+{
+    match judge_run(h, t, matrix, rights, run, answers.len()) {
+        Verdict::Sound => {
+            let tally = run_sound(h, t, matrix, rights, run, answers);
+            Taken {
+                answer: TakeAnswer::Accepted,
+                tally,
+            }
+        }
+        Verdict::Refused(e) => Taken {
+            answer: TakeAnswer::Refused(e),
+            tally: t,
+        },
+    }
+}
