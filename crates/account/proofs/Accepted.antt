@@ -19,7 +19,7 @@ use Rattle.whole.specs.Sums.{Within}
 use Rattle.whole.proofs.Cases.{apart, by-cases, yes, no, less-true, less-false, between-true}
 use Rattle.whole.proofs.Ints.{natAbs-*, *-assoc, square}
 use Rattle.refusal.specs.First.{numberIn, first, valueOr}
-use Rattle.refusal.proofs.Firsts.{first-none, first-pass, when-none, unless-none}
+use Rattle.refusal.proofs.Firsts.{first-none-left, first-none, first-pass, when-none, unless-none}
 use Rattle.words.specs.Words.{word, signedWord}
 use Rattle.heading.specs.Judge.{findFrom}
 use Rattle.arcread.specs.Kinds.{recordSize}
@@ -170,10 +170,6 @@ pub record Accepted (f : Frame) (b : List ℕ) (last count : ℕ) : Type 0 where
   pub edit : passesEdit (f .settings .level) (recordIn b .sigma) (rowOf (recordIn b .kind) .step) (residual b) ≡ true
   pub seat : count < 256
 
-pub none-left : first [] ≡ 0
-unfolding first
-none-left = refl
-
 pub accepted : (f : Frame) (b : List ℕ) (last count : ℕ) → judgedBy f b last count ≡ 0 → Accepted f b last count
 unfolding judgedBy stationTests
 accepted f b last count e =
@@ -183,7 +179,7 @@ accepted f b last count e =
     let s₁ = first-none _ _ (s₀ .1) in
     let s₂ = first-none _ _ (s₁ .1) in
     record {
-      fits = fits f b (first-pass _ _ (a .0) ∙ first-pass _ _ (c .0) ∙ none-left);
+      fits = fits f b (first-pass _ _ (a .0) ∙ first-pass _ _ (c .0) ∙ first-none-left);
       later = less-true _ _ (unless-none 17 _ (omega arith) (s₀ .0));
       edit = unless-none 18 _ (omega arith) (s₁ .0);
       seat = less-true _ _ (unless-none 19 _ (omega arith) (s₂ .0));

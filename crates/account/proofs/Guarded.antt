@@ -2,16 +2,16 @@
 -- Assumes nothing.
 use Prim.Native.Nat.{ℕ, _≤_, min}
 use mathlib.Core.Path.{_≡_, refl, sym, ap, ap₂, _∙_, subst}
-use mathlib.Core.Bool.{Bool, true, false}
+use mathlib.Core.Bool.{true}
 use mathlib.Core.List.{List, [], _∷_}
 use native.Mathlib.Omega.{arith}
 use lib.IntN.{ℤ}
 use lib.ListN.{length, take, length-map, length-take}
 use Rattle.whole.specs.Tests.{pick, same}
-use Rattle.whole.specs.Answer.{Answered, given, refused}
-use Rattle.whole.proofs.Cases.{by-cases, holds, is-same, same-true, same-false, is-upTo, upTo-true, both-first, both-second, between-true, yes}
-use Rattle.refusal.specs.First.{numberIn, first}
-use Rattle.refusal.proofs.Firsts.{first-none, first-pass, first-stop, unless-none, unless-true, number-given}
+use Rattle.whole.specs.Answer.{given}
+use Rattle.whole.proofs.Cases.{holds, is-same, is-upTo, upTo-true, both-first, both-second, between-true, yes}
+use Rattle.refusal.proofs.Firsts.{first-none-left, first-none, first-one, first-pass, unless-none, unless-true, number-given}
+use Rattle.state.proofs.Rooms.{judged-given}
 use Rattle.limits.specs.Limits.{settingsOk, stationKey}
 use Rattle.heading.specs.Judge.{stationsOf, numbersOf, judged}
 use Rattle.heading.specs.declared.Heading.{Heading}
@@ -20,7 +20,6 @@ use Rattle.sums.specs.Triangle.{tri}
 use Rattle.state.specs.State.{State, stateOf, capped, cleared, emptyTally, soundState, roomy, roomNumber, stateNumber, started}
 use Rattle.account.specs.Machine.{run, answers}
 use Rattle.account.specs.Taking.{frameOf, recordAnswer, recordStep, book, takeAnswer, takeStep}
-use Rattle.account.proofs.Accepted.{none-left}
 use Rattle.account.proofs.Kept.{Fine, Shaped, shaped-step, kept-step-in, empty-sound, length-cleared}
 use Rattle.account.proofs.Trace.{reached}
 
@@ -45,23 +44,6 @@ fine h v = record {
 }
 
 -- ---- a heading with a state that nothing refuses
-alone : (k : ℕ) → first (k ∷ []) ≡ k
-alone k = by-cases (same k 0)
-    (λ t. let z = same-true k 0 t in first-pass k [] z ∙ none-left ∙ sym z)
-    (λ t. first-stop k [] (same-false k 0 t))
-
-picked : (a b c : Bool) → numberIn {A = Unit {0}} (pick a (pick b (pick c (given tt) (refused 5)) (refused 4)) (refused 2)) ≡ 0
-    → _≡_ {A = Answered (Unit {0})} (pick a (pick b (pick c (given tt) (refused 5)) (refused 4)) (refused 2)) (given tt)
-unfolding pick numberIn
-picked true true true e = refl
-picked true true false e = absurd (omega arith)
-picked true false c e = absurd (omega arith)
-picked false b c e = absurd (omega arith)
-
-pub judged-given : (h : Heading) → numberIn (judged h) ≡ 0 → judged h ≡ given tt
-unfolding judged
-judged-given h e = picked _ _ _ e
-
 pub record Whole (h : Heading) (s : State) : Type 0 where
   pub room : roomy h (s .matrix) (s .rights) ≡ true
   pub heading : judged h ≡ given tt
@@ -87,8 +69,8 @@ whole-room h m r e =
 pub whole-none : (h : Heading) (s : State) → Whole h s → stateNumber h s ≡ 0
 unfolding stateNumber roomNumber
 whole-none h s w =
-    first-pass _ _ (first-pass _ _ (unless-true 20 _ (w .room)) ∙ first-pass _ _ (number-given _ tt (w .heading)) ∙ none-left)
-    ∙ first-pass _ _ (unless-true 6 _ (w .state)) ∙ none-left
+    first-pass _ _ (first-pass _ _ (unless-true 20 _ (w .room)) ∙ first-pass _ _ (number-given _ tt (w .heading)) ∙ first-none-left)
+    ∙ first-pass _ _ (unless-true 6 _ (w .state)) ∙ first-none-left
 
 -- room for the sums of a sound heading
 pub roomed : (h : Heading) (m r : List ℤ) → h .parameters ≤ 50 → roomy h m r ≡ true → (tri (h .parameters) ≤ length m) × (h .parameters ≤ length r)
@@ -139,7 +121,7 @@ module _ (h : Heading) (s : State) (v : Held h s) where
 module _ (h : Heading) (b : List ℕ) (s : State) (e : stateNumber h s ≡ 0) where
   pub take-answer : takeAnswer h b s ≡ recordAnswer (frameOf h) b s
   unfolding takeAnswer
-  take-answer = first-pass _ _ e ∙ alone (recordAnswer (frameOf h) b s)
+  take-answer = first-pass _ _ e ∙ first-one (recordAnswer (frameOf h) b s)
 
   pub take-step : takeStep h b s ≡ recordStep (frameOf h) b s
   unfolding takeStep recordStep

@@ -4,7 +4,6 @@ use Prim.Native.Nat.{ℕ, zero, suc, _≤_, _<_, zero-le}
 use mathlib.Core.Path.{_≡_, refl, sym, ap, _∙_}
 use mathlib.Core.Bool.{Bool, true, false, not, cond}
 use mathlib.Core.List.{List}
-use native.Mathlib.Nat.{le-refl}
 use native.Mathlib.Omega.{arith}
 use borrow.Author.Tests.{ltb-false, le-ltb, eqb-true, eq-eqb, not-true}
 use lib.Dec.{eqb}
@@ -14,15 +13,9 @@ use lib.Signed.{ltZ}
 use Rattle.whole.specs.Tests.{less, same, pick, below}
 use Rattle.whole.specs.Lists.{all}
 use Rattle.whole.proofs.Cases.{apart, by-cases, holds, at-once, at-last, not-less, less-false, is-upTo, upTo-true, both-first, both-second, yes, no}
-use Rattle.whole.proofs.Tables.{below-at}
+use Rattle.whole.proofs.Tables.{below-at, below-every}
 use Rattle.sums.specs.Sound.{entry, isZero, breaks, breaksSide}
 use Rattle.state.specs.State.{State, countOf, lastTimes, accepted, matrixTop, rightTop, squareTop, countsSound, rowsSound, tallySound, matrixSound, rightsSound, soundState}
-
--- ---- tests of each number below n
-pub below-all : (f : ℕ → Bool) (n : ℕ) → ((k : ℕ) → k < n → f k ≡ true) → below f n ≡ true
-unfolding below
-below-all f zero h = refl
-below-all f (suc n) h = sym (holds _ _ (h n (le-refl _)) (sym (below-all f n (λ k l. h k (omega arith)))))
 
 -- ---- one sum
 -- the judge's two tests of a bound
@@ -175,14 +168,14 @@ unfolding soundState tallySound countsSound rowsSound matrixSound rightsSound
 sound stations p s g =
     sym (holds _ _
     (sym (holds _ _
-    (below-all _ 16 (λ i h. is-upTo _ _ (by-cases (less i stations)
+    (below-every _ 16 (λ i h. is-upTo _ _ (by-cases (less i stations)
     (λ c. omega (arith, seats i stations c, g .counts i h))
     (λ c. let l : stations ≤ i = less-false _ _ c in omega (arith, g .past-counts i h l)))))
     (holds _ _
-    (below-all _ 16 (λ i h. by-cases (less i stations)
+    (below-every _ 16 (λ i h. by-cases (less i stations)
     (λ c. sym (at-once _ _ c))
     (λ c. sym (at-last (less i stations) _ c (sym (g .past-times i h (less-false _ _ c)))))))
     (sym (is-upTo _ _ (g .square))))))
     (holds _ _
-    (below-all _ p (λ j l. below-all _ (suc j) (λ i h. ap not (entry-sound _ _ i j (g .matrix i j (omega arith) l)))))
-    (sym (below-all _ p (λ i l. ap not (side-sound _ _ _ i (g .rights i l)))))))
+    (below-every _ p (λ j l. below-every _ (suc j) (λ i h. ap not (entry-sound _ _ i j (g .matrix i j (omega arith) l)))))
+    (sym (below-every _ p (λ i l. ap not (side-sound _ _ _ i (g .rights i l)))))))

@@ -27,7 +27,7 @@ use Rattle.units.specs.declared.Reading.{Reading}
 use Rattle.limits.specs.declared.Settings.{Settings}
 use lib.Ieee.{Float}
 use Rattle.units.specs.declared.Row.{Row}
-use Rattle.rules.specs.Rules.{sigmaOk, clockOk, timeOf, inWindow, passesEdit}
+use Rattle.rules.specs.Rules.{sigmaOk, clockOk, timeOf, passesEdit}
 use Rattle.records.specs.Record.{recordIn}
 use Rattle.records.specs.declared.Record.{Record}
 use Rattle.account.specs.Taking.{Frame, stationIn, placeOf, momentOf, stamp, columnOf, residualIn, residual, lengthTests, recordTests}

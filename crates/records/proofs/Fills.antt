@@ -1,12 +1,12 @@
 -- Room that is filled with a record's partials, one by one: what is left to fill makes the whole.
 -- Assumes nothing.
-use Prim.Native.Nat.{ℕ, zero, suc, _+_, _-_, _≤_, _<_, _^_}
-use mathlib.Core.Path.{_≡_, refl, sym, ap, _∙_}
-use mathlib.Core.List.{List, [], _∷_, _++_, append-nil}
+use Prim.Native.Nat.{ℕ, zero, suc, _+_, _-_, _≤_, _<_}
+use mathlib.Core.Path.{_≡_, refl, ap, _∙_}
+use mathlib.Core.List.{List, _++_, append-nil}
 use native.Mathlib.Omega.{arith}
 use native.Mathlib.Nat.{sub-zero}
 use lib.IntN.{ℤ}
-use lib.ListN.{length, set, drop, drop-of-length-le}
+use lib.ListN.{length, set, drop-of-length-le}
 use lib.Seq.{sets, sets-eq}
 use mir.Syntax.{w16}
 use Rattle.words.specs.Words.{signedWord}

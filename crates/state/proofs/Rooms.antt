@@ -9,15 +9,15 @@ use native.Mathlib.Omega.{arith}
 use lib.IntN.{ℤ, pos}
 use lib.ListN.{length, getD, take, drop, set, take-append-drop}
 use lib.Seq.{drop-cons, drop-set-lt, take-suc-set, append-snoc}
-use Rattle.whole.specs.Tests.{same, pick}
+use Rattle.whole.specs.Tests.{pick}
 use Rattle.whole.specs.Answer.{Answered, given, refused}
-use Rattle.whole.proofs.Cases.{yes, no, is-same, not-same, same-true, same-false, by-cases, both-first, both-second, upTo-true}
+use Rattle.whole.proofs.Cases.{yes, no, is-same, not-same, both-first, both-second, upTo-true}
 use Rattle.refusal.specs.Number.{numberOf}
-use Rattle.refusal.specs.First.{numberIn, first, answered}
+use Rattle.refusal.specs.First.{numberIn, answered}
 use Rattle.refusal.specs.declared.Refusal.{Refusal}
 use Rattle.refusal.specs.declared.Refusal.the-variants.{Room, Unsound}
 use Rattle.refusal.proofs.Apart.{not-none}
-use Rattle.refusal.proofs.Firsts.{unless-true, unless-false, unless-none, first-pass, first-none, first-by, answered-given, answered-refused, answered-by, number-given, number-refused}
+use Rattle.refusal.proofs.Firsts.{unless-true, unless-false, unless-none, first-pass, first-none, first-by, answered-given, answered-refused, answered-by, answered-is, answered-not, first-one}
 use Rattle.sums.specs.Triangle.{tri}
 use Rattle.heading.specs.Judge.{judged, toldVerdict}
 use Rattle.heading.specs.declared.Heading.{Heading}
@@ -28,29 +28,17 @@ use Rattle.state.specs.declared.Tally.{Tally}
 use Rattle.state.specs.State.{State, emptyTally, stateOf, cleared, soundState, roomy, roomNumber, stateNumber, started}
 
 -- ---- an answer and its number
-only : (k : ℕ) → first (k ∷ []) ≡ k
-unfolding first
-only k = by-cases (same k 0) (λ t. sym (yes _ _ _ t (same-true k 0 t))) (λ t. sym (no _ _ _ t refl))
-
 told : (v : Verdict) → toldVerdict v ≡ answered (numberIn (toldVerdict v)) tt
 unfolding numberIn
 told Verdicts.Sound = answered-given 0 tt refl
 told (Verdicts.Refused r) = answered-refused (numberOf r) tt (not-none r)
 
-number-back : (k : ℕ) → numberIn (answered {A = Unit {0}} k tt) ≡ k
-number-back k =
-    by-cases (same k 0)
-    (λ t. number-given _ tt (sym (answered-given k tt (same-true k 0 t))) ∙ sym (same-true k 0 t))
-    (λ t. number-refused _ k (sym (answered-refused k tt (same-false k 0 t))))
-
 -- what an answer says of its number
 pub by-given : (k : ℕ) → given (tt {0}) ≡ answered k (tt {0}) → k ≡ 0
-unfolding numberIn
-by-given k e = sym (number-back k) ∙ ap numberIn (sym e)
+by-given k e = answered-is k tt tt (sym e) .0
 
 pub by-refused : (n k : ℕ) → refused n ≡ answered k (tt {0}) → k ≡ n
-unfolding numberIn
-by-refused n k e = sym (number-back k) ∙ ap numberIn (sym e)
+by-refused n k e = answered-not k tt n (sym e)
 
 -- ---- room
 module _ (h : Heading) (m r : List ℤ) where
@@ -61,7 +49,7 @@ module _ (h : Heading) (m r : List ℤ) where
   pub room-judged : roomy h m r ≡ true → (v : Verdict) → toldVerdict v ≡ judged h → toldVerdict v ≡ answered (roomNumber h m r) (tt {0})
   unfolding roomNumber
   room-judged e v j =
-      told v ∙ ap (λ k. answered k tt) (ap numberIn j ∙ sym (first-pass _ _ (unless-true 20 _ e) ∙ only (numberIn (judged h))))
+      told v ∙ ap (λ k. answered k tt) (ap numberIn j ∙ sym (first-pass _ _ (unless-true 20 _ e) ∙ first-one (numberIn (judged h))))
 
 -- a test that a heading passed
 passed : (k : ℕ) → (k ≡ 0 → ⊥) → (b : Bool) (x : Answered (Unit {0})) → numberIn (pick b x (refused k)) ≡ 0 → (b ≡ true) × (numberIn x ≡ 0)
@@ -69,7 +57,7 @@ unfolding pick numberIn
 passed k more true x e = (refl, e)
 passed k more false x e = absurd (more e)
 
-judged-given : (h : Heading) → numberIn (judged h) ≡ 0 → judged h ≡ given tt
+pub judged-given : (h : Heading) → numberIn (judged h) ≡ 0 → judged h ≡ given tt
 unfolding judged
 judged-given h e =
     let a = passed 2 (λ z. omega arith) _ _ e in
@@ -88,7 +76,7 @@ unfolding roomNumber roomy
 roomed h m r e =
     let a = first-none _ _ e in
     let room = unless-none 20 _ (λ z. omega arith) (a .0) in
-    let s = sound h (judged-given h (sym (only _) ∙ a .1)) in
+    let s = sound h (judged-given h (sym (first-one _) ∙ a .1)) in
     let few : min (h .parameters) 50 ≡ h .parameters = omega (arith, s .few) in
     record {
       sound = s;
@@ -130,8 +118,8 @@ module _ (h : Heading) (s : State) where
   module _ (room : roomNumber h (s .matrix) (s .rights) ≡ 0) where
     pub state-unsound : soundState (h .stations) (h .parameters) s ≡ false → refused 6 ≡ answered (stateNumber h s) (tt {0})
     unfolding stateNumber
-    state-unsound e = answered-by _ tt Unsound (first-pass _ _ room ∙ only _ ∙ unless-false 6 _ e)
+    state-unsound e = answered-by _ tt Unsound (first-pass _ _ room ∙ first-one _ ∙ unless-false 6 _ e)
 
     pub state-sound : soundState (h .stations) (h .parameters) s ≡ true → given (tt {0}) ≡ answered (stateNumber h s) (tt {0})
     unfolding stateNumber
-    state-sound e = answered-given _ tt (first-pass _ _ room ∙ only _ ∙ unless-true 6 _ e)
+    state-sound e = answered-given _ tt (first-pass _ _ room ∙ first-one _ ∙ unless-true 6 _ e)

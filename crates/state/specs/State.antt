@@ -3,21 +3,17 @@
 use Prim.Native.Nat.{ℕ, suc, _+_, _*_, _^_, min}
 use mathlib.Core.List.{List, [], _∷_, _++_}
 use mathlib.Core.Bool.{Bool, not}
-use lib.IntN.{ℤ, pos, negℤ}
-use lib.Signed.{ltZ}
+use lib.IntN.{ℤ, pos}
 use lib.ListN.{length, getD, set, drop, replicate}
 use Rattle.whole.specs.Tests.{less, upTo, same, pick, both, either, below}
-use Rattle.whole.specs.Answer.{Answered}
 use Rattle.whole.specs.Lists.{all}
-use Rattle.refusal.specs.First.{unless, numberIn, first, answered}
+use Rattle.refusal.specs.First.{unless, numberIn, first}
 use Rattle.sums.specs.Triangle.{tri}
 use Rattle.sums.specs.Sound.{entry, isZero, breaks, breaksSide}
 use Rattle.heading.specs.Judge.{judged}
 use Rattle.heading.specs.declared.Heading.{Heading}
-use Rattle.heading.specs.declared.Verdict.{Verdict}
 use Rattle.state.specs.declared.Row.{Row}
 use Rattle.state.specs.declared.Tally.{Tally}
-use Rattle.state.specs.declared.Started.{Started}
 
 pub record State : Type 0 where
   pub matrix : List ℤ

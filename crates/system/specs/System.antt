@@ -1,7 +1,7 @@
 -- Document 01, 'Normal file': what a normal file holds, the limits and the order of its labels, and which sums are sound.
 use Prim.Native.Nat.{ℕ, zero, suc, _+_, _*_, _^_}
 use mathlib.Core.List.{List, [], _∷_}
-use mathlib.Core.Bool.{Bool, true, false}
+use mathlib.Core.Bool.{Bool, false}
 use lib.IntN.{ℤ, pos}
 use lib.ListN.{length}
 use Rattle.whole.specs.Tests.{less, upTo, same, pick, both, either, between}

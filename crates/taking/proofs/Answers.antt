@@ -8,7 +8,7 @@ use native.Mathlib.Omega.{arith}
 use lib.ListN.{length}
 use Rattle.whole.specs.Tests.{same, pick}
 use Rattle.whole.specs.Answer.{given, refused}
-use Rattle.whole.proofs.Cases.{yes, no, is-same, not-same, same-true, is-upTo, not-upTo, upTo-true}
+use Rattle.whole.proofs.Cases.{yes, no, is-same, not-same, is-upTo, not-upTo, upTo-true}
 use Rattle.refusal.specs.Number.{numberOf}
 use Rattle.refusal.specs.First.{unless, first, answered}
 use Rattle.refusal.specs.declared.Refusal.{Refusal}

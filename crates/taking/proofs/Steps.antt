@@ -29,7 +29,7 @@ use Rattle.judging.specs.declared.Fit.{Fit}
 use Rattle.judging.specs.declared.Terms.{Terms}
 use Rattle.account.specs.Taking.{Frame, frame, scaled, weightIn, stationTests, judgedBy, recordNumber, recordAnswer, matrixTerms, rightTerms, squareTerm, book, recordStep}
 use Rattle.account.proofs.Accepted as known
-use Rattle.account.proofs.Kept.{Fine, Shaped, step-keeps, shaped-step, kept-step, matrix-within, rights-within, square-fits}
+use Rattle.account.proofs.Kept.{Shaped, step-keeps, shaped-step, kept-step, matrix-within, rights-within, square-fits}
 use Rattle.taking.specs.Told.{Prepared}
 
 -- ---- three numbers in order, of which the first two are judged together

@@ -1,6 +1,6 @@
 -- Sums in room that is longer than they are: records are taken into the first part, and the rest is as it was.
 -- Assumes nothing.
-use Prim.Native.Nat.{ℕ, suc, _+_, _≤_, _<_}
+use Prim.Native.Nat.{ℕ, _+_, _≤_, _<_}
 use mathlib.Core.Path.{_≡_, refl, sym, ap, ap₂, _∙_, subst}
 use mathlib.Core.Bool.{true}
 use mathlib.Core.List.{List, [], _∷_, _++_, append-nil, append-assoc}
@@ -20,7 +20,7 @@ use Rattle.account.specs.Machine.{run, answers}
 use Rattle.account.specs.Taking.{Frame, matrixTerms, rightTerms, book, recordAnswer, recordStep}
 use Rattle.account.proofs.Accepted.{length-matrixTerms, length-rightTerms}
 use Rattle.account.proofs.Kept.{step-books, step-leaves, step-keeps}
-use Rattle.account.proofs.Parts.{Entry, Side, good, sound}
+use Rattle.account.proofs.Parts.{good, sound}
 
 -- a state with more room behind its sums
 unfoldable pub widened : List ℤ → List ℤ → State → State

@@ -1,9 +1,7 @@
 -- `judging::fit_listed` meets its contract: one step for each test.
 -- Assumes nothing.
 use mathlib.Core.Path.{_≡_, refl, sym, ap, _∙_}
-use mathlib.Core.Bool.{true, false}
-use native.Mathlib.Omega.{arith}
-use lib.IntN.{pos}
+use mathlib.Core.Bool.{true}
 use mir.Syntax.{w32, w64}
 use mir.ValLaws.{toZ-ofZ}
 use Rattle.whole.specs.Answer.{given}

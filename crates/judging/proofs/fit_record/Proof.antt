@@ -1,18 +1,13 @@
 -- `judging::fit_record` meets its contract: the station, the type, then the rest.
 -- Assumes nothing.
-use mathlib.Core.Path.{_≡_, refl, sym, ap, _∙_}
-use mathlib.Core.Bool.{true}
+use mathlib.Core.Path.{refl, sym, ap, _∙_}
 use native.Mathlib.Omega.{arith}
-use Prim.Native.Nat.{_<_}
-use lib.ListN.{length}
 use mir.Syntax.{w32}
 use mir.ValLaws.{toZ-ofZ}
-use Rattle.whole.specs.Answer.{given, refused}
-use Rattle.whole.proofs.Cases.{chosen}
-use Rattle.refusal.specs.First.{valueOr}
-use Rattle.heading.specs.Judge.{findFrom, toldFound}
-use Rattle.units.specs.Types.{isType, rowOf, rowAt, toldRow}
-use Rattle.account.specs.Taking.{frame, stationIn}
+use Rattle.whole.specs.Answer.{refused}
+use Rattle.heading.specs.Judge.{toldFound}
+use Rattle.units.specs.Types.{toldRow}
+use Rattle.account.specs.Taking.{frame}
 use Rattle.judging.proofs.Steps.{found-inside, row-found, row-none, station-is, type-is, no-station, no-type}
 use borrow.Author.Needs.{needs}
 use Rattle.judging.proofs.fit_record.Statement.{statement}

@@ -1,9 +1,7 @@
 -- `judging::fits` meets its contract.
 -- Assumes nothing.
-use mathlib.Core.Path.{_≡_, sym, _∙_}
+use mathlib.Core.Path.{sym, _∙_}
 use native.Mathlib.Omega.{arith}
-use Prim.Native.Nat.{_+_, _*_}
-use lib.ListN.{length}
 use Rattle.judging.proofs.Steps.{too-short, too-long, whole-fit}
 use borrow.Author.Needs.{needs}
 use Rattle.judging.proofs.fits.Statement.{statement}

@@ -1,7 +1,6 @@
 -- `judging::time_of` meets its contract.
 -- Assumes nothing.
 use mathlib.Core.Path.{_≡_, refl, sym, ap, _∙_}
-use mathlib.Core.Bool.{true, false}
 use native.Mathlib.Omega.{arith}
 use lib.IntN.{natAbs}
 use Prim.Native.Nat.{_≤_, _^_}
@@ -11,7 +10,7 @@ use Rattle.whole.specs.Answer.{given}
 use Rattle.whole.proofs.Ints.{fits-within}
 use mir.ValLaws.{toZ-ofZ}
 use Rattle.whole.proofs.Cases.{yes, no}
-use Rattle.rules.specs.Rules.{clockOk, timeOf, inWindow}
+use Rattle.rules.specs.Rules.{timeOf, inWindow}
 use Rattle.rules.proofs.Bounds.{window-above}
 use Rattle.judging.specs.Fit.{timed}
 use Rattle.judging.proofs.Steps.{clock-small, settings-window}

@@ -1,13 +1,13 @@
 -- `taking::add_record` meets its contract.
 -- Assumes nothing.
-use mathlib.Core.Path.{_≡_, sym, ap, ap₂, _∙_}
+use mathlib.Core.Path.{_≡_, ap, ap₂, _∙_}
 use native.Mathlib.Omega.{arith}
 use lib.IntN.{pos}
 use mir.Syntax.{w64}
 use mir.ValLaws.{toZ-ofZ}
 use lib.ListN.{length}
 use Rattle.whole.specs.Sums.{plus}
-use Rattle.sums.specs.Triangle.{times, triangle, tri}
+use Rattle.sums.specs.Triangle.{times, triangle}
 use Rattle.records.specs.Record.{partialsIn}
 use Rattle.account.proofs.Accepted.{length-partialsIn}
 use borrow.Author.Needs.{needs}

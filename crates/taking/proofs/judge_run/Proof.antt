@@ -1,6 +1,5 @@
 -- `taking::judge_run` meets its contract: one step for each refusal.
 -- Assumes nothing.
-use mathlib.Core.Path.{_≡_, sym, _∙_}
 use native.Mathlib.Omega.{arith}
 use native.Mathlib.Nat.{div-mul-le-self}
 use Prim.Native.Nat.{_+_, _*_, _/_, _≤_}

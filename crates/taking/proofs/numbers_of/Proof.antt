@@ -1,10 +1,10 @@
 -- `taking::numbers_of` meets its contract. The loop's invariant: what is left to copy makes the whole.
 -- Assumes nothing.
-use mathlib.Core.Path.{_≡_, refl, sym, ap, _∙_}
+use mathlib.Core.Path.{_≡_, refl, sym, _∙_}
 use native.Mathlib.Omega.{arith}
 use Prim.Native.Nat.{_-_, _≤_}
 use mathlib.Core.List.{map}
-use lib.ListN.{length, drop, set, length-set, length-map}
+use lib.ListN.{length, drop, length-set, length-map}
 use lib.Seq.{sets}
 use borrow.Author.Needs.{needs}
 use Rattle.heading.specs.Judge.{numbersOf}

@@ -1,6 +1,6 @@
 -- `taking::take` meets its contract: the state judged, then the record taken.
 -- Assumes nothing.
-use mathlib.Core.Path.{_≡_, sym, ap, _∙_}
+use mathlib.Core.Path.{sym, ap, _∙_}
 use Rattle.state.specs.State.{stateOf}
 use Rattle.refusal.specs.First.{answered}
 use Rattle.refusal.proofs.Firsts.{answered-by}

@@ -1,22 +1,21 @@
 -- `taking::take_all` meets its contract. The loop's invariant: what is left to take decides the end and the answers.
 -- Assumes nothing.
-use mathlib.Core.Path.{_≡_, refl, sym, ap, ap₂, _∙_}
+use mathlib.Core.Path.{_≡_, sym, ap, ap₂, _∙_}
 use native.Mathlib.Omega.{arith}
-use Prim.Native.Nat.{_+_, _*_, _/_, _≤_, _<_, _^_}
+use Prim.Native.Nat.{_+_, _*_, _/_, _≤_, _<_}
 use lib.IntN.{pos}
 use lib.ListN.{length, getD, set, take, drop}
 use mir.Syntax.{w64}
 use mir.Val.{Fits}
 use mir.ValLaws.{toZ-ofZ}
-use Rattle.whole.specs.Answer.{given, refused}
+use Rattle.whole.specs.Answer.{given}
 use Rattle.whole.specs.Sums.{plus}
-use Rattle.refusal.specs.Number.{numberOf}
 use Rattle.refusal.proofs.Apart.{not-none}
 use Rattle.sums.specs.Triangle.{times, triangle}
 use Rattle.records.specs.Record.{partialsIn}
 use Rattle.state.specs.State.{noRow, tallyWith}
 use Rattle.judging.specs.Fit.{fitted, judgedLate, toldFit, toldJudgement}
-use Rattle.account.specs.Taking.{frame, recordStep, recordAnswer}
+use Rattle.account.specs.Taking.{frame, recordStep}
 use Rattle.account.proofs.Kept.{step-books, step-leaves}
 use Rattle.taking.specs.Told.{runBy, answersBy}
 use Rattle.taking.proofs.Steps.{Ready, ready, fit-refused, late-refused, late-taken, booked, weight-small, side-small, square-small, seat-free, level-few, matrix-small, rights-small, square-room}

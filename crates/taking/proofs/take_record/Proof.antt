@@ -1,21 +1,20 @@
 -- `taking::take_record` meets its contract: judged, and where it is accepted, booked.
 -- Assumes nothing.
-use mathlib.Core.Path.{_≡_, refl, sym, ap, _∙_}
+use mathlib.Core.Path.{_≡_, sym, ap, _∙_}
 use native.Mathlib.Omega.{arith}
-use Prim.Native.Nat.{_+_, _≤_, _<_, _^_}
+use Prim.Native.Nat.{_+_, _<_}
 use lib.ListN.{length, getD, set}
 use mir.Syntax.{w64}
 use mir.ValLaws.{toZ-ofZ}
 use Rattle.whole.specs.Sums.{plus}
 use Rattle.sums.specs.Triangle.{times}
 use Rattle.records.specs.Record.{partialsIn}
-use Rattle.whole.specs.Answer.{given, refused}
-use Rattle.refusal.specs.Number.{numberOf}
+use Rattle.whole.specs.Answer.{given}
 use Rattle.refusal.proofs.Apart.{not-none}
 use Rattle.refusal.proofs.Firsts.{answered-given, answered-by}
-use Rattle.state.specs.State.{State, stateOf, noRow, tallyWith}
+use Rattle.state.specs.State.{stateOf, noRow, tallyWith}
 use Rattle.judging.specs.Fit.{fitted, judgedLate, toldFit, toldJudgement}
-use Rattle.account.specs.Taking.{Frame, frame, recordAnswer, recordStep}
+use Rattle.account.specs.Taking.{frame}
 use Rattle.account.proofs.Kept.{step-books, step-leaves}
 use Rattle.taking.proofs.Steps.{Ready, ready, fit-refused, late-refused, late-taken, booked, weight-small, side-small, square-small, seat-free, level-few, matrix-small, rights-small, square-room}
 use borrow.Author.Needs.{needs}

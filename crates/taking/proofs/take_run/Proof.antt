@@ -1,6 +1,6 @@
 -- `taking::take_run` meets its contract: the run judged, then taken.
 -- Assumes nothing.
-use mathlib.Core.Path.{_≡_, sym, _∙_}
+use mathlib.Core.Path.{sym, _∙_}
 use lib.ListN.{length}
 use Rattle.state.specs.State.{stateOf}
 use Rattle.refusal.proofs.Apart.{not-none}
