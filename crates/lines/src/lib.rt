@@ -5,14 +5,14 @@ use refusal::Refusal;
 ghost use Prim.Native.Nat.{_+_, _<_, _≤_, min};
 ghost use lib.ListN.{length};
 
-// The place after the line that a place is in: past its line end, or the text's end.
-pub fn next_line(text: &[u8], at: usize) -> usize
+// The place after the next mark at a place or after it, or the text's end.
+pub fn after(text: &[u8], at: usize, mark: u8) -> usize
     ensures within { λ r. ⌜ r ≤ length (now (text .entry)) ⌝ }
     ensures later { λ r. ⌜ min (at + 1) (length (now (text .entry))) ≤ r ⌝ }
 {
     let mut i = at;
     while i < text.len() {
-        if text[i] == b'\n' {
+        if text[i] == mark {
             return i + 1;
         }
         i += 1;
@@ -20,21 +20,69 @@ pub fn next_line(text: &[u8], at: usize) -> usize
     text.len()
 }
 
+// The place after the line that a place is in: past its line end, or the text's end.
+pub fn next_line(text: &[u8], at: usize) -> usize
+    ensures within { λ r. ⌜ r ≤ length (now (text .entry)) ⌝ }
+    ensures later { λ r. ⌜ min (at + 1) (length (now (text .entry))) ≤ r ⌝ }
+{
+    after(text, at, b'\n')
+}
+
+// The place where an item of a text begins, with items counted from 0 and a mark after each; the text's end where it
+// has fewer.
+pub fn item(text: &[u8], mark: u8, count: usize) -> usize {
+    let mut at: usize = 0;
+    let mut i: usize = 0;
+    while i < count {
+        at = after(text, at, mark);
+        i += 1;
+    }
+    at
+}
+
+// How many items a text has, with a mark between them; an empty one has none.
+pub fn items(text: &[u8], mark: u8) -> usize {
+    let mut at: usize = 0;
+    let mut n: usize = 0;
+    while at < text.len() {
+        at = after(text, at, mark);
+        n += 1;
+    }
+    n
+}
+
 // The place where a word of a line begins, with words counted from 0 and a space after each; the line's end where
 // it has fewer.
 pub fn word(line: &[u8], count: usize) -> usize {
-    let mut left = count;
-    let mut i: usize = 0;
+    item(line, b' ', count)
+}
+
+// The place where the word at a place ends: before a space or the line's end.
+pub fn word_end(line: &[u8], at: usize) -> usize {
+    let mut i = at;
     while i < line.len() {
-        if left == 0 {
+        if line[i] <= b' ' {
             return i;
-        }
-        if line[i] == b' ' {
-            left -= 1;
         }
         i += 1;
     }
     i
+}
+
+// The text from a place to another, or nothing where there is no such part.
+pub fn part(text: &[u8], from: usize, to: usize) -> &[u8] {
+    if to <= text.len() {
+        if from <= to {
+            return &text[from..to];
+        }
+    }
+    &text[0..0]
+}
+
+// What stands after the `=` of a line's word.
+pub fn value(line: &[u8], count: usize) -> &[u8] {
+    let from = after(line, word(line, count), b'=');
+    part(line, from, word_end(line, from))
 }
 
 // The byte at a place, or 0 past the end.
@@ -151,14 +199,27 @@ pub fn signed_at(text: &[u8], at: usize) -> i64 {
     plus(decimal_at(text, at))
 }
 
-// The number that a word of a line is, or the largest of 32 bits where it is too large.
-pub fn small(line: &[u8], count: usize) -> u32 {
-    let value = decimal_at(line, word(line, count));
+// A number, or the largest of 16 bits where it is too large.
+pub fn as_u16(value: u64) -> u16 {
+    if value < 65536 {
+        value as u16
+    } else {
+        u16::MAX
+    }
+}
+
+// A number, or the largest of 32 bits where it is too large.
+pub fn as_u32(value: u64) -> u32 {
     if value < 4_294_967_296 {
         value as u32
     } else {
         u32::MAX
     }
+}
+
+// The number that a word of a line is, or the largest of 32 bits where it is too large.
+pub fn small(line: &[u8], count: usize) -> u32 {
+    as_u32(decimal_at(line, word(line, count)))
 }
 
 // Writes bytes to standard output.

@@ -1,15 +1,15 @@
--- `lines::next_line` meets its contract. The loop's place is never before the first. Assumes nothing.
+-- `lines::after` meets its contract. The loop's place is never before the first. Assumes nothing.
 use Prim.Native.Nat.{_≤_, _-_}
 use borrow.Author.Needs.{needs}
 use lib.ListN.{length}
-use Rattle.lines.proofs.next_line.Statement.{statement}
-use Rattle.lines.proofs.next_line.Tie as tie
+use Rattle.lines.proofs.after.Statement.{statement}
+use Rattle.lines.proofs.after.Tie as tie
 
 abbrev Inv-loop : tie.InvT-loop
-Inv-loop text at i₀ i = at ≤ i
+Inv-loop text at mark i₀ i = at ≤ i
 
 abbrev μ-loop : tie.MeasureT-loop
-μ-loop text at i₀ i = length text - i
+μ-loop text at mark i₀ i = length text - i
 
 loop-holds : tie.Need-loop-holds Inv-loop μ-loop
 loop-holds c = search needs
@@ -35,8 +35,8 @@ loop-again c = search needs
 returns-2 : tie.Need-returns-2 Inv-loop μ-loop
 returns-2 c = search needs
 
-pub next-line-spec : {M : Type 1} → statement M
-next-line-spec =
+pub after-spec : {M : Type 1} → statement M
+after-spec =
     tie.close
     (tie.spec
     Inv-loop

@@ -1,27 +1,25 @@
--- `lines::word` is safe and ends. The measure is what is left of the line. Assumes nothing.
-use Prim.Native.Nat.{_-_}
+-- `lines::word_end` is safe and ends.
+-- Assumes nothing.
 use borrow.Author.Needs.{needs}
+use Prim.Native.Nat.{_-_}
 use lib.ListN.{length}
-use Rattle.lines.proofs.word.Statement.{statement}
-use Rattle.lines.proofs.word.Tie as tie
+use Rattle.lines.proofs.word_end.Statement.{statement}
+use Rattle.lines.proofs.word_end.Tie as tie
 
 abbrev Inv-loop : tie.InvT-loop
-Inv-loop line count left₀ i₀ left i = Unit {0}
+Inv-loop line at i₀ i = Unit {0}
 
 abbrev μ-loop : tie.MeasureT-loop
-μ-loop line count left₀ i₀ left i = length line - i
+μ-loop line at i₀ i = length line - i
 
 loop-holds : tie.Need-loop-holds Inv-loop μ-loop
 loop-holds c = search needs
 
+shared-slice-read-if1 : tie.Need-shared-slice-read-if1 Inv-loop μ-loop
+shared-slice-read-if1 c = search needs
+
 returns : tie.Need-returns Inv-loop μ-loop
 returns c = search needs
-
-shared-slice-read-if2 : tie.Need-shared-slice-read-if2 Inv-loop μ-loop
-shared-slice-read-if2 c = search needs
-
-sub-left : tie.Need-sub-left Inv-loop μ-loop
-sub-left c = search needs
 
 add-i : tie.Need-add-i Inv-loop μ-loop
 add-i c = search needs
@@ -35,16 +33,15 @@ loop-again c = search needs
 returns-2 : tie.Need-returns-2 Inv-loop μ-loop
 returns-2 c = search needs
 
-pub word-spec : {M : Type 1} → statement M
-word-spec =
+pub word-end-spec : {M : Type 1} → statement M
+word-end-spec =
     tie.close
     (tie.spec
     Inv-loop
     μ-loop
     loop-holds
+    shared-slice-read-if1
     returns
-    shared-slice-read-if2
-    sub-left
     add-i
     loop-less
     loop-again

@@ -1,0 +1,57 @@
+-- `takes_run::labels_of` is safe and ends.
+-- Assumes nothing.
+use borrow.Author.Needs.{needs}
+use Prim.Native.Nat.{_≤_, _-_}
+use mathlib.Core.Path.{_≡_}
+use lib.ListN.{length}
+use Rattle.takes_run.proofs.labels_of.Statement.{statement}
+use Rattle.takes_run.proofs.labels_of.Tie as tie
+
+abbrev Inv-loop : tie.InvT-loop
+Inv-loop text a₀ i₀ at₀ a i at = (i ≤ 50) × (length a ≡ 50)
+
+abbrev μ-loop : tie.MeasureT-loop
+μ-loop text a₀ i₀ at₀ a i at = 50 - i
+
+loop-holds : tie.Need-loop-holds Inv-loop μ-loop
+loop-holds c = search needs
+
+label-at-requires : tie.Need-label-at-requires Inv-loop μ-loop
+label-at-requires c κs = search needs
+
+mul-a : tie.Need-mul-a Inv-loop μ-loop
+mul-a c = search needs
+
+array-set-from-a : tie.Need-array-set-from-a Inv-loop μ-loop
+array-set-from-a c = search needs
+
+after-requires : tie.Need-after-requires Inv-loop μ-loop
+after-requires c κs = search needs
+
+add-i : tie.Need-add-i Inv-loop μ-loop
+add-i c = search needs
+
+loop-less : tie.Need-loop-less Inv-loop μ-loop
+loop-less c = search needs
+
+loop-again : tie.Need-loop-again Inv-loop μ-loop
+loop-again c = search needs
+
+returns : tie.Need-returns Inv-loop μ-loop
+returns c = search needs
+
+pub labels-of-spec : {M : Type 1} → statement M
+labels-of-spec =
+    tie.close
+    (tie.spec
+    Inv-loop
+    μ-loop
+    loop-holds
+    label-at-requires
+    mul-a
+    array-set-from-a
+    after-requires
+    add-i
+    loop-less
+    loop-again
+    returns)

@@ -1,0 +1,63 @@
+-- `takes_run::put_counts` is safe and ends.
+-- Assumes nothing.
+use borrow.Author.Needs.{needs}
+use Prim.Native.Nat.{_≤_, _-_}
+use Rattle.takes_run.proofs.put_counts.Statement.{statement}
+use Rattle.takes_run.proofs.put_counts.Tie as tie
+
+abbrev Inv-loop : tie.InvT-loop
+Inv-loop counts i₀ t4 i = i ≤ 16
+
+abbrev μ-loop : tie.MeasureT-loop
+μ-loop counts i₀ t4 i = 16 - i
+
+loop-holds : tie.Need-loop-holds Inv-loop μ-loop
+loop-holds c = search needs
+
+put-comma-requires : tie.Need-put-comma-requires Inv-loop μ-loop
+put-comma-requires c κs = search needs
+
+mul-put-number : tie.Need-mul-put-number Inv-loop μ-loop
+mul-put-number c = search needs
+
+array-read-put-number : tie.Need-array-read-put-number Inv-loop μ-loop
+array-read-put-number c = search needs
+
+cast-put-number : tie.Need-cast-put-number Inv-loop μ-loop
+cast-put-number c = search needs
+
+slice-aggregate-put-number : tie.Need-slice-aggregate-put-number Inv-loop μ-loop
+slice-aggregate-put-number c = search needs
+
+put-number-requires : tie.Need-put-number-requires Inv-loop μ-loop
+put-number-requires c κs = search needs
+
+add-i : tie.Need-add-i Inv-loop μ-loop
+add-i c = search needs
+
+loop-less : tie.Need-loop-less Inv-loop μ-loop
+loop-less c = search needs
+
+loop-again : tie.Need-loop-again Inv-loop μ-loop
+loop-again c = search needs
+
+returns : tie.Need-returns Inv-loop μ-loop
+returns c = search needs
+
+pub put-counts-spec : {M : Type 1} → statement M
+put-counts-spec =
+    tie.close
+    (tie.spec
+    Inv-loop
+    μ-loop
+    loop-holds
+    put-comma-requires
+    mul-put-number
+    array-read-put-number
+    cast-put-number
+    slice-aggregate-put-number
+    put-number-requires
+    add-i
+    loop-less
+    loop-again
+    returns)
