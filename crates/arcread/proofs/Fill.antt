@@ -2,7 +2,7 @@
 -- kind of record.
 -- Assumes nothing.
 use Prim.Native.Nat.{ℕ, zero, suc, _+_, _-_, _≤_, _<_}
-use mathlib.Core.Path.{_≡_, refl, sym, ap, _∙_}
+use mathlib.Core.Path.{_≡_, sym, ap, _∙_}
 use mathlib.Core.List.{List, _++_}
 use native.Mathlib.Omega.{arith}
 use native.Mathlib.Nat.{sub-zero, zero-sub, zero-add, suc-sub-suc}
@@ -12,28 +12,9 @@ use lib.Seq.{sets, sets-eq}
 use Rattle.whole.specs.Answer.{Judged, good, bad}
 use Rattle.section.specs.Section.{Kind, Run, andThen, judgedAt, records}
 use Rattle.section.proofs.Walk.{records-end, records-good, records-bad, records-next}
+use Rattle.section.proofs.Chains.{then-made, then-same}
 use Rattle.arcread.specs.Arc.{padded}
 use Rattle.arcread.specs.Parts.{Slots, slotted}
-
--- ---- parts that follow one another
--- a part after two
-pub then-then : {A B C : Type 0} (j : Judged A) (f : A → Judged B) (g : B → Judged C)
-    → andThen (andThen j f) g ≡ andThen j (λ a. andThen (f a) g)
-unfolding andThen
-then-then (good a) f g = refl
-then-then (bad number place) f g = refl
-
--- a part after one that only makes something else of what was read
-pub then-made : {A B C : Type 0} (j : Judged A) (f : A → B) (g : B → Judged C) → andThen (andThen j (λ a. good (f a))) g ≡ andThen j (λ a. g (f a))
-unfolding andThen
-then-made (good a) f g = refl
-then-made (bad number place) f g = refl
-
--- two that do the same with what was read
-pub then-same : {A B : Type 0} (j : Judged A) (f g : A → Judged B) → ((a : A) → j ≡ good a → f a ≡ g a) → andThen j f ≡ andThen j g
-unfolding andThen
-then-same (good a) f g h = h a refl
-then-same (bad number place) f g h = refl
 
 -- ---- an array of one filling
 drop-replicate : {A : Type 0} (k n : ℕ) (d : A) → drop k (replicate n d) ≡ replicate (n - k) d

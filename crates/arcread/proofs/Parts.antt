@@ -12,6 +12,7 @@ use Rattle.refusal.specs.Number.{numberOf}
 use Rattle.refusal.specs.declared.Refusal.{Refusal}
 use Rattle.section.specs.Section.{Kind, Run, andThen, countAt, judgedAt, records, sectionAt, closed}
 use Rattle.section.proofs.Walk.{good-same, then-good, then-bad, then-read, counted, records-next}
+use Rattle.section.proofs.Chains.{then-then, then-made, then-same}
 use Rattle.limits.specs.declared.Settings.{Settings}
 use Rattle.limits.specs.declared.Label.{Label}
 use Rattle.heading.specs.declared.Heading.{Heading}
@@ -22,7 +23,6 @@ use Rattle.arcread.specs.declared.ReadAnswer.the-variants as Answers
 use Rattle.arcread.specs.declared.SectionAnswer.{SectionAnswer}
 use Rattle.arcread.specs.declared.SectionAnswer.the-variants as SectionAnswers
 use Rattle.arcread.specs.declared.HeadingRead.{HeadingRead}
-use Rattle.arcread.proofs.Fill.{then-then, then-made, then-same}
 
 -- ---- what the answers say
 module _ {A : Type 0} (a : SectionAnswer) (l : List A) where

@@ -3,7 +3,7 @@
 use Prim.Native.Nat.{ℕ, _+_, _-_, _*_, _%_, _^_, _≤_, _<_, zero-le}
 use mathlib.Core.Path.{_≡_, refl, sym, ap, ap₂, _∙_}
 use mathlib.Core.List.{List, [], _∷_, _++_, append-assoc, append-nil}
-use mathlib.Core.Bool.{Bool, true}
+use mathlib.Core.Bool.{true}
 use native.Mathlib.Omega.{arith}
 use native.Mathlib.Nat.{div-add-mod', le-refl, add-zero}
 use lib.ListN.{length, drop, length-append}
@@ -11,14 +11,14 @@ use lib.Seq.{length-take-le, drop-at}
 use mir.Syntax.{w64}
 use mir.Val.{SFits}
 use Rattle.whole.specs.Answer.{given, good}
-use Rattle.whole.specs.Lists.{all, ascend}
-use Rattle.whole.proofs.Cases.{no, holds, is-upTo, is-between, not-less, upTo-true, both-first, both-second}
+use Rattle.whole.proofs.Cases.{no, holds, is-upTo, is-between, not-less}
 use Rattle.words.specs.Words.{bytesOf}
 use Rattle.words.proofs.Words.{length-bytesOf}
 use Rattle.section.specs.Section.{Kind, Run, sectionAt, closed, encoded}
 use Rattle.section.proofs.Walk.{then-good}
-use Rattle.section.proofs.Trips.{Chain, length-encoded, section-back}
+use Rattle.section.proofs.Trips.{Chain, length-encoded}
 use Rattle.section.proofs.Read.{Each, section-room}
+use Rattle.section.proofs.Written.{each-of, each-both, chain, section-at}
 use Rattle.limits.specs.Limits.{settingsOk, labelOk, stationOk}
 use Rattle.heading.specs.Judge.{labelsOf, stationsOf, countsOk, judged}
 use Rattle.limits.specs.declared.Settings.{Settings}
@@ -32,36 +32,7 @@ use Rattle.arcwrite.specs.Write.{recordsIn, arcBytes}
 use Rattle.arcwrite.proofs.Laws.{arc-long}
 use Rattle.arcwrite.proofs.Records.{length-settings, length-label, length-station, settings-back, label-back, station-back}
 
--- ---- lists of records that may stand in a section
-each-of : {A : Type 0} (f : A → Bool) (l : List A) → all f l ≡ true → Each (λ a. f a ≡ true) l
-unfolding all
-each-of f [] e = tt
-each-of f (a ∷ l) e = (both-first _ _ e, each-of f l (both-second _ _ e))
-
-each-both : {A : Type 0} (P Q : A → Type 0) (l : List A) → Each P l → Each Q l → Each (λ a. P a × Q a) l
-each-both P Q [] p q = tt
-each-both P Q (a ∷ l) p q = ((p .0, q .0), each-both P Q l (p .1) (q .1))
-
-module _ {A : Type 0} (K : Kind A) (bytes : A → List ℕ) (Held : A → Type 0) where
-  chain : ((a : A) → K .after a ≡ K .key a + 1) → (floor : ℕ) (l : List A) → Each Held l → ascend (K .key) floor l ≡ true → Chain K bytes Held floor l
-  unfolding ascend
-  chain h floor [] p e = tt
-  chain h floor (a ∷ l) p e =
-      (p .0, (upTo-true _ _ (both-first _ _ e), chain h (K .after a) l (p .1) (ap (λ f. ascend (K .key) f l) (h a) ∙ both-second _ _ e)))
-
-  -- a section at a place of a list
-  module _
-      (long : (a : A) → length (bytes a) ≡ K .size)
-      (back : (p : List ℕ) (a : A) (r : List ℕ) → Held a
-      → (K .decode (p ++ (bytes a ++ r)) (length p) ≡ a) × (K .fieldsOk (p ++ (bytes a ++ r)) (length p) ≡ true))
-    where
-      section-at : (l : List A) (p r s : List ℕ) (at low high : ℕ) → s ≡ p ++ (bytesOf 4 (length l) ++ (encoded bytes l ++ r)) → length p ≡ at
-          → Chain K bytes Held 0 l → low ≤ length l → length l ≤ high → length l < 256 ^ 4
-          → sectionAt K s low high at ≡ good (record { items = l; next = at + 4 + length l * K .size })
-      section-at l p r s at low high e m c from to small =
-          rw (e, ← m) (section-back K bytes Held long back l p r low high c from to small)
-
--- a run of whole records at a place of a list
+-- ---- a run of whole records at a place of a list
 room-at : {A : Type 0} (K : Kind A) → ((s : List ℕ) (at : ℕ) → K .fieldsOk s at ≡ true) → ((a : A) → K .after a ≡ 0) → (p t s : List ℕ) (at n low high : ℕ)
     → s ≡ p ++ (bytesOf 4 n ++ t) → length p ≡ at → n < 256 ^ 4 → low ≤ n → n ≤ high → length t ≡ n * K .size
     → (r : Run A) × (sectionAt K s low high at ≡ good r) × (length (r .items) ≡ n) × (r .next ≡ length s)

@@ -5,15 +5,14 @@ use mathlib.Core.Path.{_≡_, refl, sym, ap, _∙_}
 use mathlib.Core.List.{List, _++_, append-assoc}
 use mathlib.Core.Bool.{true}
 use native.Mathlib.Omega.{arith}
-use native.Mathlib.Nat.{add-zero}
-use lib.IntN.{ℤ}
 use lib.ListN.{length, take, drop, length-append}
-use mir.Syntax.{Width, w32, w64}
-use mir.Val.{SFits, bytes}
+use mir.Syntax.{w32, w64}
+use mir.Val.{SFits}
 use Rattle.whole.proofs.Cases.{holds, is-same, same-true, both-first}
 use Rattle.words.specs.Words.{word, bytesOf, signedWord, signedBytes}
 use Rattle.words.proofs.Words.{Bytes, length-bytesOf, word-after, word-bytesOf}
-use Rattle.words.proofs.Parts.{word-past, signed-back, word-forth, signed-forth, parts-join}
+use Rattle.words.proofs.Parts.{signed-back, word-forth, signed-forth, parts-join}
+use Rattle.words.proofs.Written.{length-signed, word-first, word-beside}
 use Rattle.limits.specs.Limits.{settingsOk, labelOk, stationOk}
 use Rattle.limits.specs.declared.Settings.{Settings}
 use Rattle.limits.specs.declared.Label.{Label}
@@ -26,10 +25,6 @@ pub length-settings : (a : Settings) → length (settingsBytes a) ≡ 12
 unfolding settingsBytes
 length-settings a = simp (length-append, length-bytesOf)
 
-length-signed : (w : Width) (z : ℤ) → length (signedBytes w z) ≡ bytes w
-unfolding signedBytes
-length-signed w z = length-bytesOf _ _
-
 pub length-label : (l : Label) → length (labelBytes l) ≡ 16
 unfolding labelBytes
 length-label l = simp (length-append, length-bytesOf, length-signed)
@@ -39,13 +34,6 @@ unfolding stationBytes
 length-station t = simp (length-append, length-bytesOf, length-signed)
 
 -- ---- written, then read: a record within its limits, an estimate of 64 bits
-word-first : (k : ℕ) (p s : List ℕ) → word k (p ++ s) (length p) ≡ word k s 0
-word-first k p s = let z : length p + 0 ≡ length p = add-zero (length p) in rw z at (word-after k p s 0)
-
--- a word after a word of m bytes
-past : (k m n : ℕ) (s : List ℕ) (j : ℕ) → word k (bytesOf m n ++ s) (m + j) ≡ word k s j
-past k m n s j = word-past k (bytesOf m n) s m j (length-bytesOf m n)
-
 settings-here : (a : Settings) (r : List ℕ) → settingsOk a ≡ true → settingsAt (settingsBytes a ++ r) 0 ≡ a
 unfolding settingsAt settingsBytes
 settings-here a r ok =
@@ -55,9 +43,9 @@ settings-here a r ok =
     let x2 = bytesOf 4 (a .first) ++ x3 in
     let s = bytesOf 4 (a .arc) ++ x2 in
     let e1 : word 4 s 0 ≡ a .arc = word-bytesOf 4 _ _ (h .arc) in
-    let e2 : word 4 s 4 ≡ a .first = past 4 4 _ x2 0 ∙ word-bytesOf 4 _ _ (h .first) in
-    let e3 : word 2 s 8 ≡ a .days = past 2 4 _ x2 4 ∙ past 2 4 _ x3 0 ∙ word-bytesOf 2 _ _ (h .days) in
-    let e4 : word 2 s 10 ≡ a .level = past 2 4 _ x2 6 ∙ past 2 4 _ x3 2 ∙ past 2 2 _ x4 0 ∙ word-bytesOf 2 _ _ (h .level) in
+    let e2 : word 4 s 4 ≡ a .first = word-beside 4 4 _ x2 0 ∙ word-bytesOf 4 _ _ (h .first) in
+    let e3 : word 2 s 8 ≡ a .days = word-beside 2 4 _ x2 4 ∙ word-beside 2 4 _ x3 0 ∙ word-bytesOf 2 _ _ (h .days) in
+    let e4 : word 2 s 10 ≡ a .level = word-beside 2 4 _ x2 6 ∙ word-beside 2 4 _ x3 2 ∙ word-beside 2 2 _ x4 0 ∙ word-bytesOf 2 _ _ (h .level) in
     simp (append-assoc, e1, e2, e3, e4)
 
 pub settings-back : (p : List ℕ) (a : Settings) (r : List ℕ) → settingsOk a ≡ true
@@ -76,9 +64,9 @@ label-here l r ok f =
     let x2 = bytesOf 2 (l .index) ++ x3 in
     let s = bytesOf 2 (l .kind) ++ x2 in
     let e1 : word 2 s 0 ≡ l .kind = word-bytesOf 2 _ _ (h .kind) in
-    let e2 : word 2 s 2 ≡ l .index = past 2 2 _ x2 0 ∙ word-bytesOf 2 _ _ (h .index) in
-    let e3 : word 4 s 4 ≡ l .weight = past 4 2 _ x2 2 ∙ past 4 2 _ x3 0 ∙ word-bytesOf 4 _ _ (h .weight) in
-    let e4 : word 8 s 8 ≡ word 8 x4 0 = past 8 2 _ x2 6 ∙ past 8 2 _ x3 4 ∙ past 8 4 _ x4 0 in
+    let e2 : word 2 s 2 ≡ l .index = word-beside 2 2 _ x2 0 ∙ word-bytesOf 2 _ _ (h .index) in
+    let e3 : word 4 s 4 ≡ l .weight = word-beside 4 2 _ x2 2 ∙ word-beside 4 2 _ x3 0 ∙ word-bytesOf 4 _ _ (h .weight) in
+    let e4 : word 8 s 8 ≡ word 8 x4 0 = word-beside 8 2 _ x2 6 ∙ word-beside 8 2 _ x3 4 ∙ word-beside 8 4 _ x4 0 in
     simp (append-assoc, e1, e2, e3, e4, signed-back w64 (l .estimate) r f)
 
 pub label-back : (p : List ℕ) (l : Label) (r : List ℕ) → (labelOk l ≡ true) × SFits w64 (l .estimate)
@@ -96,8 +84,8 @@ station-here t r ok =
     let x2 = bytesOf 2 0 ++ x3 in
     let s = bytesOf 2 (t .number) ++ x2 in
     let e1 : word 2 s 0 ≡ t .number = word-bytesOf 2 _ _ (h .number) in
-    let e2 : word 2 s 2 ≡ 0 = past 2 2 _ x2 0 ∙ word-bytesOf 2 0 x3 (omega arith) in
-    let e3 : word 4 s 4 ≡ word 4 x3 0 = past 4 2 _ x2 2 ∙ past 4 2 _ x3 0 in
+    let e2 : word 2 s 2 ≡ 0 = word-beside 2 2 _ x2 0 ∙ word-bytesOf 2 0 x3 (omega arith) in
+    let e3 : word 4 s 4 ≡ word 4 x3 0 = word-beside 4 2 _ x2 2 ∙ word-beside 4 2 _ x3 0 in
     (simp (append-assoc, e1, e3, signed-back w32 (t .correction) r (h .correction)), simp (append-assoc, e2))
 
 pub station-back : (p : List ℕ) (t : Station) (r : List ℕ) → stationOk t ≡ true

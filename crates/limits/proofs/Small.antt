@@ -33,7 +33,7 @@ settings-small a e =
     let f = upTo-true _ _ (both-second _ _ (both-second _ _ w)) in
     record { arc = omega arith; first = omega arith; days = omega arith; level = omega arith }
 
-index-small : (kind index : ℕ) → indexOk kind index ≡ true → (kind < 5) × (index < 3000)
+pub index-small : (kind index : ℕ) → indexOk kind index ≡ true → (kind < 5) × (index < 3000)
 unfolding indexOk isParameter
 index-small kind index e =
     by-cases (same kind 1)

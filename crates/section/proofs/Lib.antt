@@ -2,3 +2,5 @@ pub mod Walk
 pub mod Trips
 pub mod Read
 pub mod Prefix
+pub mod Chains
+pub mod Written

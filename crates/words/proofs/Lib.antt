@@ -1,3 +1,4 @@
 pub mod Words
 pub mod Signs
 pub mod Parts
+pub mod Written

@@ -1,0 +1,30 @@
+-- `system::label_ok` meets its contract.
+-- Assumes nothing.
+use native.Mathlib.Omega.{arith}
+use Rattle.whole.proofs.Cases.{holds, fails, is-upTo, not-upTo}
+use Rattle.system.specs.System.{normalLabelOk}
+use borrow.Author.Needs.{needs}
+use Rattle.system.proofs.label_ok.Statement.{statement}
+use Rattle.system.proofs.label_ok.Tie as tie
+
+returns : tie.Need-returns
+unfolding normalLabelOk
+returns c = fails _ _ (not-upTo _ _ (omega arith))
+
+index-ok-requires : tie.Need-index-ok-requires
+index-ok-requires c κs = search needs
+
+arc-fits-requires : tie.Need-arc-fits-requires
+arc-fits-requires c κs = search needs
+
+returns-2 : tie.Need-returns-2
+unfolding normalLabelOk
+returns-2 c = holds _ _ (is-upTo _ _ (omega arith)) (holds _ _ (cc) (c .arc-fits .ensures))
+
+returns-3 : tie.Need-returns-3
+unfolding normalLabelOk
+returns-3 c = holds _ _ (is-upTo _ _ (omega arith)) (fails _ _ (cc))
+
+pub label-ok-spec : {M : Type 1} → statement M
+label-ok-spec =
+    tie.close (tie.spec returns index-ok-requires arc-fits-requires returns-2 returns-3)
