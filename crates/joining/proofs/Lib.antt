@@ -1,0 +1,6 @@
+pub mod Union
+pub mod Seats
+pub mod Shared
+pub mod Joining
+pub mod Places
+pub mod Alike

@@ -1,0 +1,86 @@
+-- How the code's answers meet the definitions, one step for each test: a number or a label of the first list or of the second, and whether
+-- two labels agree. And what is left of a loop that fills a room.
+-- Assumes nothing.
+use mathlib.Core.Path.{_≡_, refl, sym, ap, _∙_, subst}
+use mathlib.Core.List.{List}
+use mathlib.Core.Bool.{Bool, true, false, not}
+use Prim.Native.Nat.{ℕ, _+_, _-_, _*_, _^_, _≤_, _<_}
+use native.Mathlib.Nat.{sub-zero}
+use lib.Dec.{eqb}
+use lib.IntN.{ℤ}
+use lib.ListN.{length, getD, set}
+use mir.Syntax.{w64}
+use mir.Val.{SFits, ofZ}
+use Rattle.whole.specs.Tests.{less}
+use Rattle.whole.proofs.Cases.{yes, no, fails, holds, at-once, at-last, is-less, not-less, is-same, not-same, less-true, less-false, by-cases}
+use Rattle.words.specs.Words.{word, signedWord, lay}
+use Rattle.system.specs.declared.NormalLabel.{NormalLabel}
+use Rattle.normwalk.specs.Walk.{stands}
+use Rattle.normread.specs.Kinds.{normalLabelAt}
+use Rattle.normread.proofs.Loops.{put-end, put-turn}
+use Rattle.joining.specs.Alike.{equal, alike}
+use Rattle.joining.proofs.Alike.{equal-bits}
+use Rattle.mergeheads.specs.Heads.{numberIn, labelIn, agreeIn, Short}
+
+-- ---- a number of the one list or of the other
+module _ (xs ys : List ℕ) (p q : ℕ) where
+  pub number-first : p < length xs → getD xs p 0 ≡ numberIn xs ys p q
+  unfolding numberIn
+  number-first h = yes _ _ _ (is-less p (length xs) h) refl
+
+  pub number-second : length xs ≤ p → getD ys q 0 ≡ numberIn xs ys p q
+  unfolding numberIn
+  number-second h = no _ _ _ (not-less p (length xs) h) refl
+
+  pub number-short : Short xs → Short ys → numberIn xs ys p q < 256 ^ 4
+  number-short a b =
+      by-cases (less p (length xs))
+      (λ t. subst (λ n. n < 256 ^ 4) (number-first (less-true p (length xs) t)) (a p))
+      (λ t. subst (λ n. n < 256 ^ 4) (number-second (less-false p (length xs) t)) (b q))
+
+-- ---- a label of the one file or of the other
+module _ (a : List ℕ) (start n : ℕ) (b : List ℕ) (begin p q : ℕ) {l : NormalLabel} where
+  pub label-first : p < n → l ≡ normalLabelAt a (start + 24 * p) → l ≡ labelIn a start n b begin p q
+  unfolding labelIn
+  label-first h e = yes _ _ _ (is-less p n h) e
+
+  pub label-second : n ≤ p → l ≡ normalLabelAt b (begin + 24 * q) → l ≡ labelIn a start n b begin p q
+  unfolding labelIn
+  label-second h e = no _ _ _ (not-less p n h) e
+
+-- ---- two labels
+module _ (a : List ℕ) (p : ℕ) (b : List ℕ) (q : ℕ) where
+  pub weights-differ : (word 4 a (p + 8) ≡ word 4 b (q + 8) → ⊥) → false ≡ alike (normalLabelAt a p) (normalLabelAt b q)
+  unfolding alike normalLabelAt
+  weights-differ e = fails _ _ (not-same _ _ e)
+
+  pub estimates-tell : (x y : ℤ) → word 4 a (p + 8) ≡ word 4 b (q + 8) → x ≡ signedWord w64 a (p + 16) → y ≡ signedWord w64 b (q + 16) → SFits w64 x → SFits w64 y
+      → eqb (ofZ w64 x) (ofZ w64 y) ≡ alike (normalLabelAt a p) (normalLabelAt b q)
+  unfolding alike normalLabelAt
+  estimates-tell x y e f g u v = holds _ _ (is-same _ _ e) (equal-bits x y u v ∙ (λ i. equal (f i) (g i)))
+
+module _ (a : List ℕ) (start n : ℕ) (b : List ℕ) (begin m p q : ℕ) where
+  pub agree-both : {t : Bool} → p < n → q < m → t ≡ alike (normalLabelAt a (start + 24 * p)) (normalLabelAt b (begin + 24 * q)) → t ≡ agreeIn a start n b begin m p q
+  unfolding agreeIn
+  agree-both h g e = at-last _ _ (ap not (sym (holds _ _ (is-less p n h) (sym (is-less q m g))))) e
+
+  pub agree-left : p < n → m ≤ q → true ≡ agreeIn a start n b begin m p q
+  unfolding agreeIn
+  agree-left h g = at-once _ _ (ap not (sym (holds _ _ (is-less p n h) (sym (not-less q m g)))))
+
+  pub agree-right : n ≤ p → true ≡ agreeIn a start n b begin m p q
+  unfolding agreeIn
+  agree-right h = at-once _ _ (ap not (sym (fails _ _ (not-less p n h))))
+
+-- ---- what stands at n places put into a room, i of them done
+module _ (f : ℕ → ℕ) (size : ℕ) (l : List ℕ) (n : ℕ) where
+  pub load-start : (at : ℕ) → lay l 0 (stands f size n at) ≡ lay l 0 (stands f size (n - 0) at)
+  load-start at = rw sub-zero
+
+  pub load-end : (i at : ℕ) → n ≤ i → lay l i (stands f size (n - i) at) ≡ l
+  unfolding lay
+  load-end i at h = put-end f size l n i at h
+
+  pub load-turn : (i at v : ℕ) → i < n → v ≡ f at → lay l i (stands f size (n - i) at) ≡ lay (set l i v) (i + 1) (stands f size (n - (i + 1)) (at + size))
+  unfolding lay
+  load-turn i at v h e = put-turn f size l n i at h ∙ ap (λ x. lay (set l i x) (i + 1) (stands f size (n - (i + 1)) (at + size))) (sym e)

@@ -1,0 +1,94 @@
+-- A merged system is again what the system of an accepted file is: its arcs and labels within their limits and in order, its sums sound.
+-- Assumes nothing.
+use mathlib.Core.Path.{_≡_, refl, sym, ap, _∙_, subst}
+use mathlib.Core.List.{List, [], _∷_, map}
+use mathlib.Core.Bool.{Bool, true, false}
+use Prim.Native.Nat.{ℕ, _+_}
+use native.Mathlib.Omega.{arith}
+use lib.ListN.{length, length-map}
+use Rattle.whole.specs.Tests.{same, upTo, pick, between}
+use Rattle.whole.specs.Lists.{all, ascend}
+use Rattle.whole.proofs.Cases.{apart, yes, no, holds, at-once, is-between, between-true, both-first, both-second, by-cases}
+use Rattle.system.specs.System.{System, has, arcOk, arcListed, normalLabelOk, keyOf}
+use Rattle.system.specs.declared.NormalLabel.{NormalLabel}
+use Rattle.joining.specs.Join.{ascending, union}
+use Rattle.joining.proofs.Union.{by-order, asc-from, asc-is, union-ascends, has-union, has-head, either-second, either-none}
+use Rattle.joining.proofs.Shared.{union-more, union-full}
+use Rattle.merging.specs.Merge.{keysOf, carried, mergedOf, mergeNumber, Proper}
+use Rattle.merging.proofs.Values.{formed, keys-long}
+use Rattle.merging.proofs.Merged.{carried-first, carried-second, merged-labels, merged-arcs, merged-formed}
+use Rattle.merging.proofs.Numbers.{mergeable, label-ok}
+use Rattle.merging.proofs.Soundness.{judged, judged-sound, merged-judged}
+
+-- ---- tests of each
+all-union : (f : ℕ → Bool) (xs ys : List ℕ) → all f xs ≡ true → all f ys ≡ true → all f (union xs ys) ≡ true
+unfolding all union
+all-union f [] ys p q = q
+all-union f (x ∷ xs) [] p q = p
+all-union f (x ∷ xs) (y ∷ ys) p q =
+    by-order (λ l. all f l ≡ true) x y xs ys
+    (λ t. sym (holds _ _ (both-first _ _ p) (sym (all-union f xs (y ∷ ys) (both-second _ _ p) q))))
+    (λ t. sym (holds _ _ (both-first _ _ q) (sym (all-union f (x ∷ xs) ys p (both-second _ _ q)))))
+    (λ t. sym (holds _ _ (both-first _ _ p) (sym (all-union f xs ys (both-second _ _ p) (both-second _ _ q)))))
+
+all-map : {A : Type 0} (f : A → Bool) (c : ℕ → A) (u : List ℕ) → ((k : ℕ) → has k u ≡ true → f (c k) ≡ true) → all f (map c u) ≡ true
+unfolding all has
+all-map f c [] h = refl
+all-map f c (x ∷ u) h = sym (holds _ _ (h x (has-head x u)) (sym (all-map f c u (λ k g. h k (either-second (same x k) g)))))
+
+-- a label of fewer arcs is one of more
+ok-more : (few many : List ℕ) → ((a : ℕ) → has a few ≡ true → has a many ≡ true) → (l : NormalLabel) → normalLabelOk few l ≡ true
+    → normalLabelOk many l ≡ true
+unfolding normalLabelOk arcListed
+ok-more few many more l e =
+    sym (holds _ _ (both-first _ _ e) (holds _ _ (both-first _ _ (both-second _ _ e)) (sym (listed (both-second _ _ (both-second _ _ e))))))
+  where
+    listed : pick (upTo (l .kind) 2) (same (l .arc) 0) (has (l .arc) few) ≡ true → pick (upTo (l .kind) 2) (same (l .arc) 0) (has (l .arc) many) ≡ true
+    listed h =
+        by-cases (upTo (l .kind) 2)
+        (λ t. sym (yes _ _ _ t (sym (yes _ _ _ t refl ∙ h))))
+        (λ t. sym (no _ _ _ t (sym (more (l .arc) (no _ _ _ t refl ∙ h)))))
+
+labels-in-order : (x : System) → ascending (keysOf x) ≡ true → ascend keyOf 0 (x .labels) ≡ true
+unfolding keysOf
+labels-in-order x e = asc-is keyOf 0 (x .labels) (asc-from (map keyOf (x .labels)) e)
+
+module _ (x y : System) (p : Proper x) (q : Proper y) (accepted : mergeNumber x y ≡ 0) where
+  arcs-sum : length (union (x .arcs) (y .arcs)) ≡ length (x .arcs) + length (y .arcs)
+  arcs-sum = union-full (x .arcs) (y .arcs) (p .arcs-ascend) (q .arcs-ascend) (mergeable x y accepted .none-shared)
+
+  carried-ok : (k : ℕ) → has k (union (keysOf x) (keysOf y)) ≡ true → normalLabelOk (union (x .arcs) (y .arcs)) (carried x y k) ≡ true
+  carried-ok k h =
+      by-cases (has k (keysOf x))
+      (λ a. subst (λ l. normalLabelOk (union (x .arcs) (y .arcs)) l ≡ true) (sym (carried-first x y k a))
+      (ok-more (x .arcs) (union (x .arcs) (y .arcs)) (λ n g. has-union n (x .arcs) (y .arcs) ∙ sym (at-once _ _ g)) _ (label-ok x p k a)))
+      (λ a. subst (λ l. normalLabelOk (union (x .arcs) (y .arcs)) l ≡ true) (sym (carried-second x y k a))
+      (ok-more (y .arcs) (union (x .arcs) (y .arcs)) (λ n g. has-union n (x .arcs) (y .arcs) ∙ either-second (has n (x .arcs)) g) _ (label-ok y q k (in-second a))))
+    where
+      in-second : has k (keysOf x) ≡ false → has k (keysOf y) ≡ true
+      in-second a =
+          by-cases (has k (keysOf y)) (λ b. b) (λ b. absurd (apart (sym h ∙ has-union k (keysOf x) (keysOf y) ∙ either-none a b)))
+
+  pub merged-proper : Proper (mergedOf x y)
+  merged-proper =
+      let f = merged-formed x y (formed x p) (formed y q) in
+      let m = mergeable x y accepted in
+      let arcs : mergedOf x y .arcs ≡ union (x .arcs) (y .arcs) = merged-arcs x y in
+      let labels : mergedOf x y .labels ≡ map (carried x y) (union (keysOf x) (keysOf y)) = merged-labels x y in
+      let long : length (mergedOf x y .labels) ≡ length (union (keysOf x) (keysOf y)) = ap length labels ∙ length-map (union (keysOf x) (keysOf y)) (carried x y) in
+      let ax = between-true 1 (length (x .arcs)) 16 (p .arcs-count) in
+      let lx = between-true 1 (length (x .labels)) 500 (p .labels-count) in
+      record {
+        arcs-count = subst (λ u. between 1 (length u) 16 ≡ true) (sym arcs) (is-between 1 _ 16 (omega (arith, arcs-sum, ax .0)) (m .arcs-fit));
+        arcs-ok = subst (λ u. all arcOk u ≡ true) (sym arcs) (all-union arcOk (x .arcs) (y .arcs) (p .arcs-ok) (q .arcs-ok));
+        arcs-ascend = subst (λ u. ascending u ≡ true) (sym arcs) (union-ascends (x .arcs) (y .arcs) (p .arcs-ascend) (q .arcs-ascend));
+        labels-count = is-between 1 (length (mergedOf x y .labels)) 500
+            (omega (arith, long, union-more (keysOf x) (keysOf y), keys-long x, lx .0)) (omega (arith, long, m .labels-fit));
+        labels-ok = subst (λ l. all (normalLabelOk (mergedOf x y .arcs)) l ≡ true) (sym labels)
+            (all-map (normalLabelOk (mergedOf x y .arcs)) (carried x y) (union (keysOf x) (keysOf y)) (λ k h. subst (λ u. normalLabelOk u (carried x y k) ≡ true) (sym arcs) (carried-ok k h)));
+        labels-ascend = labels-in-order (mergedOf x y) (f .ascend);
+        matrix-long = f .matrix-long;
+        rights-long = f .rights-long;
+        sound = judged-sound (mergedOf x y)
+            (merged-judged x y (formed x p) (formed y q) (ap length arcs ∙ arcs-sum) (judged x (p .sound)) (judged y (q .sound)));
+      }
