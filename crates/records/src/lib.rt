@@ -1,6 +1,9 @@
 // A tracking record decoded by value, and its partials.
 ghost use mathlib.Core.Path.{_≡_};
+ghost use Prim.Native.Nat.{_+_, _*_, _≤_};
 ghost use lib.ListN.{length};
+ghost use mir.Syntax.{w16};
+ghost use Rattle.words.specs.Words.{signedWord};
 ghost use Rattle.records.specs.Record.{recordIn, partialsIn};
 
 pub struct Record {
@@ -28,8 +31,32 @@ pub fn decode(bytes: &[u8]) -> Record
     }
 }
 
-// Fills the room with a record's partials; bytes past the end count as 0.
-pub fn partials(bytes: &[u8], out: &mut [i16])
+// The partial at a place where it is whole, read from a part of just its bytes, so that nothing is tested.
+fn partial_at(bytes: &[u8], at: usize) -> i16
+    requires { ⌜ at + 2 ≤ length (now bytes) ⌝ }
+    ensures { λ r. ⌜ r ≡ signedWord w16 (now (bytes .entry)) at ⌝ }
+{
+    let e = at + 2;
+    words::read_i16(&bytes[at..e], 0)
+}
+
+// Fills the room with partials that are all there: a loop that becomes one copy.
+fn copy_partials(bytes: &[u8], out: &mut [i16])
+    requires { ⌜ 32 + 2 * length (now out) ≤ length (now bytes) ⌝ }
+    ensures { λ _. ⌜ now (out .exit) ≡ partialsIn (length (now (out .entry))) (now (bytes .entry)) ⌝ }
+{
+    let n = out.len();
+    let mut i: usize = 0;
+    let mut at: usize = 32;
+    while i < n {
+        out[i] = partial_at(bytes, at);
+        at += 2;
+        i += 1;
+    }
+}
+
+// Fills the room with partials that may end early.
+fn read_partials(bytes: &[u8], out: &mut [i16])
     ensures { λ _. ⌜ now (out .exit) ≡ partialsIn (length (now (out .entry))) (now (bytes .entry)) ⌝ }
 {
     let n = out.len();
@@ -39,5 +66,16 @@ pub fn partials(bytes: &[u8], out: &mut [i16])
         out[i] = words::read_i16(bytes, at);
         at += 2;
         i += 1;
+    }
+}
+
+// Fills the room with a record's partials; bytes past the end count as 0.
+pub fn partials(bytes: &[u8], out: &mut [i16])
+    ensures { λ _. ⌜ now (out .exit) ≡ partialsIn (length (now (out .entry))) (now (bytes .entry)) ⌝ }
+{
+    if 32 + 2 * out.len() <= bytes.len() {
+        copy_partials(bytes, out);
+    } else {
+        read_partials(bytes, out);
     }
 }

@@ -2,7 +2,7 @@
 ghost use mathlib.Core.Path.{_≡_};
 ghost use Prim.Native.Nat.{_+_, _*_, _≤_, _<_, _^_};
 ghost use lib.IntN.{pos, _+ℤ_, _*ℤ_, natAbs};
-ghost use lib.ListN.{length};
+ghost use lib.ListN.{length, getD, set};
 ghost use mathlib.Core.Bool.{true, false};
 ghost use lib.Signed.{_≤ℤ_};
 ghost use Rattle.whole.specs.Sums.{plus, Within};
@@ -23,7 +23,20 @@ fn scale(w: u32, x: i16) -> i64
     (w as i64) * (x as i64)
 }
 
-// Adds f times a's number at each place to the part's there.
+// Adds f times a's number at a place to the part's there.
+fn add_at(part: &mut [i64], f: i64, a: &[i16], i: usize)
+    requires { ⌜ (i < length (now part)) × (i < length (now a)) ⌝ }
+    requires { ⌜ (natAbs f ≤ 2 ^ 31) × (natAbs (getD (now part) i (pos 0)) ≤ 2 ^ 62) ⌝ }
+    ensures { λ _. ⌜ now (part .exit) ≡ set (now (part .entry)) i (getD (now (part .entry)) i (pos 0) +ℤ f *ℤ getD (now (a .entry)) i (pos 0)) ⌝ }
+{
+    let s = part[i];
+    let x = a[i];
+    let y = mac(s, f, x);
+    part[i] = y;
+}
+
+// Adds f times a's number at each place to the part's there. Two places a turn, so that it stays a loop over whole numbers: in vectors of
+// two, which have no product of 64 bits, it would take twice the instructions.
 pub fn add_times(part: &mut [i64], f: i64, a: &[i16])
     requires { ⌜ length (now part) ≤ length (now a) ⌝ }
     requires { ⌜ natAbs f ≤ 2 ^ 31 ⌝ }
@@ -32,12 +45,13 @@ pub fn add_times(part: &mut [i64], f: i64, a: &[i16])
 {
     let n = part.len();
     let mut i: usize = 0;
-    while i < n {
-        let s = part[i];
-        let x = a[i];
-        let y = mac(s, f, x);
-        part[i] = y;
-        i += 1;
+    while 1 < n - i {
+        add_at(part, f, a, i);
+        add_at(part, f, a, i + 1);
+        i += 2;
+    }
+    if i < n {
+        add_at(part, f, a, i);
     }
 }
 
@@ -52,15 +66,9 @@ pub fn add_matrix(sums: &mut [i64], a: &[i16], w: u32)
     let mut k: usize = 0;
     while j < a.len() {
         let f = scale(w, a[j]);
-        let mut i: usize = 0;
-        while i <= j {
-            let s = sums[k];
-            let x = a[i];
-            let y = mac(s, f, x);
-            sums[k] = y;
-            k += 1;
-            i += 1;
-        }
+        let e = k + j + 1;
+        add_times(&mut sums[k..e], f, a);
+        k = e;
         j += 1;
     }
 }
