@@ -1,6 +1,6 @@
 -- What the lent rooms hold after a join, place by place.
 -- Assumes nothing.
-use mathlib.Core.Path.{_≡_, refl, sym, ap, _∙_, subst}
+use mathlib.Core.Path.{_≡_, refl, sym, ap, _∙_}
 use mathlib.Core.List.{List, [], _∷_}
 use mathlib.Core.Bool.{true}
 use Prim.Native.Nat.{ℕ, zero, suc, _+_, _≤_, _<_}
@@ -11,7 +11,7 @@ use Rattle.whole.proofs.Cases.{apart, by-cases}
 use Rattle.words.specs.Words.{lay}
 use Rattle.words.proofs.Words.{lay-front}
 use Rattle.system.specs.System.{has}
-use Rattle.joining.specs.Join.{union, seat, seats, Joins}
+use Rattle.joining.specs.Join.{union, seat, seats, Placed, Joins}
 use Rattle.joining.proofs.Union.{either-none, has-union}
 use Rattle.joining.proofs.Seats.{seated}
 use Rattle.joining.proofs.Shared.{union-long}
@@ -41,16 +41,13 @@ in-second xs ys k h g =
     out : seat xs k < length xs → ⊥
     out h = omega arith
 
-module _ (xs ys left₀ right₀ left right : List ℕ) (n : ℕ) (j : Joins xs ys left₀ right₀ n left right) (i : ℕ) (h : i < n) where
-  within : i < length (union xs ys)
-  within = subst (λ m. i < m) (j .count) h
-
-  pub left-at : length xs + length ys ≤ length left₀ → getD left i 0 ≡ seat xs (getD (union xs ys) i 0)
-  left-at room =
+module _ (xs ys left₀ right₀ left right : List ℕ) (n : ℕ) (j : Joins xs ys left₀ right₀ n left right) where
+  pub left-placed : length xs + length ys ≤ length left₀ → Placed xs (union xs ys) left
+  left-placed room i h =
       let u : length (union xs ys) ≤ length xs + length ys = union-long xs ys in
-      ap (λ l. getD l i 0) (j .left-is) ∙ laid xs (union xs ys) left₀ i (omega arith) within
+      ap (λ l. getD l i 0) (j .left-is) ∙ laid xs (union xs ys) left₀ i (omega arith) h
 
-  pub right-at : length xs + length ys ≤ length right₀ → getD right i 0 ≡ seat ys (getD (union xs ys) i 0)
-  right-at room =
+  pub right-placed : length xs + length ys ≤ length right₀ → Placed ys (union xs ys) right
+  right-placed room i h =
       let u : length (union xs ys) ≤ length xs + length ys = union-long xs ys in
-      ap (λ l. getD l i 0) (j .right-is) ∙ laid ys (union xs ys) right₀ i (omega arith) within
+      ap (λ l. getD l i 0) (j .right-is) ∙ laid ys (union xs ys) right₀ i (omega arith) h

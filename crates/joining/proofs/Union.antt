@@ -32,7 +32,7 @@ asc-is key floor [] p = refl
 asc-is key floor (x ∷ l) p =
     sym (holds _ _ (is-upTo floor (key x) (p .0)) (sym (asc-is key (key x + 1) l (subst (λ f. Asc f (map key l)) (sym (add-one (key x))) (p .1)))))
 
-map-own : (l : List ℕ) → map (λ k. k) l ≡ l
+pub map-own : (l : List ℕ) → map (λ k. k) l ≡ l
 map-own [] = refl
 map-own (x ∷ l) = ap (λ t. x ∷ t) (map-own l)
 

@@ -3,8 +3,8 @@
 use mathlib.Core.Path.{_≡_}
 use mathlib.Core.List.{List, [], _∷_, map}
 use mathlib.Core.Bool.{Bool, false}
-use Prim.Native.Nat.{ℕ, suc}
-use lib.ListN.{length}
+use Prim.Native.Nat.{ℕ, suc, _<_}
+use lib.ListN.{length, getD}
 use Rattle.whole.specs.Tests.{less, same, pick, either}
 use Rattle.whole.specs.Lists.{ascend}
 use Rattle.words.specs.Words.{lay}
@@ -36,6 +36,10 @@ seats l u = map (seat l) u
 unfoldable pub share : List ℕ → List ℕ → Bool
 share [] ys = false
 share (x ∷ xs) ys = either (has x ys) (share xs ys)
+
+-- the places in l of the numbers of u, one after the other
+abbrev pub Placed : List ℕ → List ℕ → List ℕ → Type 0
+Placed l u places = (i : ℕ) → i < length u → getD places i 0 ≡ seat l (getD u i 0)
 
 -- what a join of xs and ys gives and leaves in two lent rooms: how many numbers the union has, and their places in xs and in ys
 pub record Joins (xs ys left₀ right₀ : List ℕ) (n : ℕ) (left right : List ℕ) : Type 0 where

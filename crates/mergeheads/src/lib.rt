@@ -1,4 +1,4 @@
-// Inner to `merging`: the arcs and labels of two normal files, read from their bytes, compared, and written at the places of their union.
+// Inner to `mergeput` and `normmerge`: the arcs and labels of two normal files, read from their bytes, compared, and written at the places of their union.
 use system::NormalLabel;
 ghost use mathlib.Core.Path.{_≡_};
 ghost use Prim.Native.Nat.{_+_, _*_, _^_, _≤_, _<_};

@@ -1,4 +1,4 @@
-// Inner to `merging`: the sums of two normal files, added at the places of their united labels and written into lent bytes.
+// Inner to `mergeput`: the sums of two normal files, added at the places of their united labels and written into lent bytes.
 ghost use mathlib.Core.Path.{_≡_};
 ghost use Prim.Native.Nat.{_+_, _*_, _^_, _≤_, _<_};
 ghost use lib.IntN.{_+ℤ_, natAbs};

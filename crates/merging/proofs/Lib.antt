@@ -10,3 +10,4 @@ pub mod Whole
 pub mod Groups
 pub mod Laws
 pub mod Written
+pub mod Files

@@ -13,7 +13,7 @@ use Rattle.whole.proofs.Cases.{apart, yes, no, at-once, by-cases}
 use Rattle.sums.specs.Triangle.{tri}
 use Rattle.system.specs.System.{System, has, keyOf}
 use Rattle.joining.specs.Join.{ascending, union, seat}
-use Rattle.joining.proofs.Union.{union-ascends, has-union, has-head, either-second, either-false, either-none}
+use Rattle.joining.proofs.Union.{map-own, union-ascends, has-union, has-head, either-second, either-false, either-none}
 use Rattle.joining.proofs.Seats.{seated}
 use Rattle.merging.specs.Merge.{keysOf, noLabel, labelAt, value, side, blank, carried, joined, addInto, mergedOf, table}
 use Rattle.merging.proofs.Tables.{length-table, plus-table, plus-map, plus-zeros, zeros-at, sum-zeros}
@@ -30,10 +30,6 @@ map-alike f g (x ∷ u) e =
 map-over : {A B C : Type 0} (f : B → C) (g : A → B) (l : List A) → map f (map g l) ≡ map (λ a. f (g a)) l
 map-over f g [] = refl
 map-over f g (x ∷ l) = ap (λ t. f (g x) ∷ t) (map-over f g l)
-
-map-own : (l : List ℕ) → map (λ k. k) l ≡ l
-map-own [] = refl
-map-own (x ∷ l) = ap (λ t. x ∷ t) (map-own l)
 
 module _ (x y : System) where
   -- ---- the label that is carried over

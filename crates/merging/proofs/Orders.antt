@@ -6,7 +6,6 @@ use mathlib.Core.Bool.{true, false}
 use Prim.Native.Nat.{ℕ, _+_}
 use native.Mathlib.Omega.{arith}
 use lib.IntN.{_+ℤ_, +ℤ-assoc}
-use Rattle.whole.specs.Tests.{either}
 use Rattle.whole.specs.Lists.{all}
 use Rattle.whole.proofs.Cases.{apart, at-last, by-cases}
 use Rattle.whole.proofs.Adding.{plus-comm}

@@ -3,9 +3,9 @@
 -- enough to be added.
 -- Assumes nothing.
 use mathlib.Core.Path.{_≡_, refl, sym, ap, ap₂, _∙_, subst}
-use mathlib.Core.List.{List}
+use mathlib.Core.List.{List, _∷_, map}
 use mathlib.Core.Bool.{Bool, true, false, not}
-use Prim.Native.Nat.{ℕ, _+_, _*_, _^_, _≤_, _<_}
+use Prim.Native.Nat.{ℕ, zero, suc, _+_, _*_, _^_, _≤_, _<_}
 use native.Mathlib.Omega.{arith}
 use lib.IntN.{pos, _+ℤ_, natAbs}
 use lib.ListN.{length, getD, List·getD-eq-default}
@@ -17,12 +17,12 @@ use Rattle.whole.proofs.Tables.{below-at, below-every}
 use Rattle.words.specs.Words.{signedWord}
 use Rattle.sums.specs.Triangle.{tri}
 use Rattle.sums.specs.Sound.{entry}
-use Rattle.system.specs.System.{System, has, boundOf}
+use Rattle.system.specs.System.{System, has, keyOf, boundOf}
 use Rattle.system.proofs.Sound.{bound-most, entry-of}
 use Rattle.normwalk.specs.Walk.{stands, sumsAt}
 use Rattle.normwalk.proofs.Entries.{length-stands, stands-at}
 use Rattle.normread.specs.Kinds.{normalLabelAt}
-use Rattle.joining.specs.Join.{union, seat}
+use Rattle.joining.specs.Join.{union, seat, Placed}
 use Rattle.joining.specs.Alike.{alike}
 use Rattle.joining.proofs.Union.{has-union, either-none}
 use Rattle.joining.proofs.Seats.{seated, unseated, seat-within, has-at}
@@ -31,9 +31,8 @@ use Rattle.mergesums.specs.Columns.{heldAt, columnOf, bothAt, crossAt, Small, S
 use Rattle.mergesums.specs.declared.Column.{Column}
 use Rattle.mergesums.proofs.Tables.{rows-alike, rows-map, columns-alike}
 use Rattle.mergesums.proofs.Held.{held-there, held-past, column-sum}
-use Rattle.mergeheads.specs.Heads.{labelIn, labelOf, agreeIn, agreeAt}
+use Rattle.mergeheads.specs.Heads.{keyAt, keysAt, labelIn, labelOf, agreeIn, agreeAt}
 use Rattle.mergeheads.proofs.Chosen.{label-first, label-second}
-use Rattle.mergeheads.proofs.United.{Placed}
 use Rattle.merging.specs.Merge.{keysOf, noLabel, labelAt, value, side, carried, mergedOf, agree, table, Proper}
 use Rattle.merging.proofs.Values.{keys-long, within}
 use Rattle.merging.proofs.Numbers.{all-has}
@@ -71,6 +70,17 @@ module _ (s : List ℕ) (labels matrix rights : ℕ) (x : System) (st : StandsIn
   unfolding side
   rights-held i h =
       held-sum s rights (length (x .labels)) (getD places i 0) ∙ ap₂ (λ l n. getD l n (pos 0)) (sym (st .rights-are)) (pl i h)
+
+map-stands : {A B : Type 0} (g : A → B) (f : ℕ → A) (size n at : ℕ) → map g (stands f size n at) ≡ stands (λ p. g (f p)) size n at
+unfolding stands
+map-stands g f size zero at = refl
+map-stands g f size (suc n) at = ap (λ t. g (f at) ∷ t) (map-stands g f size n (at + size))
+
+-- the keys as the code loads them
+pub keys-stand : (s : List ℕ) (labels matrix rights : ℕ) (x : System) → StandsIn s labels matrix rights x → keysOf x ≡ keysAt s labels (length (x .labels))
+unfolding keysOf keysAt keyAt
+keys-stand s labels matrix rights x st =
+    ap (map keyOf) (st .labels-are) ∙ map-stands keyOf (normalLabelAt s) 24 (length (x .labels)) labels
 
 label-stands : (s : List ℕ) (labels matrix rights : ℕ) (x : System) → StandsIn s labels matrix rights x → (k : ℕ) → has k (keysOf x) ≡ true
     → normalLabelAt s (labels + 24 * seat (keysOf x) k) ≡ labelAt x k

@@ -62,7 +62,10 @@ loop-again : tie.Need-loop-again Inv-loop μ-loop
 unfolding numberAt
 loop-again c =
     let l = c .before .before .before .before .before .before .before .before .loop in
-    let e = c .before .before .put-arc .ensures ∙ ap (λ v. lay (l .out) (l .k) (arcBytes v)) (c .before .before .before .before .number-in .ensures) in (
+    let s = c .before .before .before .before .before .before .before .before .before .before .before .before .before .before .args in
+    let is : c .before .before .before .before .number-in .result ≡ numberAt (s .xs .now) (s .left .now) (s .ys .now) (s .right .now) (l .i) = c .before .before .before .before .number-in .ensures in
+    let e : c .before .before .put-arc .last .0 ≡ lay (l .out) (l .k) (arcBytes (numberAt (s .xs .now) (s .left .now) (s .ys .now) (s .right .now) (l .i))) =
+    c .before .before .put-arc .ensures ∙ ap (λ v. lay (l .out) (l .k) (arcBytes v)) is in (
       omega arith,
       omega arith,
       rw e (length-lay _ _ _ ∙ l .inv .2),

@@ -61,7 +61,11 @@ loop-again : tie.Need-loop-again Inv-loop μ-loop
 unfolding labelOf
 loop-again c =
     let l = c .before .before .before .before .before .before .before .before .loop in
-    let e = c .before .before .put-label .ensures ∙ ap (λ v. lay (l .out) (l .k) (normalLabelBytes v)) (c .before .before .before .before .label-in .ensures) in (
+    let s = c .before .before .before .before .before .before .before .before .before .before .before .before .before .before .args in
+    let is : c .before .before .before .before .label-in .result ≡ labelOf (s .a .now) (s .start) (s .n) (s .left .now) (s .b .now) (s .begin) (s .right .now) (l .i) =
+    c .before .before .before .before .label-in .ensures in
+    let e : c .before .before .put-label .last .0 ≡ lay (l .out) (l .k) (normalLabelBytes (labelOf (s .a .now) (s .start) (s .n) (s .left .now) (s .b .now) (s .begin) (s .right .now) (l .i))) =
+    c .before .before .put-label .ensures ∙ ap (λ v. lay (l .out) (l .k) (normalLabelBytes v)) is in (
       omega arith,
       omega arith,
       rw e (length-lay _ _ _ ∙ l .inv .2),

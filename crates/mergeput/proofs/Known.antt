@@ -1,0 +1,98 @@
+-- What is known of a file that was read: its system is proper, it has at most 16 arcs and 500 labels, and its parts stand where reading says.
+-- Assumes nothing.
+use mathlib.Core.Path.{_≡_, refl, sym, ap, ap₂, _∙_, subst}
+use mathlib.Core.List.{List}
+use Prim.Native.Nat.{ℕ, _+_, _*_, _≤_}
+use native.Mathlib.Omega.{arith}
+use lib.ListN.{length}
+use Rattle.whole.specs.Answer.{Judged, good, bad}
+use Rattle.words.specs.Words.{word}
+use Rattle.section.proofs.Walk.{not-bad}
+use Rattle.sums.specs.Triangle.{tri}
+use Rattle.normread.specs.Normal.{Normal, readNormal, shown, toldAnswer, toldRead}
+use Rattle.normread.specs.Parts.{arcsAt}
+use Rattle.normread.specs.declared.NormalRead.{NormalRead}
+use Rattle.normread.specs.declared.ReadAnswer.the-variants.{Read}
+use Rattle.normread.proofs.Accepted.{accepted-sound, accepted-standing}
+use Rattle.mergeheads.specs.Heads.{keysAt}
+use Rattle.merging.specs.Merge.{keysOf, Proper}
+use Rattle.merging.proofs.Files.{proper, stands-in}
+use Rattle.merging.proofs.Written.{StandsIn, keys-stand}
+use Rattle.mergeput.specs.Parts.{normalOr, normalIn, systemIn, Taken}
+
+-- ---- from the reader's answer
+taken-of : (s : List ℕ) (r : NormalRead) (x : Normal) → readNormal s ≡ good x → toldRead r ≡ shown (good x) → Taken s r
+unfolding systemIn normalIn normalOr
+taken-of s r x e t =
+    let is : normalIn s ≡ x = ap normalOr e in
+    record {
+      is = e ∙ ap good (sym is);
+      arcs = ap (λ d. d .arcs) t ∙ ap (λ z. length (z .holds .arcs)) (sym is);
+      parameters = ap (λ d. d .parameters) t ∙ ap (λ z. length (z .holds .labels)) (sym is);
+      matrix = ap (λ d. d .matrix) t ∙ ap (λ z. z .matrix) (sym is);
+      rights = ap (λ d. d .rights) t ∙ ap (λ z. z .rights) (sym is);
+      totals = ap (λ d. d .totals) t ∙ ap (λ z. z .totals) (sym is);
+    }
+
+pub by-judged : {A : Type 0} (j : Judged Normal) → ((x : Normal) → j ≡ good x → A) → ((number place : ℕ) → j ≡ bad number place → A) → A
+by-judged (good x) f g = f x refl
+by-judged (bad number place) f g = g number place refl
+
+pub taken : (s : List ℕ) (r : NormalRead) → toldRead r ≡ shown (readNormal s) → r .answer ≡ Read → Taken s r
+taken s r t e =
+    by-judged (readNormal s)
+    (λ x h. taken-of s r x h (t ∙ ap shown h))
+    (λ number place h. absurd (not-bad (sym (ap toldAnswer e) ∙ ap (λ d. d .verdict) t ∙ ap (λ j. shown j .verdict) h)))
+
+-- ---- what follows
+pub record Known (s : List ℕ) (r : NormalRead) : Type 0 where
+  pub whole : Proper (systemIn s)
+  pub stands : StandsIn s (8 + 4 * r .arcs) (r .matrix) (r .rights) (systemIn s)
+  pub arcs-many : r .arcs ≡ length (systemIn s .arcs)
+  pub labels-many : r .parameters ≡ length (systemIn s .labels)
+  pub few-arcs : r .arcs ≤ 16
+  pub few-labels : r .parameters ≤ 500
+  pub arcs-are : arcsAt s (r .arcs) ≡ systemIn s .arcs
+  pub keys-are : keysAt s (8 + 4 * r .arcs) (r .parameters) ≡ keysOf (systemIn s)
+  pub accepted-is : word 8 s (r .totals) ≡ systemIn s .accepted
+  pub square-is : word 8 s (r .totals + 8) ≡ systemIn s .square
+  pub labels-end : 8 + 4 * r .arcs + 24 * r .parameters ≤ length s
+  pub matrix-end : r .matrix + 8 * tri (r .parameters) ≤ length s
+  pub rights-end : r .rights + 8 * r .parameters ≤ length s
+  pub totals-end : r .totals + 16 ≤ length s
+
+pub known : (s : List ℕ) (r : NormalRead) → Taken s r → Known s r
+unfolding systemIn
+known s r t =
+    let x = normalIn s in
+    let o = accepted-sound s x (t .is) in
+    let d = accepted-standing s x (t .is) in
+    let st : StandsIn s (8 + 4 * length (x .holds .arcs)) (x .matrix) (x .rights) (x .holds) = stands-in s x d in
+    let arcs : r .arcs ≡ length (x .holds .arcs) = t .arcs in
+    let labels : r .parameters ≡ length (x .holds .labels) = t .parameters in
+    let sums : tri (r .parameters) ≡ tri (length (x .holds .labels)) = ap tri labels in
+    let m : r .matrix ≡ x .matrix = t .matrix in
+    let n : r .rights ≡ x .rights = t .rights in
+    let k : r .totals ≡ x .totals = t .totals in
+    let a : x .matrix ≡ 12 + 4 * length (x .holds .arcs) + 24 * length (x .holds .labels) = d .matrix-at in
+    let b : x .rights ≡ x .matrix + 8 * tri (length (x .holds .labels)) + 4 = d .rights-at in
+    let c : x .totals ≡ x .rights + 8 * length (x .holds .labels) + 4 = d .totals-at in
+    let e : length s ≡ x .totals + 16 = d .long in
+    record {
+      whole = proper (x .holds) o;
+      stands = subst (λ n. StandsIn s (8 + 4 * n) (r .matrix) (r .rights) (x .holds)) (sym (t .arcs))
+          (subst (λ n. StandsIn s (8 + 4 * length (x .holds .arcs)) n (r .rights) (x .holds)) (sym (t .matrix))
+          (subst (λ n. StandsIn s (8 + 4 * length (x .holds .arcs)) (x .matrix) n (x .holds)) (sym (t .rights)) st));
+      arcs-many = t .arcs;
+      labels-many = t .parameters;
+      few-arcs = omega (arith, t .arcs, o .few-arcs);
+      few-labels = omega (arith, t .parameters, o .few-labels);
+      arcs-are = ap (arcsAt s) (t .arcs) ∙ sym (d .arcs);
+      keys-are = ap₂ (λ n p. keysAt s (8 + 4 * n) p) (t .arcs) (t .parameters) ∙ sym (keys-stand s _ _ _ (x .holds) st);
+      accepted-is = ap (word 8 s) (t .totals) ∙ sym (d .accepted);
+      square-is = ap (λ n. word 8 s (n + 8)) (t .totals) ∙ sym (d .square);
+      labels-end = omega arith;
+      matrix-end = omega arith;
+      rights-end = omega arith;
+      totals-end = omega arith;
+    }

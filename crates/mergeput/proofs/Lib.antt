@@ -1,0 +1,5 @@
+pub mod Known
+pub mod Loaded
+pub mod Laid
+pub mod Sums
+pub mod Steps

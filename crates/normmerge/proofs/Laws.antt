@@ -1,0 +1,193 @@
+-- The laws of merging at the level of files, in the words of the promise, `mergeAnswer` and `mergeLeft`: order and grouping don't matter, a merged
+-- file is accepted, its sums are those of both, and priors are kept.
+-- Assumes nothing.
+use mathlib.Core.Path.{_≡_, refl, sym, ap, _∙_, subst}
+use mathlib.Core.List.{List, [], _∷_}
+use mathlib.Core.Bool.{true}
+use Prim.Native.Nat.{ℕ, _+_, _≤_}
+use native.Mathlib.Nat.{le-refl}
+use lib.IntN.{pos, _+ℤ_}
+use lib.ListN.{length, take}
+use mir.Syntax.{w64}
+use mir.Val.{SFits}
+use Rattle.whole.specs.Tests.{less, same, pick, either}
+use Rattle.whole.specs.Answer.{good, bad}
+use Rattle.whole.proofs.Cases.{by-cases, same-true, same-false}
+use Rattle.whole.proofs.Ints.{within-fits}
+use Rattle.words.specs.Words.{lay}
+use Rattle.words.proofs.Words.{Bytes}
+use Rattle.refusal.specs.First.{when, first}
+use Rattle.section.proofs.Read.{Each}
+use Rattle.system.specs.System.{System, has}
+use Rattle.normread.specs.Normal.{readNormal, normalBytes}
+use Rattle.normread.proofs.Accepted.{accepted-estimates}
+use Rattle.normread.proofs.Back.{placed, written-read}
+use Rattle.merging.specs.Merge.{keysOf, labelAt, value, side, mergedOf, mergeNumber, Proper}
+use Rattle.merging.proofs.Merged.{in-merged-first, in-merged-second}
+use Rattle.merging.proofs.Laws.{merge-value, merge-side, merge-totals, merge-labels, merge-arcs, priors-first, priors-second, merge-either, refuse-either, merge-proper, merge-groups, accept-groups, accept-back}
+use Rattle.merging.proofs.Files.{sound-system, merged-each}
+use Rattle.mergeput.specs.Parts.{normalOr, normalIn, systemIn}
+use Rattle.mergeput.proofs.Known.{by-judged}
+use Rattle.normmerge.specs.Files.{written, inFile, refusing, mergedBytes, pairNumber, pairAnswer, pairLeft, mergeAnswer, mergeLeft}
+use Rattle.normmerge.proofs.Written.{accepted, holds-proper, Written, written-file, written-where}
+use Rattle.normmerge.proofs.Outcomes.{pair-refused, first-bad, second-bad, both-good}
+
+-- ---- two systems, in either order
+pub pair-either : (x y : System) → Proper x → Proper y → (out : List ℕ)
+    → (pairAnswer x y (length out) ≡ pairAnswer y x (length out)) × (pairLeft x y out ≡ pairLeft y x out)
+unfolding pairNumber pairAnswer pairLeft mergedBytes
+pair-either x y p q out =
+    by-cases (same (mergeNumber x y) 0)
+    (λ t. let bytes : normalBytes (mergedOf x y) ≡ normalBytes (mergedOf y x) = ap normalBytes (merge-either x y p q (same-true _ _ t)) in
+    let number : pairNumber x y (length out) ≡ pairNumber y x (length out) =
+    (λ i. first (refuse-either x y p q i ∷ when 20 (less (length out) (length (bytes i))) ∷ [])) in
+    ((λ i. pick (same (number i) 0) (written (length (bytes i))) (refusing (number i))), (λ i. pick (same (number i) 0) (lay out 0 (bytes i)) out)))
+    (λ t. let one = pair-refused x y out (mergeNumber x y) refl (same-false _ _ t) in
+    let two = pair-refused y x out (mergeNumber x y) (sym (refuse-either x y p q)) (same-false _ _ t) in
+    (sym (one .0) ∙ two .0, sym (one .1) ∙ two .1))
+
+-- ---- "The two may be given in either order: the bytes are the same."
+module _ (a b out : List ℕ) where
+  -- two files that are accepted: one answer, and the same bytes
+  pub either-order : readNormal a ≡ good (normalIn a) → readNormal b ≡ good (normalIn b)
+      → (mergeAnswer a b (length out) ≡ mergeAnswer b a (length out)) × (mergeLeft a b out ≡ mergeLeft b a out)
+  either-order e f =
+      let one = both-good a b out e f in
+      let two = both-good b a out f e in
+      let both = pair-either (systemIn a) (systemIn b) (holds-proper a e) (holds-proper b f) out in
+      (sym (one .0) ∙ both .0 ∙ two .0, sym (one .1) ∙ both .1 ∙ two .1)
+
+  -- where only one is refused: the same number and place, and the answer names that file
+  pub either-one : (number place : ℕ) → readNormal a ≡ bad number place → readNormal b ≡ good (normalIn b)
+      → (mergeAnswer a b (length out) ≡ inFile 1 number place) × (mergeAnswer b a (length out) ≡ inFile 2 number place)
+  either-one number place e f = (sym (first-bad a b number place out e .0), sym (second-bad b a (normalIn b) number place out f e .0))
+
+  -- where both are refused: the one that is given first
+  pub either-both : (number place other at : ℕ) → readNormal a ≡ bad number place → readNormal b ≡ bad other at
+      → (mergeAnswer a b (length out) ≡ inFile 1 number place) × (mergeAnswer b a (length out) ≡ inFile 1 other at)
+  either-both number place other at e f = (sym (first-bad a b number place out e .0), sym (first-bad b a other at out f .0))
+
+  -- and whatever is refused, either order leaves the same
+  pub either-left : mergeLeft a b out ≡ mergeLeft b a out
+  either-left =
+      by-judged (readNormal a)
+      (λ x e. by-judged (readNormal b)
+      (λ y f. either-order (accepted a x e) (accepted b y f) .1)
+      (λ other at f. sym (second-bad a b x other at out e f .1) ∙ first-bad b a other at out f .1))
+      (λ number place e. sym (first-bad a b number place out e .1) ∙ by-judged (readNormal b)
+      (λ y f. second-bad b a y number place out f e .1)
+      (λ other at f. first-bad b a other at out f .1))
+
+-- ---- the merged file: what stands at the room's front
+module _ (a b out : List ℕ) (n : ℕ) (first-bytes : Bytes a) (second-bytes : Bytes b) (w : mergeAnswer a b (length out) ≡ written n) where
+  abbrev merged : List ℕ
+  merged = take n (mergeLeft a b out)
+
+  both : Written a b out n
+  both = written-file a b out n w
+
+  estimates : Each (λ l. SFits w64 (l .estimate)) (mergedOf (systemIn a) (systemIn b) .labels)
+  unfolding systemIn
+  estimates =
+      merged-each (λ l. SFits w64 (l .estimate)) (within-fits w64 (pos 0) {m = 0} (le-refl 0) tt) (systemIn a) (systemIn b)
+      (accepted-estimates a (normalIn a) (both .first-read) first-bytes) (accepted-estimates b (normalIn b) (both .second-read) second-bytes)
+
+  -- "two normal files": it is one again, accepted by reading, and holds what merging says
+  pub merged-read : readNormal merged ≡ good (placed (mergedOf (systemIn a) (systemIn b)))
+  merged-read =
+      ap readNormal (both .front)
+      ∙ written-read (mergedOf (systemIn a) (systemIn b))
+      (sound-system _ (merge-proper (systemIn a) (systemIn b) (both .first-proper) (both .second-proper) (both .none-refuses))) estimates
+
+  pub merged-holds : systemIn merged ≡ mergedOf (systemIn a) (systemIn b)
+  unfolding systemIn normalIn normalOr
+  merged-holds = ap (λ j. normalOr j .holds) merged-read
+
+  -- "Merging adds sums of like labels"
+  pub sums-added : (k l : ℕ) → value (systemIn merged) k l ≡ value (systemIn a) k l +ℤ value (systemIn b) k l
+  sums-added k l = ap (λ z. value z k l) merged-holds ∙ merge-value (systemIn a) (systemIn b) (both .first-proper) (both .second-proper) k l
+
+  pub sides-added : (k : ℕ) → side (systemIn merged) k ≡ side (systemIn a) k +ℤ side (systemIn b) k
+  sides-added k = ap (λ z. side z k) merged-holds ∙ merge-side (systemIn a) (systemIn b) (both .first-proper) (both .second-proper) k
+
+  pub totals-added : (systemIn merged .accepted ≡ systemIn a .accepted + systemIn b .accepted) × (systemIn merged .square ≡ systemIn a .square + systemIn b .square)
+  totals-added =
+      let t = merge-totals (systemIn a) (systemIn b) (both .first-proper) (both .second-proper) in
+      (ap (λ z. z .accepted) merged-holds ∙ t .0, ap (λ z. z .square) merged-holds ∙ t .1)
+
+  module _ (k : ℕ) where
+    -- "unites labels and arcs"
+    pub labels-united : has k (keysOf (systemIn merged)) ≡ either (has k (keysOf (systemIn a))) (has k (keysOf (systemIn b)))
+    labels-united = ap (λ z. has k (keysOf z)) merged-holds ∙ merge-labels (systemIn a) (systemIn b) k
+
+    pub arcs-united : has k (systemIn merged .arcs) ≡ either (has k (systemIn a .arcs)) (has k (systemIn b .arcs))
+    arcs-united = ap (λ z. has k (z .arcs)) merged-holds ∙ merge-arcs (systemIn a) (systemIn b) k
+
+    -- "carries priors over without adding them": a label of either file is the same label, prior weight and estimate with it, in the merged one
+    pub first-kept : has k (keysOf (systemIn a)) ≡ true → (has k (keysOf (systemIn merged)) ≡ true) × (labelAt (systemIn merged) k ≡ labelAt (systemIn a) k)
+    first-kept h = (
+      ap (λ z. has k (keysOf z)) merged-holds ∙ in-merged-first (systemIn a) (systemIn b) k h,
+      ap (λ z. labelAt z k) merged-holds ∙ priors-first (systemIn a) (systemIn b) (both .first-proper) (both .second-proper) (both .none-refuses) k h,
+    )
+
+    pub second-kept : has k (keysOf (systemIn b)) ≡ true → (has k (keysOf (systemIn merged)) ≡ true) × (labelAt (systemIn merged) k ≡ labelAt (systemIn b) k)
+    second-kept h = (
+      ap (λ z. has k (keysOf z)) merged-holds ∙ in-merged-second (systemIn a) (systemIn b) k h,
+      ap (λ z. labelAt z k) merged-holds ∙ priors-second (systemIn a) (systemIn b) (both .first-proper) (both .second-proper) (both .none-refuses) k h,
+    )
+
+-- ---- three files, in either grouping: a merged one is given as one of two
+module _ (a b c room other out : List ℕ) (n m : ℕ) (first-bytes : Bytes a) (second-bytes : Bytes b) (third-bytes : Bytes c)
+    (ab : mergeAnswer a b (length room) ≡ written n) (bc : mergeAnswer b c (length other) ≡ written m) where
+  -- the two that are merged first
+  abbrev front-two : List ℕ
+  front-two = take n (mergeLeft a b room)
+
+  abbrev last-two : List ℕ
+  last-two = take m (mergeLeft b c other)
+
+  front-pair : Written a b room n
+  front-pair = written-file a b room n ab
+
+  last-pair : Written b c other m
+  last-pair = written-file b c other m bc
+
+  front-holds : systemIn front-two ≡ mergedOf (systemIn a) (systemIn b)
+  front-holds = merged-holds a b room n first-bytes second-bytes ab
+
+  last-holds : systemIn last-two ≡ mergedOf (systemIn b) (systemIn c)
+  last-holds = merged-holds b c other m second-bytes third-bytes bc
+
+  one-system : mergedOf (systemIn front-two) (systemIn c) ≡ mergedOf (systemIn a) (systemIn last-two)
+  one-system =
+      ap (λ z. mergedOf z (systemIn c)) front-holds ∙ merge-groups (systemIn a) (systemIn b) (systemIn c) (front-pair .first-proper) (front-pair .second-proper) (last-pair .second-proper)
+      ∙ ap (mergedOf (systemIn a)) (sym last-holds)
+
+  -- the same bytes
+  pub groups : (k l : ℕ) → mergeAnswer front-two c (length out) ≡ written k → mergeAnswer a last-two (length out) ≡ written l
+      → (k ≡ l) × (mergeLeft front-two c out ≡ mergeLeft a last-two out)
+  groups k l e f =
+      let x = written-file front-two c out k e in
+      let y = written-file a last-two out l f in (
+        x .long ∙ ap (λ z. length (normalBytes z)) one-system ∙ sym (y .long),
+        x .whole ∙ ap (λ z. lay out 0 (normalBytes z)) one-system ∙ sym (y .whole),
+      )
+
+  -- and written in the one where in the other
+  pub groups-forth : (k : ℕ) → mergeAnswer front-two c (length out) ≡ written k → mergeAnswer a last-two (length out) ≡ written k
+  groups-forth k e =
+      let x = written-file front-two c out k e in
+      let long : k ≡ length (normalBytes (mergedOf (systemIn a) (systemIn last-two))) = x .long ∙ ap (λ z. length (normalBytes z)) one-system in
+      let z = accept-groups (systemIn a) (systemIn b) (systemIn c) (front-pair .first-proper) (front-pair .second-proper) (last-pair .second-proper) (front-pair .none-refuses)
+      (ap (λ z. mergeNumber z (systemIn c)) (sym front-holds) ∙ x .none-refuses) in
+      written-where a last-two out (front-pair .first-read) (accepted last-two _ (merged-read b c other m second-bytes third-bytes bc))
+      (ap (mergeNumber (systemIn a)) last-holds ∙ z .1) (subst (λ i. i ≤ length out) long (x .fits)) ∙ ap written (sym long)
+
+  pub groups-back : (k : ℕ) → mergeAnswer a last-two (length out) ≡ written k → mergeAnswer front-two c (length out) ≡ written k
+  groups-back k e =
+      let y = written-file a last-two out k e in
+      let long : k ≡ length (normalBytes (mergedOf (systemIn front-two) (systemIn c))) = y .long ∙ ap (λ z. length (normalBytes z)) (sym one-system) in
+      let z = accept-back (systemIn a) (systemIn b) (systemIn c) (front-pair .first-proper) (front-pair .second-proper) (last-pair .second-proper) (last-pair .none-refuses)
+      (ap (mergeNumber (systemIn a)) (sym last-holds) ∙ y .none-refuses) in
+      written-where front-two c out (accepted front-two _ (merged-read a b room n first-bytes second-bytes ab)) (last-pair .second-read)
+      (ap (λ z. mergeNumber z (systemIn c)) front-holds ∙ z .1) (subst (λ i. i ≤ length out) long (y .fits)) ∙ ap written (sym long)

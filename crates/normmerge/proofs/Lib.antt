@@ -1,0 +1,4 @@
+pub mod Outcomes
+pub mod Answers
+pub mod Written
+pub mod Laws

@@ -1,0 +1,141 @@
+// Two normal files merged: the merged file's bytes into lent room, or the first refusal, which changes nothing.
+use normread::NormalRead;
+use normread::ReadAnswer;
+use refusal::Refusal;
+ghost use mathlib.Core.Path.{_≡_};
+ghost use Prim.Native.Nat.{_≤_};
+ghost use lib.ListN.{length};
+ghost use Rattle.merging.specs.Merge.{mergeNumber};
+ghost use Rattle.mergeput.specs.Parts.{systemIn, Taken, Joined, ArcsFit};
+ghost use Rattle.normmerge.specs.Files.{mergeAnswer, mergeLeft, toldMerge};
+ghost use Rattle.normmerge.specs.Pairs.{Merges};
+
+// The length of the file that was written; a file that is refused, with its place; or 20 to 24.
+pub enum MergeAnswer {
+    Is(usize),
+    First(Refusal, usize),
+    Second(Refusal, usize),
+    Refused(Refusal),
+}
+
+// 20, else the file.
+fn merge_room(
+    a: &[u8],
+    x: NormalRead,
+    b: &[u8],
+    y: NormalRead,
+    m: usize,
+    left: &[usize],
+    right: &[usize],
+    n: usize,
+    out: &mut [u8],
+) -> MergeAnswer
+    requires { ⌜ Taken (now a) x × Taken (now b) y ⌝ }
+    requires { ⌜ ArcsFit (now a) (now b) m × Joined (now a) (now b) n (now left) (now right) ⌝ }
+    requires { ⌜ (mergeNumber (systemIn (now a)) (systemIn (now b)) ≡ 0) × (n ≤ 500) ⌝ }
+    ensures { λ r. ⌜ Merges r (systemIn (now (a .entry))) (systemIn (now (b .entry))) (now (out .entry)) (now (out .exit)) ⌝ }
+{
+    let length = mergeput::needed(m, n);
+    if out.len() < length {
+        return MergeAnswer::Refused(Refusal::Room);
+    }
+    mergeput::put_file(out, a, x, b, y, m, left, right, n);
+    MergeAnswer::Is(length)
+}
+
+// 24, else what follows.
+fn merge_agreed(
+    a: &[u8],
+    x: NormalRead,
+    b: &[u8],
+    y: NormalRead,
+    m: usize,
+    left: &[usize],
+    right: &[usize],
+    n: usize,
+    out: &mut [u8],
+) -> MergeAnswer
+    requires { ⌜ Taken (now a) x × Taken (now b) y ⌝ }
+    requires { ⌜ ArcsFit (now a) (now b) m × Joined (now a) (now b) n (now left) (now right) ⌝ }
+    requires { ⌜ n ≤ 500 ⌝ }
+    ensures { λ r. ⌜ Merges r (systemIn (now (a .entry))) (systemIn (now (b .entry))) (now (out .entry)) (now (out .exit)) ⌝ }
+{
+    let begin = 8 + 4 * x.arcs;
+    let start = 8 + 4 * y.arcs;
+    if mergeheads::agree(
+        a,
+        begin,
+        x.parameters,
+        left,
+        b,
+        start,
+        y.parameters,
+        right,
+        n,
+    ) {
+        merge_room(a, x, b, y, m, left, right, n, out)
+    } else {
+        MergeAnswer::Refused(Refusal::Unlike)
+    }
+}
+
+// 23, else what follows.
+fn merge_labels(
+    a: &[u8],
+    x: NormalRead,
+    b: &[u8],
+    y: NormalRead,
+    m: usize,
+    out: &mut [u8],
+) -> MergeAnswer
+    requires { ⌜ Taken (now a) x × Taken (now b) y × ArcsFit (now a) (now b) m ⌝ }
+    ensures { λ r. ⌜ Merges r (systemIn (now (a .entry))) (systemIn (now (b .entry))) (now (out .entry)) (now (out .exit)) ⌝ }
+{
+    let mut left: [usize; 1000] = [0; 1000];
+    let mut right: [usize; 1000] = [0; 1000];
+    let n = mergeput::join_labels(a, x, b, y, &mut left, &mut right);
+    if 500 < n {
+        return MergeAnswer::Refused(Refusal::ManyParameters);
+    }
+    merge_agreed(a, x, b, y, m, &left, &right, n, out)
+}
+
+// Two files that were read: 21, 22, else what follows.
+fn merge_read(a: &[u8], x: NormalRead, b: &[u8], y: NormalRead, out: &mut [u8]) -> MergeAnswer
+    requires { ⌜ Taken (now a) x × Taken (now b) y ⌝ }
+    ensures { λ r. ⌜ Merges r (systemIn (now (a .entry))) (systemIn (now (b .entry))) (now (out .entry)) (now (out .exit)) ⌝ }
+{
+    let m = mergeput::count_arcs(a, x, b, y);
+    if m < x.arcs + y.arcs {
+        return MergeAnswer::Refused(Refusal::SharedArc);
+    }
+    if 16 < m {
+        return MergeAnswer::Refused(Refusal::ManyArcs);
+    }
+    merge_labels(a, x, b, y, m, out)
+}
+
+// A first file that was read, and the second.
+fn merge_second(a: &[u8], x: NormalRead, b: &[u8], out: &mut [u8]) -> MergeAnswer
+    requires { ⌜ Taken (now a) x ⌝ }
+    ensures { λ r. ⌜ (toldMerge r ≡ mergeAnswer (now (a .entry)) (now (b .entry)) (length (now (out .entry)))) × (now (out .exit) ≡ mergeLeft (now (a .entry)) (now (b .entry)) (now (out .entry))) ⌝ }
+{
+    let y = normread::read(b);
+    let answer = y.answer;
+    match answer {
+        ReadAnswer::Read => merge_read(a, x, b, y, out),
+        ReadAnswer::Refused(r, place) => MergeAnswer::Second(r, place),
+    }
+}
+
+// The first file is read, then the second; then 21 to 24, then 20; then the merged file is written.
+pub fn merge(first: &[u8], second: &[u8], out: &mut [u8]) -> MergeAnswer
+    ensures { λ r. ⌜ (toldMerge r ≡ mergeAnswer (now (first .entry)) (now (second .entry)) (length (now (out .entry)))) × (now (out .exit) ≡ mergeLeft (now (first .entry)) (now (second .entry)) (now (out .entry))) ⌝ }
+{
+    let x = normread::read(first);
+    let answer = x.answer;
+    match answer {
+        ReadAnswer::Read => merge_second(first, x, second, out),
+        ReadAnswer::Refused(r, place) => MergeAnswer::First(r, place),
+    }
+}
