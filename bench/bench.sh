@@ -1,30 +1,43 @@
 #!/bin/sh
-# bench.sh [time | count]: taking by the proved code beside the plain C peer; docs/BENCH.md tells what the numbers are.
+# bench.sh [time | count] [taking | normal]: the proved code beside the plain C peer, taking records or reading and merging normal files;
+# docs/BENCH.md tells what the numbers are.
 #   time   (or nothing) builds the driver at eight placements of the code; each compares all results, then measures times; their ratios
-#   count  prints the executed instructions a record, exactly; under the kit's emulator only (not on x86-64), and slow: about ten minutes
+#   count  prints the executed instructions a record or a sum, exactly: under the kit's emulator where it has one (not on x86-64), and slow,
+#          about ten minutes; else by valgrind, in seconds
 # It wants the toolchain's rt on the path. What it makes goes to target/bench.
 set -e
 cd "$(dirname "$0")/.."
 kit=$(dirname "$(dirname "$(readlink -f "$(command -v rt)")")"); own=$kit/on/$(uname -m); tools=$own/toolchain; out=target/bench
-rt staticlib bench_taking >/dev/null
+case ${2:-taking} in
+taking) crate=bench_taking; peer=peer; drive=drive; names='take_run take' ;;
+normal) crate=bench_normal; peer=normal_peer; drive=normal_drive; names='read merge' ;;
+*) echo "usage: bench.sh [time | count] [taking | normal]" >&2; exit 2 ;;
+esac
+rt staticlib $crate >/dev/null
 mkdir -p $out
 cc="$tools/bin/clang --target=x86_64-unknown-linux-gnu -O3 -fPIE -nostdinc -Wall -Wno-unused-parameter"
 qemu=$tools/bin/qemu-x86_64; [ -x "$qemu" ] || qemu=
 run="$tools/lib/ld-linux-x86-64.so.2 --library-path $tools/lib"
-for f in peer drive; do $cc -c bench/$f.c -o $out/$f.o; done
+for f in $peer $drive; do $cc -c bench/$f.c -o $out/$f.o; done
 
 link() { # link PAD: the driver with so many bytes before the code
     printf '__asm__(".section .text.pad,\\"axR\\"\\n.skip %d, 0x90\\n");\n' "$1" >$out/pad.c
     $cc -c $out/pad.c -o $out/pad.o
-    "$own/bin/rattle-link" --target x86_64-unknown-linux-gnu --toolchain "$tools" -o $out/bench $out/drive.o $out/peer.o $out/pad.o target/staticlib/libbench_taking.a >/dev/null 2>&1
+    "$own/bin/rattle-link" --target x86_64-unknown-linux-gnu --toolchain "$tools" -o $out/bench $out/$drive.o $out/$peer.o $out/pad.o target/staticlib/lib$crate.a >/dev/null 2>&1
 }
 
-instructions() { # instructions ARGS..: how many the driver executes, the loader's among them
-    $qemu -one-insn-per-tb -d nochain,exec -D /dev/fd/2 $run $out/bench "$@" 2>&1 >/dev/null | grep -c '^Trace'
+instructions() { # instructions ARGS..: how many the driver executes, the loader's among them; a block is cleared by a loop, not by a string instruction whose every byte would count
+    if [ "$qemu" ]; then
+        $qemu -one-insn-per-tb -d nochain,exec -D /dev/fd/2 $run $out/bench "$@" 2>&1 >/dev/null | grep -c '^Trace'
+    else
+        GLIBC_TUNABLES=glibc.cpu.x86_rep_stosb_threshold=100000000 valgrind --tool=callgrind --callgrind-out-file=/dev/null $run $out/bench "$@" 2>&1 >/dev/null | sed -n 's/.*Collected : \([0-9]*\).*/\1/p'
+    fi
 }
 
-each() { # each WHICH P RECORDS: the instructions a record, as the difference between one call and none
-    echo "$(instructions $1 $2 1 $3) $(instructions $1 $2 0 $3) $3" | awk '{ printf "%.1f", ($1 - $2) / $3 }'
+each() { # each N ARGS..: the instructions of one call, as the difference between one call and none, for each of N; a call's ARGS have @ for the number of calls
+    n=$1; shift
+    one=$(echo "$*" | sed s/@/1/); none=$(echo "$*" | sed s/@/0/)
+    echo "$(instructions $one) $(instructions $none) $n" | awk '{ printf "%.1f", ($1 - $2) / $3 }'
 }
 
 case ${1:-time} in
@@ -42,10 +55,11 @@ time)
 count)
     link 0
     $qemu $run $out/bench same
-    for p in 1 6 20 50; do
-        echo "$p $(each 0 $p 4000) $(each 1 $p 4000) $(each 2 $p 400) $(each 3 $p 400)" |
-            awk '{ printf "P %d: take_run %.1f, c %.1f, ratio %.3f; take %.1f, c %.1f, ratio %.3f\n", $1, $3, $2, $3 / $2, $5, $4, $5 / $4 }'
-    done
+    if [ $crate = bench_taking ]; then
+        for p in 1 6 20 50; do echo "$p $(each 4000 0 $p @ 4000) $(each 4000 1 $p @ 4000) $(each 400 2 $p @ 400) $(each 400 3 $p @ 400)"; done
+    else
+        for p in 50 200 500; do s=$((p * (p + 3) / 2)); echo "$p $(each $s 0 $p @) $(each $s 1 $p @) $(each $s 2 $p @) $(each $s 3 $p @)"; done
+    fi | awk -v names="$names" '{ split(names, n); printf "P %d: %s %.1f, c %.1f, ratio %.3f; %s %.1f, c %.1f, ratio %.3f\n", $1, n[1], $3, $2, $3 / $2, n[2], $5, $4, $5 / $4 }'
     ;;
-*) echo "usage: bench.sh [time | count]" >&2; exit 2 ;;
+*) echo "usage: bench.sh [time | count] [taking | normal]" >&2; exit 2 ;;
 esac

@@ -22,6 +22,7 @@ use Rattle.sums.proofs.Entries.{all-within}
 use Rattle.records.specs.Record.{partialsIn}
 use Rattle.state.specs.State.{State, stateOf, noRow, countOf, lastTimes, rowWith, tallyWith, emptyTally, cleared, sumOf, accepted, soundState}
 use Rattle.state.specs.declared.Row.{Row}
+use Rattle.state.proofs.Judged.{sum-le}
 use Rattle.account.specs.Taking.{Frame, placeOf, stamp, columnOf, scaled, weightIn, matrixTerms, rightTerms, book, recordAnswer, recordStep}
 use Rattle.account.proofs.Accepted.{accepted-in, terms, matrix-at, right-at}
 use Rattle.account.proofs.Parts.{Good, good, sound}
@@ -239,11 +240,6 @@ placed (suc p) k h =
     by-cases (less k (tri p))
     (λ t. let r = placed p k (less-true _ _ t) in record { row = r .row; column = r .column; upper = r .upper; inside = omega (arith, r .inside); is = r .is })
     (λ t. let l : tri p ≤ k = less-false _ _ t in record { row = k - tri p; column = p; upper = omega arith; inside = le-refl _; is = omega arith })
-
-sum-le : (l : List ℕ) (m : ℕ) → ((i : ℕ) → i < length l → getD l i 0 ≤ m) → sumOf l ≤ length l * m
-unfolding sumOf
-sum-le [] m h = zero-le
-sum-le (a ∷ l) m h = omega (arith, h 0 (omega arith), sum-le l m (λ i g. h (suc i) (omega arith)))
 
 module _ (stations p : ℕ) (s : State) (v : soundState stations p s ≡ true) where
   pub matrix-bound : (k : ℕ) → k < tri p → natAbs (getD (s .matrix) k (pos 0)) ≤ accepted (s .tally) * 2 ^ 46

@@ -6,14 +6,16 @@ use mathlib.Core.List.{List}
 use mathlib.Core.Bool.{Bool, true, false, not}
 use Prim.Native.Nat.{ℕ, _+_, _-_, _*_, _^_, _≤_, _<_}
 use native.Mathlib.Nat.{sub-zero}
+use native.Mathlib.Omega.{arith}
 use lib.Dec.{eqb}
 use lib.IntN.{ℤ}
-use lib.ListN.{length, getD, set}
+use lib.ListN.{length, getD, set, take, drop}
 use mir.Syntax.{w64}
 use mir.Val.{SFits, ofZ}
 use Rattle.whole.specs.Tests.{less}
 use Rattle.whole.proofs.Cases.{yes, no, fails, holds, at-once, at-last, is-less, not-less, is-same, not-same, less-true, less-false, by-cases}
 use Rattle.words.specs.Words.{word, signedWord, lay}
+use Rattle.words.proofs.Parts.{word-part, signed-part}
 use Rattle.system.specs.declared.NormalLabel.{NormalLabel}
 use Rattle.normwalk.specs.Walk.{stands}
 use Rattle.normread.specs.Kinds.{normalLabelAt}
@@ -47,6 +49,17 @@ module _ (a : List ℕ) (start n : ℕ) (b : List ℕ) (begin p q : ℕ) {l : No
   pub label-second : n ≤ p → l ≡ normalLabelAt b (begin + 24 * q) → l ≡ labelIn a start n b begin p q
   unfolding labelIn
   label-second h e = no _ _ _ (not-less p n h) e
+
+-- a label is read from a part that holds it
+pub label-part : (s : List ℕ) (at n : ℕ) → 24 ≤ n → normalLabelAt (take n (drop at s)) 0 ≡ normalLabelAt s at
+unfolding normalLabelAt
+label-part s at n h =
+    let kind = word-part 2 s at n 0 at (omega arith) (omega arith) in
+    let index = word-part 2 s at n 2 (at + 2) refl (omega arith) in
+    let arc = word-part 4 s at n 4 (at + 4) refl (omega arith) in
+    let weight = word-part 4 s at n 8 (at + 8) refl (omega arith) in
+    let estimate = signed-part w64 s at n 16 (at + 16) refl (omega arith) in
+    (λ i. record { kind = kind i; index = index i; arc = arc i; weight = weight i; estimate = estimate i })
 
 -- ---- two labels
 module _ (a : List ℕ) (p : ℕ) (b : List ℕ) (q : ℕ) where

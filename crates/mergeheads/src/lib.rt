@@ -14,7 +14,8 @@ ghost use Rattle.mergeheads.specs.Heads.{keysAt, numberIn, numberAt, lab
 
 // ---- reading
 
-fn label_at(s: &[u8], at: usize) -> NormalLabel
+// The label at a place, field by field.
+fn label_fields(s: &[u8], at: usize) -> NormalLabel
     requires { ⌜ at + 24 ≤ length (now s) ⌝ }
     ensures { λ r. ⌜ r ≡ normalLabelAt (now (s .entry)) at ⌝ }
 {
@@ -25,6 +26,15 @@ fn label_at(s: &[u8], at: usize) -> NormalLabel
         weight: words::read_u32(s, at + 8),
         estimate: words::read_i64(s, at + 16),
     }
+}
+
+// The same from a part of just the label's bytes, so that nothing is tested.
+fn label_at(s: &[u8], at: usize) -> NormalLabel
+    requires { ⌜ at + 24 ≤ length (now s) ⌝ }
+    ensures { λ r. ⌜ r ≡ normalLabelAt (now (s .entry)) at ⌝ }
+{
+    let e = at + 24;
+    label_fields(&s[at..e], 0)
 }
 
 // The keys of the n labels that stand at a place, into lent room.
@@ -183,7 +193,8 @@ fn label_in(
     label_at(b, begin + 24 * q)
 }
 
-fn put_label(out: &mut [u8], at: usize, l: NormalLabel)
+// A label's six fields, one after the other.
+fn put_fields(out: &mut [u8], at: usize, l: NormalLabel)
     requires { ⌜ at + 24 ≤ length (now out) ⌝ }
     ensures { λ _. ⌜ now (out .exit) ≡ lay (now (out .entry)) at (normalLabelBytes l) ⌝ }
 {
@@ -193,6 +204,15 @@ fn put_label(out: &mut [u8], at: usize, l: NormalLabel)
     words::write_u32(out, at + 8, l.weight);
     words::write_u32(out, at + 12, 0);
     words::write_i64(out, at + 16, l.estimate);
+}
+
+// The same into a part of just the label's bytes, so that nothing is tested.
+fn put_label(out: &mut [u8], at: usize, l: NormalLabel)
+    requires { ⌜ at + 24 ≤ length (now out) ⌝ }
+    ensures { λ _. ⌜ now (out .exit) ≡ lay (now (out .entry)) at (normalLabelBytes l) ⌝ }
+{
+    let e = at + 24;
+    put_fields(&mut out[at..e], 0, l);
 }
 
 // The first `count` labels of two files united.

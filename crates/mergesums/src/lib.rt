@@ -22,7 +22,7 @@ fn sum_at(s: &[u8], c: Column, i: usize) -> i64
     ensures { λ r. ⌜ r ≡ heldAt (now (s .entry)) c i ⌝ }
 {
     if i < c.rows {
-        return words::read_i64(s, c.base + 8 * i);
+        return normwalk::sum_from(s, c.base + 8 * i);
     }
     0
 }
@@ -51,6 +51,15 @@ fn plus(x: i64, y: i64) -> i64
     x + y
 }
 
+// A sum put where its bytes have room, into a part of just them, so that nothing is tested.
+fn put_sum(out: &mut [u8], at: usize, x: i64)
+    requires { ⌜ at + 8 ≤ length (now out) ⌝ }
+    ensures { λ _. ⌜ now (out .exit) ≡ lay (now (out .entry)) at (signedBytes w64 x) ⌝ }
+{
+    let e = at + 8;
+    words::write_i64(&mut out[at..e], 0, x);
+}
+
 // The sums of both at the first `count` united labels.
 pub fn put_sums(
     out: &mut [u8],
@@ -73,7 +82,7 @@ pub fn put_sums(
     while i < count {
         let x = sum_at(a, c, left[i]);
         let y = sum_at(b, d, right[i]);
-        words::write_i64(out, k, plus(x, y));
+        put_sum(out, k, plus(x, y));
         k += 8;
         i += 1;
     }

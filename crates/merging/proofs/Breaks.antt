@@ -3,7 +3,7 @@
 use mathlib.Core.Path.{_≡_, refl, sym, ap, _∙_}
 use mathlib.Core.List.{List}
 use mathlib.Core.Bool.{Bool, true, false, cond}
-use Prim.Native.Nat.{ℕ, zero, suc, _≤_}
+use Prim.Native.Nat.{ℕ, suc, _≤_}
 use native.Mathlib.Omega.{arith}
 use borrow.Author.Tests.{le-ltb, eqb-true, eqb-false}
 use lib.Dec.{eqb}
@@ -12,7 +12,7 @@ use lib.Signed.{ltZ}
 use lib.ListN.{getD}
 use Rattle.whole.proofs.Cases.{apart, by-cases}
 use Rattle.sums.specs.Sound.{entry, isZero, breaks, breaksSide}
-use Rattle.system.proofs.Sound.{entry-within, side-within}
+use Rattle.system.proofs.Sound.{not-above, not-under, entry-within, side-within}
 
 -- ---- tests of whole numbers
 zero-true : (z : ℤ) → isZero z ≡ true → z ≡ pos 0
@@ -21,16 +21,6 @@ zero-true (negsuc n) e = absurd (apart (sym e))
 
 zero-is : {z : ℤ} → z ≡ pos 0 → isZero z ≡ true
 zero-is e = ap isZero e
-
-not-above : (b : ℕ) (z : ℤ) → natAbs z ≤ b → ltZ (pos b) z ≡ false
-not-above b (pos n) h = le-ltb b n h
-not-above b (negsuc n) h = refl
-
-not-under : (b : ℕ) (z : ℤ) → natAbs z ≤ b → ltZ z (negℤ (pos b)) ≡ false
-not-under zero (pos n) h = le-ltb n 0 (omega arith)
-not-under (suc b) (pos n) h = refl
-not-under zero (negsuc n) h = absurd (omega arith)
-not-under (suc b) (negsuc n) h = le-ltb b n (omega arith)
 
 plain-of : (z : ℤ) → ltZ z (pos 0) ≡ false → z ≡ pos (natAbs z)
 plain-of (pos n) e = refl

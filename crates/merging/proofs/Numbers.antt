@@ -3,13 +3,13 @@
 use mathlib.Core.Path.{_≡_, refl, sym, _∙_, subst}
 use mathlib.Core.List.{List, [], _∷_}
 use mathlib.Core.Bool.{Bool, true, false, not}
-use Prim.Native.Nat.{ℕ, zero, suc, _≤_, _<_}
-use native.Mathlib.Nat.{not-suc-le-zero, le-of-suc-le-suc}
+use Prim.Native.Nat.{ℕ, _≤_}
 use native.Mathlib.Omega.{arith}
-use lib.ListN.{length, getD}
+use lib.ListN.{length}
 use Rattle.whole.specs.Tests.{less, same, both, either}
 use Rattle.whole.specs.Lists.{all}
 use Rattle.whole.proofs.Cases.{apart, at-last, same-true, less-false, both-first, both-second, by-cases}
+use Rattle.whole.proofs.Walks.{all-at}
 use Rattle.refusal.specs.First.{when, unless, first}
 use Rattle.refusal.proofs.Firsts.{when-true, when-false, unless-true, unless-false, when-none, unless-none, first-pass, first-stop, first-none, first-one}
 use Rattle.system.specs.System.{System, has, normalLabelOk}
@@ -116,12 +116,6 @@ number-comm x y p q =
     (λ i. first (when 21 (meet i) ∷ when 22 (less 16 (length (arcs i))) ∷ when 23 (less 500 (length (keys i))) ∷ unless 24 (all (λ k. agree-comm x y k i) (keys i)) ∷ []))
 
 -- ---- a label that two systems have is one and the same
-pub all-at : {A : Type 0} (f : A → Bool) (l : List A) (d : A) (i : ℕ) → all f l ≡ true → i < length l → f (getD l i d) ≡ true
-unfolding all
-all-at f [] d i e h = absurd (not-suc-le-zero h)
-all-at f (a ∷ l) d zero e h = both-first _ _ e
-all-at f (a ∷ l) d (suc i) e h = all-at f l d i (both-second _ _ e) (le-of-suc-le-suc h)
-
 pub all-has : (f : ℕ → Bool) (l : List ℕ) (k : ℕ) → all f l ≡ true → has k l ≡ true → f k ≡ true
 unfolding all has
 all-has f [] k e h = absurd (apart (sym h))

@@ -1,8 +1,8 @@
 -- What stands at the places of a run, and the tests of one sum put together.
 -- Assumes nothing.
-use Prim.Native.Nat.{ℕ, zero, suc, _+_, _*_, _<_}
+use Prim.Native.Nat.{ℕ, zero, suc, _+_, _-_, _*_, _≤_, _<_}
 use mathlib.Core.Path.{_≡_, refl, sym, ap, _∙_}
-use mathlib.Core.List.{List}
+use mathlib.Core.List.{List, [], _∷_}
 use mathlib.Core.Bool.{Bool, true, false, cond}
 use native.Mathlib.Omega.{arith}
 use native.Mathlib.Nat.{not-suc-le-zero, mul-zero, mul-suc}
@@ -31,6 +31,16 @@ module _ {A : Type 0} (f : ℕ → A) (size : ℕ) where
   stands-at zero place k d h = absurd (not-suc-le-zero h)
   stands-at (suc n) place zero d h = ap f (omega (arith, mul-zero size))
   stands-at (suc n) place (suc k) d h = stands-at n (place + size) k d (omega arith) ∙ ap f (omega (arith, mul-suc size k))
+
+-- a walk over n of them, i done: what is left
+module _ {A : Type 0} (f : ℕ → A) (size n i place : ℕ) where
+  pub stands-done : n ≤ i → stands f size (n - i) place ≡ []
+  unfolding stands
+  stands-done h = let z : n - i ≡ zero = omega arith in rw z
+
+  pub stands-next : i < n → stands f size (n - i) place ≡ f place ∷ stands f size (n - (i + 1)) (place + size)
+  unfolding stands
+  stands-next h = let one : n - i ≡ suc (n - (i + 1)) = omega arith in rw one
 
 -- ---- what the code reads
 module _ (s : List ℕ) (start n k : ℕ) (x : ℤ) (fits : SFits w64 x) (told : (n : ℕ) → k < n → x ≡ getD (sumsAt s start n) k (pos 0)) where

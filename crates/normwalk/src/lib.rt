@@ -1,9 +1,11 @@
-// Inner to the reader of normal files: the first unsound sum, found by a walk over the file's bytes; nothing is unpacked.
+// Inner to the readers and writers of normal files: the first unsound sum, found by a walk over the file's bytes; nothing is unpacked.
 ghost use mathlib.Core.Path.{_≡_};
 ghost use Prim.Native.Nat.{ℕ, _+_, _*_, _≤_, _<_, _^_};
 ghost use lib.IntN.{pos};
 ghost use lib.Signed.{ltZ};
 ghost use lib.ListN.{length, getD};
+ghost use mir.Syntax.{w64};
+ghost use Rattle.words.specs.Words.{signedWord};
 ghost use Rattle.sums.specs.Triangle.{tri};
 ghost use Rattle.sums.specs.Sound.{isZero, breaks, breaksSide};
 ghost use Rattle.system.specs.System.{boundOf, firstFrom, columnsFrom, totalsWhere};
@@ -26,12 +28,21 @@ pub enum Unsound {
 
 // ---- one sum
 
+// The sum at a place where it is whole, read from a part of just its bytes, so that nothing is tested.
+pub fn sum_from(s: &[u8], at: usize) -> i64
+    requires { ⌜ at + 8 ≤ length (now s) ⌝ }
+    ensures { λ r. ⌜ r ≡ signedWord w64 (now (s .entry)) at ⌝ }
+{
+    let e = at + 8;
+    words::read_i64(&s[at..e], 0)
+}
+
 // Sum k of those that begin at a place.
 fn sum_at(s: &[u8], start: usize, k: usize) -> i64
     requires { ⌜ start + 8 * k + 8 ≤ length (now s) ⌝ }
     ensures { λ r. ⌜ ((n : ℕ) → k < n → r ≡ getD (sumsAt (now (s .entry)) start n) k (pos 0)) ⌝ }
 {
-    words::read_i64(s, start + 8 * k)
+    sum_from(s, start + 8 * k)
 }
 
 fn is_past(x: i64, bound: u64) -> bool
@@ -144,7 +155,7 @@ fn first_side(s: &[u8], matrix: usize, rights: usize, p: usize, bound: u64) -> S
 // ---- all sums
 
 // A bound for so many arcs, 0 where nothing was accepted.
-fn bound_of(arcs: usize, accepted: u64, unit: u64) -> u64
+pub fn bound_of(arcs: usize, accepted: u64, unit: u64) -> u64
     requires { ⌜ (arcs ≤ 16) × (unit ≤ 2 ^ 58) ⌝ }
     ensures { λ r. ⌜ (r ≡ boundOf arcs accepted unit) × (r ≤ 2 ^ 62) ⌝ }
 {
@@ -154,7 +165,7 @@ fn bound_of(arcs: usize, accepted: u64, unit: u64) -> u64
     arcs as u64 * unit
 }
 
-fn judge_totals(arcs: usize, accepted: u64, square: u64) -> Unsound
+pub fn judge_totals(arcs: usize, accepted: u64, square: u64) -> Unsound
     requires { ⌜ arcs ≤ 16 ⌝ }
     ensures { λ r. ⌜ toldWhere r ≡ totalsWhere arcs accepted square ⌝ }
 {

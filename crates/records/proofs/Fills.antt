@@ -1,18 +1,15 @@
 -- Room that is filled with a record's partials, one by one: what is left to fill makes the whole.
 -- Assumes nothing.
 use Prim.Native.Nat.{ℕ, zero, suc, _+_, _-_, _≤_, _<_}
-use mathlib.Core.Path.{_≡_, refl, sym, ap, _∙_}
+use mathlib.Core.Path.{_≡_, refl, ap, _∙_}
 use mathlib.Core.List.{List, _++_, append-nil}
 use native.Mathlib.Omega.{arith}
-use native.Mathlib.Nat.{add-zero, sub-zero}
+use native.Mathlib.Nat.{sub-zero}
 use lib.IntN.{ℤ}
-use lib.ListN.{length, set, take, drop, length-drop, take-append-drop, drop-of-length-le}
-use lib.Seq.{sets, sets-eq, length-take-le}
+use lib.ListN.{length, set, drop-of-length-le}
+use lib.Seq.{sets, sets-eq}
 use mir.Syntax.{w16}
-use mir.Val.{toZ}
-use Rattle.words.specs.Words.{word, signedWord}
-use Rattle.words.proofs.Words.{word-within}
-use Rattle.words.proofs.Parts.{word-past}
+use Rattle.words.specs.Words.{signedWord}
 use Rattle.records.specs.Record.{partialsFrom, partialsIn}
 
 -- a list as long as the room takes its place
@@ -25,17 +22,6 @@ pub length-partials : (n : ℕ) (b : List ℕ) (at : ℕ) → length (partialsFr
 unfolding partialsFrom
 length-partials zero b at = refl
 length-partials (suc n) b at = ap suc (length-partials n b (at + 2))
-
--- a partial that is whole is read from a part of just its bytes
-pub partial-part : (b : List ℕ) (at n : ℕ) → n ≡ 2 → at + 2 ≤ length b → signedWord w16 (take n (drop at b)) 0 ≡ signedWord w16 b at
-unfolding signedWord
-partial-part b at n e h =
-    let d = drop at b in
-    let p : length (take n d) ≡ 2 = ap (λ m. length (take m d)) e ∙ length-take-le 2 d (rw (length-drop at b) (omega arith)) in
-    let near : word 2 d 0 ≡ word 2 (take n d) 0 = ap (λ l. word 2 l 0) (sym (take-append-drop n d)) ∙ word-within 2 (take n d) (drop n d) 0 (omega (arith, p)) in
-    let far : word 2 b at ≡ word 2 d 0 =
-    ap (λ l. word 2 l at) (sym (take-append-drop at b)) ∙ ap (λ k. word 2 (take at b ++ d) k) (sym (add-zero at)) ∙ word-past 2 (take at b) d at 0 (length-take-le at b (omega arith)) in
-    ap (λ x. toZ w16 x) (sym (far ∙ near))
 
 module _ (b : List ℕ) (n i at : ℕ) (out : List ℤ) where
   pub fill-start : n ≡ length out → sets out 0 (partialsFrom (n - 0) b 32) ≡ partialsIn n b

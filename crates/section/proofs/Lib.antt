@@ -4,3 +4,4 @@ pub mod Read
 pub mod Prefix
 pub mod Chains
 pub mod Written
+pub mod Laid

@@ -1,9 +1,9 @@
 -- The tests of a tally and of its sums, from and to what a walk over them finds.
 -- Assumes nothing.
-use Prim.Native.Nat.{ℕ, suc, _+_, _≤_, _<_, zero-le, suc-le-suc}
+use Prim.Native.Nat.{ℕ, suc, _+_, _*_, _≤_, _<_, zero-le, suc-le-suc}
 use mathlib.Core.Path.{_≡_, refl, sym, ap}
 use mathlib.Core.Bool.{true, false, not}
-use mathlib.Core.List.{List}
+use mathlib.Core.List.{List, [], _∷_}
 use native.Mathlib.Nat.{le-trans, le-of-suc-le-suc}
 use native.Mathlib.Numerals.{add-one}
 use native.Mathlib.Omega.{arith}
@@ -43,6 +43,12 @@ module _ (stations : ℕ) (counts : List ℕ) where
 pub tally-small : (stations : ℕ) (t : Tally) → tallySound stations t ≡ true → (i : ℕ) → i < 16 → countOf t i ≤ 256
 unfolding tallySound
 tally-small stations t e = counts-small stations (t .counts) (both-first _ _ e)
+
+-- their total is at most so much for each
+pub sum-le : (l : List ℕ) (m : ℕ) → ((i : ℕ) → i < length l → getD l i 0 ≤ m) → sumOf l ≤ length l * m
+unfolding sumOf
+sum-le [] m h = zero-le
+sum-le (a ∷ l) m h = omega (arith, h 0 (omega arith), sum-le l m (λ i g. h (suc i) (omega arith)))
 
 -- their total, from the ith on
 module _ (l : List ℕ) (i : ℕ) where

@@ -1,6 +1,6 @@
 -- Document 01, 'Taking a record': "The state holds the packed upper triangle by columns, the right sides, the square sum, a count for each
 -- station and a table of sixteen rows of ten last times, 0 for none." What a state is, the empty one, and which states are sound (6).
-use Prim.Native.Nat.{ℕ, suc, _+_, _*_, _^_, min}
+use Prim.Native.Nat.{ℕ, suc, _+_, _*_, _^_, _≤_, _<_, min}
 use mathlib.Core.List.{List, [], _∷_, _++_}
 use mathlib.Core.Bool.{Bool, not}
 use lib.IntN.{ℤ, pos}
@@ -59,6 +59,10 @@ cleared n l = replicate n (pos 0) ++ drop n l
 unfoldable pub sumOf : List ℕ → ℕ
 sumOf [] = 0
 sumOf (c ∷ l) = c + sumOf l
+
+-- no count is above 256
+abbrev pub Few : List ℕ → Type 0
+Few counts = (i : ℕ) → i < 16 → getD counts i 0 ≤ 256
 
 abbrev pub accepted : Tally → ℕ
 accepted t = sumOf (t .counts)

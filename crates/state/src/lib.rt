@@ -4,9 +4,9 @@ use heading::Verdict;
 use refusal::Refusal;
 use sums::Walked;
 ghost use mathlib.Core.Path.{_≡_};
-ghost use Prim.Native.Nat.{ℕ, _*_, _^_, _≤_, _<_, min};
+ghost use Prim.Native.Nat.{_*_, _^_, _≤_, _<_, min};
 ghost use lib.IntN.{pos};
-ghost use lib.ListN.{length, getD};
+ghost use lib.ListN.{length};
 ghost use Rattle.whole.specs.Tests.{less, upTo, same, pick, both};
 ghost use Rattle.whole.specs.Lists.{all};
 ghost use Rattle.sums.specs.Triangle.{tri};
@@ -17,6 +17,7 @@ ghost use Rattle.state.specs.State.{
   emptyTally,
   cleared,
   sumOf,
+  Few,
   matrixTop,
   rightTop,
   countsSound,
@@ -145,16 +146,21 @@ fn counts_sound(stations: usize, counts: [u32; 16]) -> bool
     true
 }
 
-// The total of counts that are at most 256 each.
-fn accepted(counts: [u32; 16]) -> u64
-    requires { ⌜ ((i : ℕ) → i < 16 → getD counts i 0 ≤ 256) ⌝ }
-    ensures { λ r. ⌜ (r ≡ sumOf counts) × (r ≤ 4096) ⌝ }
+fn wide(x: u32) -> u64
+    ensures { λ r. ⌜ (r ≡ x) × (r < 4294967296) ⌝ }
+{
+    x as u64
+}
+
+// How many records were accepted, by the counts of the stations.
+pub fn accepted(counts: [u32; 16]) -> u64
+    ensures { λ r. ⌜ (r ≡ sumOf counts) × (Few counts → r ≤ 4096) ⌝ }
 {
     let mut n: u64 = 0;
-    let mut i: usize = 0;
-    while i < 16 {
-        n += counts[i] as u64;
-        i += 1;
+    let mut station: usize = 0;
+    while station < 16 {
+        n += wide(counts[station]);
+        station += 1;
     }
     n
 }

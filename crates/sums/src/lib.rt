@@ -75,7 +75,7 @@ pub fn add_matrix(sums: &mut [i64], a: &[i16], w: u32)
 
 // The place of row i and column j in the packed triangle.
 pub fn place(i: usize, j: usize) -> usize
-    requires { ⌜ (i ≤ j) × (j < 500) ⌝ }
+    requires { ⌜ (i ≤ j) × (j ≤ 500) ⌝ }
     ensures { λ r. ⌜ r ≡ tri j + i ⌝ }
 {
     j * (j + 1) / 2 + i

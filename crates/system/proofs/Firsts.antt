@@ -97,7 +97,7 @@ in-column : (base : ℕ) (x rest : Found) → (x ≡ none → inColumn base x re
 unfolding inColumn
 in-column base x rest = (λ e. rw e, λ i e. rw e)
 
-by-found : {A : Type 0} (x : Found) → (x ≡ none → A) → ((i : ℕ) → x ≡ at i → A) → A
+pub by-found : {A : Type 0} (x : Found) → (x ≡ none → A) → ((i : ℕ) → x ≡ at i → A) → A
 by-found none f g = f refl
 by-found (at i) f g = g i refl
 

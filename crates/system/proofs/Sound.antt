@@ -7,7 +7,7 @@ use mathlib.Core.List.{List}
 use mathlib.Core.Bool.{Bool, true, false, cond}
 use native.Mathlib.Omega.{arith}
 use native.Mathlib.Nat.{not-suc-le-zero, le-trans, mul-le-mul}
-use borrow.Author.Tests.{ltb-false}
+use borrow.Author.Tests.{ltb-false, le-ltb}
 use lib.IntN.{ℤ, pos, negsuc, negℤ, natAbs}
 use lib.Signed.{ltZ}
 use lib.ListN.{length, getD}
@@ -81,6 +81,17 @@ between-bounds b (pos n) h l = ltb-false b n h
 between-bounds zero (negsuc n) h l = absurd (apart l)
 between-bounds (suc b) (negsuc n) h l = omega (arith, ltb-false b n l)
 
+-- and one within b is neither
+pub not-above : (b : ℕ) (z : ℤ) → natAbs z ≤ b → ltZ (pos b) z ≡ false
+not-above b (pos n) h = le-ltb b n h
+not-above b (negsuc n) h = refl
+
+pub not-under : (b : ℕ) (z : ℤ) → natAbs z ≤ b → ltZ z (negℤ (pos b)) ≡ false
+not-under zero (pos n) h = le-ltb n 0 (omega arith)
+not-under (suc b) (pos n) h = refl
+not-under zero (negsuc n) h = absurd (omega arith)
+not-under (suc b) (negsuc n) h = le-ltb b n (omega arith)
+
 cond-false : (a b : Bool) → cond a true b ≡ false → (a ≡ false) × (b ≡ false)
 cond-false true b e = absurd (apart e)
 cond-false false b e = (refl, e)
@@ -98,6 +109,23 @@ side-within b m r i e =
     let x = cond-false _ _ e in
     let y = cond-false _ _ (x .1) in
     between-bounds b (getD r i (pos 0)) (x .0) (y .0)
+
+-- what a bound lets pass, a wider one does
+pub entry-wider : (b c : ℕ) (m : List ℤ) (i j : ℕ) → b ≤ c → breaks (pos b) m i j ≡ false → breaks (pos c) m i j ≡ false
+unfolding breaks
+entry-wider b c m i j h e =
+    let x = cond-false _ _ e in
+    let y = cond-false _ _ (x .1) in
+    let within = le-trans (between-bounds b (entry m i j) (x .0) (y .0)) h in
+    rw (not-above c (entry m i j) within, not-under c (entry m i j) within) (y .1)
+
+pub side-wider : (b c : ℕ) (m r : List ℤ) (i : ℕ) → b ≤ c → breaksSide (pos b) m r i ≡ false → breaksSide (pos c) m r i ≡ false
+unfolding breaksSide
+side-wider b c m r i h e =
+    let x = cond-false _ _ e in
+    let y = cond-false _ _ (x .1) in
+    let within = le-trans (between-bounds b (getD r i (pos 0)) (x .0) (y .0)) h in
+    rw (not-above c (getD r i (pos 0)) within, not-under c (getD r i (pos 0)) within) (y .1)
 
 -- ---- each number below that of a triangle is the place of one entry
 pub record Entry (p k : ℕ) : Type 0 where

@@ -3,7 +3,7 @@
 use mathlib.Core.Path.{_≡_, refl, sym, ap, ap₂, _∙_}
 use mathlib.Core.List.{List, [], _∷_, _++_}
 use Prim.Native.Nat.{ℕ, zero, suc, _+_, _*_, _-_, _/_, _%_, _^_, _<_, _≤_, min}
-use native.Mathlib.Nat.{pow-suc, pow-zero, pow-le-pow-right, add-suc, suc-add, add-zero, zero-add, sub-self, mul-assoc, le-refl, mul-comm, one-mul, div-one, div-div-eq-div-mul}
+use native.Mathlib.Nat.{pow-suc, pow-zero, pow-le-pow-right, add-suc, suc-add, add-zero, zero-add, sub-self, mul-assoc, le-refl, mul-comm, one-mul, div-one, div-div-eq-div-mul, div-add-mod'}
 use native.Mathlib.Numerals.{add-one}
 use native.Mathlib.Omega.{arith}
 use lib.Dec.{lit<}
@@ -113,6 +113,22 @@ bytesOf-join zero k n = rw (zero-add, pow-zero, div-one)
 bytesOf-join (suc j) k n =
     let up : n / 256 / 256 ^ j ≡ n / 256 ^ suc j = div-div-eq-div-mul n 256 (256 ^ j) ∙ ap (λ m. n / m) (mul-comm 256 (256 ^ j) ∙ sym (pow-suc 256 j)) in
     rw (suc-add j k, ← up) (ap (λ r. n % 256 ∷ r) (bytesOf-join j k (n / 256)))
+
+-- the k bytes of a number are those of what is left of it below the kth power of 256
+low-more : (k q r : ℕ) → bytesOf k (r + q * 256 ^ k) ≡ bytesOf k r
+unfolding bytesOf
+low-more zero q r = refl
+low-more (suc k) q r =
+    let up : q * 256 ^ suc k ≡ 256 * (q * 256 ^ k) = ap (λ m. q * m) (pow-suc 256 k) ∙ sym (mul-assoc q (256 ^ k) 256) ∙ mul-comm (q * 256 ^ k) 256 in
+    let low : (r + q * 256 ^ suc k) % 256 ≡ r % 256 = omega arith in
+    let high : (r + q * 256 ^ suc k) / 256 ≡ r / 256 + q * 256 ^ k = omega arith in
+    rw (low, high) (ap (λ l. r % 256 ∷ l) (low-more k q (r / 256)))
+
+pub low : (k n : ℕ) → bytesOf k (n % 256 ^ k) ≡ bytesOf k n
+low k n =
+    let m = 256 ^ k in
+    let whole : n % m + n / m * m ≡ n = omega (arith, div-add-mod' n m) in
+    sym (low-more k (n / m) (n % m)) ∙ ap (bytesOf k) whole
 
 -- ---- laying bytes over a list
 pub length-lay : (s : List ℕ) (at : ℕ) (bs : List ℕ) → length (lay s at bs) ≡ length s

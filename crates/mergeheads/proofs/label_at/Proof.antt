@@ -1,54 +1,40 @@
--- `mergeheads::label_at` meets its contract: each field is the word at its place.
+-- `mergeheads::label_at` meets its contract.
 -- Assumes nothing.
-use mir.Syntax.{w64}
-use mir.ValLaws.{toZ-ofZ}
-use Rattle.normread.specs.Kinds.{normalLabelAt}
+use Prim.Native.Nat.{_+_, _-_}
+use mathlib.Core.Path.{_∙_}
+use native.Mathlib.Omega.{arith}
+use Rattle.mergeheads.proofs.Chosen.{label-part}
 use borrow.Author.Needs.{needs}
 use Rattle.mergeheads.proofs.label_at.Statement.{statement}
 use Rattle.mergeheads.proofs.label_at.Tie as tie
 
-read-u16-requires : tie.Need-read-u16-requires
-read-u16-requires c κs = search needs
+add-e : tie.Need-add-e
+add-e c = search needs
 
-add-read-u16 : tie.Need-add-read-u16
-add-read-u16 c = search needs
+sub-label-fields : tie.Need-sub-label-fields
+sub-label-fields c = search needs
 
-read-u16-requires-2 : tie.Need-read-u16-requires-2
-read-u16-requires-2 c κs = search needs
+part-label-fields-start : tie.Need-part-label-fields-start
+part-label-fields-start c = search needs
 
-add-read-u32 : tie.Need-add-read-u32
-add-read-u32 c = search needs
+part-label-fields-end : tie.Need-part-label-fields-end
+part-label-fields-end c = search needs
 
-read-u32-requires : tie.Need-read-u32-requires
-read-u32-requires c κs = search needs
-
-add-read-u32-2 : tie.Need-add-read-u32-2
-add-read-u32-2 c = search needs
-
-read-u32-requires-2 : tie.Need-read-u32-requires-2
-read-u32-requires-2 c κs = search needs
-
-add-read-i64 : tie.Need-add-read-i64
-add-read-i64 c = search needs
-
-read-i64-requires : tie.Need-read-i64-requires
-read-i64-requires c κs = search needs
+label-fields-requires : tie.Need-label-fields-requires
+label-fields-requires c κs = search needs
 
 returns : tie.Need-returns
-unfolding normalLabelAt
-returns c = rw (toZ-ofZ w64 (c .read-i64 .result) (record { sfits = c .read-i64 .ok })) (cc)
+returns c =
+    let s = c .before .before .before in
+    c .label-fields .ensures ∙ label-part (s .args .s .now) (s .args .at) (s .args .at + 24 - s .args .at) (omega arith)
 
 pub label-at-spec : {M : Type 1} → statement M
 label-at-spec =
     tie.close
     (tie.spec
-    read-u16-requires
-    add-read-u16
-    read-u16-requires-2
-    add-read-u32
-    read-u32-requires
-    add-read-u32-2
-    read-u32-requires-2
-    add-read-i64
-    read-i64-requires
+    add-e
+    sub-label-fields
+    part-label-fields-start
+    part-label-fields-end
+    label-fields-requires
     returns)

@@ -58,8 +58,8 @@ plus-requires c κs =
       rw (toZ-ofZ w64 (y .result) (search needs), y .ensures) (held-small _ _ _ (small .1)),
     )
 
-write-i64-requires : tie.Need-write-i64-requires Inv-loop μ-loop
-write-i64-requires c κs = search needs
+put-sum-requires : tie.Need-put-sum-requires Inv-loop μ-loop
+put-sum-requires c κs = search needs
 
 add-k : tie.Need-add-k Inv-loop μ-loop
 add-k c = search needs
@@ -82,8 +82,8 @@ loop-again c =
     (toZ-ofZ w64 (z .result) (search needs) ∙ z .ensures)
     (toZ-ofZ w64 (x .result) (search needs) ∙ x .ensures)
     (toZ-ofZ w64 (y .result) (search needs) ∙ y .ensures) in
-    let e : c .before .before .write-i64 .last .0 ≡ lay (l .out) (l .k) (signedBytes w64 (bothAt (s .a .now) (s .c) (s .left .now) (s .b .now) (s .d) (s .right .now) (l .i))) =
-    c .before .before .write-i64 .ensures ∙ ap (λ v. lay (l .out) (l .k) (signedBytes w64 v)) is in (
+    let e : c .before .before .put-sum .last .0 ≡ lay (l .out) (l .k) (signedBytes w64 (bothAt (s .a .now) (s .c) (s .left .now) (s .b .now) (s .d) (s .right .now) (l .i))) =
+    c .before .before .put-sum .ensures ∙ ap (λ v. lay (l .out) (l .k) (signedBytes w64 v)) is in (
       search needs,
       search needs,
       rw e (length-lay _ _ _ ∙ l .inv .2),
@@ -110,7 +110,7 @@ put-sums-spec =
     shared-slice-read-sum-at-2
     sum-at-requires-2
     plus-requires
-    write-i64-requires
+    put-sum-requires
     add-k
     add-i
     loop-less

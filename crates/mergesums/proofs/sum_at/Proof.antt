@@ -9,20 +9,20 @@ use borrow.Author.Needs.{needs}
 use Rattle.mergesums.proofs.sum_at.Statement.{statement}
 use Rattle.mergesums.proofs.sum_at.Tie as tie
 
-mul-read-i64 : tie.Need-mul-read-i64
-mul-read-i64 c = search needs
+mul-sum-from : tie.Need-mul-sum-from
+mul-sum-from c = search needs
 
-add-read-i64 : tie.Need-add-read-i64
-add-read-i64 c = search needs
+add-sum-from : tie.Need-add-sum-from
+add-sum-from c = search needs
 
-read-i64-requires : tie.Need-read-i64-requires
-read-i64-requires c κs = search needs
+sum-from-requires : tie.Need-sum-from-requires
+sum-from-requires c κs = search needs
 
 returns : tie.Need-returns
-returns c = held-there _ _ _ (omega arith) (toZ-ofZ w64 (c .read-i64 .result) (search needs) ∙ c .read-i64 .ensures)
+returns c = held-there _ _ _ (omega arith) (toZ-ofZ w64 (c .sum-from .result) (search needs) ∙ c .sum-from .ensures)
 
 returns-2 : tie.Need-returns-2
 returns-2 c = held-past _ _ _ (omega arith)
 
 pub sum-at-spec : {M : Type 1} → statement M
-sum-at-spec = tie.close (tie.spec mul-read-i64 add-read-i64 read-i64-requires returns returns-2)
+sum-at-spec = tie.close (tie.spec mul-sum-from add-sum-from sum-from-requires returns returns-2)

@@ -5,7 +5,7 @@ use native.Mathlib.Omega.{arith}
 use mathlib.Core.Path.{_∙_}
 use mir.Syntax.{w16}
 use mir.ValLaws.{toZ-ofZ}
-use Rattle.records.proofs.Fills.{partial-part}
+use Rattle.words.proofs.Parts.{signed-part}
 use borrow.Author.Needs.{needs}
 use Rattle.records.proofs.partial_at.Statement.{statement}
 use Rattle.records.proofs.partial_at.Tie as tie
@@ -28,7 +28,7 @@ read-i16-requires c κs = search needs
 returns : tie.Need-returns
 returns c =
     let s = c .before .before .before in
-    toZ-ofZ w16 (c .read-i16 .result) (search needs) ∙ c .read-i16 .ensures ∙ partial-part (s .args .bytes .now) (s .args .at) (s .args .at + 2 - s .args .at) (omega arith) (omega (arith, s .pre))
+    toZ-ofZ w16 (c .read-i16 .result) (search needs) ∙ c .read-i16 .ensures ∙ signed-part w16 (s .args .bytes .now) (s .args .at) (s .args .at + 2 - s .args .at) 0 (s .args .at) (omega arith) (omega arith)
 
 pub partial-at-spec : {M : Type 1} → statement M
 partial-at-spec =

@@ -1,6 +1,7 @@
 -- `state::is_sound` meets its contract: the tally, then the sums and the right sides.
 -- Assumes nothing.
 use mathlib.Core.Path.{_≡_, sym, _∙_}
+use Prim.Native.Nat.{_≤_}
 use Rattle.whole.proofs.Cases.{holds, fails}
 use Rattle.state.specs.State.{accepted, matrixTop, rightTop, matrixSound, rightsSound, soundState}
 use Rattle.state.proofs.Judged.{tally-small}
@@ -12,13 +13,17 @@ tally-sound-requires : tie.Need-tally-sound-requires
 tally-sound-requires c κs = search needs
 
 accepted-requires : tie.Need-accepted-requires
-accepted-requires c κs = tally-small (c .before .before .before .args .h .stations) _ (sym (c .before .before .tally-sound .ensures) ∙ c .before .if1 .taken)
+accepted-requires c κs = search needs
+
+-- there are few
+few : (c : tie.After-accepted) → c .accepted .result ≤ 4096
+few c = c .accepted .ensures .1 (tally-small (c .before .before .before .before .args .h .stations) _ (sym (c .before .before .before .tally-sound .ensures) ∙ c .before .before .if1 .taken))
 
 matrix-sound-requires : tie.Need-matrix-sound-requires
-matrix-sound-requires c κs = search needs
+matrix-sound-requires c κs = let f = few c in search needs
 
 rights-sound-requires : tie.Need-rights-sound-requires
-rights-sound-requires c κs = search needs
+rights-sound-requires c κs = let f = few (c .before .before) in search needs
 
 -- the test of the sums
 matrix : (c : tie.After-matrix-sound) → let s = c .before .before .before .before .before in matrixSound (s .args .h .parameters) (matrixTop (accepted (s .args .t))) (s .args .matrix .now) ≡ c .matrix-sound .result

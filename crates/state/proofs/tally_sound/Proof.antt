@@ -2,6 +2,7 @@
 -- Assumes nothing.
 use mathlib.Core.Path.{sym, ap, _∙_}
 use Prim.Native.Nat.{_*_, _^_}
+use native.Mathlib.Omega.{arith}
 use Rattle.whole.specs.Tests.{upTo}
 use Rattle.whole.proofs.Cases.{holds, fails, by-upTo}
 use Rattle.state.specs.State.{tallySound}
@@ -17,10 +18,10 @@ rows-sound-requires : tie.Need-rows-sound-requires
 rows-sound-requires c κs = search needs
 
 accepted-requires : tie.Need-accepted-requires
-accepted-requires c κs = let a = c .before .before in counts-small _ _ (sym (a .before .counts-sound .ensures) ∙ a .if1 .taken)
+accepted-requires c κs = search needs
 
 mul-result : tie.Need-mul-result
-mul-result c = search needs
+mul-result c = let a = c .before .before .before in omega (arith, c .accepted .ensures .1 (counts-small _ _ (sym (a .before .counts-sound .ensures) ∙ a .if1 .taken)))
 
 returns : tie.Need-returns
 unfolding tallySound

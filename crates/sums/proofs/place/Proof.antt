@@ -1,7 +1,7 @@
 -- `sums::place` meets its contract.
 -- Assumes nothing.
 use Prim.Native.Nat.{_≤_, _+_}
-use native.Mathlib.Nat.{lt-of-le-of-lt, mul-le-mul, le-of-lt}
+use native.Mathlib.Nat.{lt-of-le-of-lt, mul-le-mul}
 use native.Mathlib.Omega.{arith}
 use lib.Dec.{lit<}
 use Rattle.sums.proofs.Entries.{tri-twice}
@@ -13,9 +13,9 @@ add-result : tie.Need-add-result
 add-result c = search needs
 
 mul-result : tie.Need-mul-result
-mul-result c = record { fits = lt-of-le-of-lt (mul-le-mul (le-of-lt (c .pre .1)) small) (lit< tt) }
+mul-result c = record { fits = lt-of-le-of-lt (mul-le-mul (c .pre .1) small) (lit< tt) }
   where
-    small : c .args .j + 1 ≤ 500
+    small : c .args .j + 1 ≤ 501
     small = omega arith
 
 add-result-2 : tie.Need-add-result-2

@@ -1,0 +1,63 @@
+-- `normjudge::sides_sound` meets its contract, by what the walk finds.
+-- Assumes nothing.
+use borrow.Author.Needs.{needs}
+use mathlib.Core.Path.{_≡_, subst, _∙_}
+use Prim.Native.Nat.{_^_}
+use lib.IntN.{pos}
+use mir.Syntax.{w64}
+use mir.Val.{toZ, ofZ}
+use mir.ValLaws.{toZ-ofZ}
+use Rattle.sums.specs.Sound.{RightSides}
+use Rattle.sums.specs.declared.Walked.{Walked}
+use Rattle.sums.specs.declared.Walked.the-variants.{Sound, Unsound}
+use Rattle.system.specs.System.{boundOf}
+use Rattle.normjudge.specs.Judge.{sidesWhere}
+use Rattle.normjudge.proofs.Sums.{not-below, rights-sound, rights-unsound}
+use Rattle.normjudge.proofs.sides_sound.Statement.{statement}
+use Rattle.normjudge.proofs.sides_sound.Tie as tie
+
+value : (c : tie.After-bound-of) → toZ w64 (ofZ w64 (c .bound-of .result)) ≡ pos (boundOf (c .before .args .arcs) (c .before .args .accepted) (2 ^ 55))
+value c = toZ-ofZ w64 (c .bound-of .result) (search needs) ∙ c .bound-of .ensures
+
+-- what the walk found, at the bound
+found : (c : tie.After-first-broken-side) → let s = c .before .before .args in (w : Walked) → c .first-broken-side .result ≡ w
+    → RightSides (pos (boundOf (s .arcs) (s .accepted) (2 ^ 55))) (s .matrix .now) (s .rights .now) (s .p) w
+found c w e =
+    let s = c .before .before .args in
+    subst (λ b. RightSides b (s .matrix .now) (s .rights .now) (s .p) w) (value (c .before))
+    (subst (λ v. RightSides (toZ w64 (ofZ w64 (c .before .bound-of .result))) (s .matrix .now) (s .rights .now) (s .p) v) e (c .first-broken-side .ensures))
+
+bound-of-requires : tie.Need-bound-of-requires
+bound-of-requires c κs = search needs
+
+first-broken-side-requires : tie.Need-first-broken-side-requires
+first-broken-side-requires c κs = (search needs, rw (value c) (not-below _))
+
+enum-told : tie.Need-enum-told
+enum-told c = search needs
+
+totals-sound-requires : tie.Need-totals-sound-requires
+totals-sound-requires c κs = search needs
+
+enum-told-2 : tie.Need-enum-told-2
+enum-told-2 c = search needs
+
+returns : tie.Need-returns
+unfolding sidesWhere
+returns c = c .totals-sound .ensures ∙ rights-sound _ _ _ _ _ (found (c .before .before .before) Sound (c .before .enum-told .given .1))
+
+returns-2 : tie.Need-returns-2
+unfolding sidesWhere
+returns-2 c = rights-unsound _ _ _ _ _ _ (found (c .before .before) (Unsound _) (c .enum-told2 .given .1))
+
+pub sides-sound-spec : {M : Type 1} → statement M
+sides-sound-spec =
+    tie.close
+    (tie.spec
+    bound-of-requires
+    first-broken-side-requires
+    enum-told
+    totals-sound-requires
+    enum-told-2
+    returns
+    returns-2)

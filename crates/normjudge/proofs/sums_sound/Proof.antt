@@ -1,0 +1,63 @@
+-- `normjudge::sums_sound` meets its contract, by what the walk finds.
+-- Assumes nothing.
+use borrow.Author.Needs.{needs}
+use mathlib.Core.Path.{_≡_, subst, _∙_}
+use Prim.Native.Nat.{_^_}
+use lib.IntN.{pos}
+use mir.Syntax.{w64}
+use mir.Val.{toZ, ofZ}
+use mir.ValLaws.{toZ-ofZ}
+use Rattle.sums.specs.Sound.{Right}
+use Rattle.sums.specs.declared.Walked.{Walked}
+use Rattle.sums.specs.declared.Walked.the-variants.{Sound, Unsound}
+use Rattle.system.specs.System.{boundOf, sumsWhere}
+use Rattle.normjudge.specs.Judge.{sidesWhere}
+use Rattle.normjudge.proofs.Sums.{not-below, matrix-sound, matrix-unsound}
+use Rattle.normjudge.proofs.sums_sound.Statement.{statement}
+use Rattle.normjudge.proofs.sums_sound.Tie as tie
+
+value : (c : tie.After-bound-of) → toZ w64 (ofZ w64 (c .bound-of .result)) ≡ pos (boundOf (c .before .args .arcs) (c .before .args .accepted) (2 ^ 58))
+value c = toZ-ofZ w64 (c .bound-of .result) (search needs) ∙ c .bound-of .ensures
+
+-- what the walk found, at the bound
+found : (c : tie.After-first-unsound) → let s = c .before .before .args in (w : Walked) → c .first-unsound .result ≡ w
+    → Right (pos (boundOf (s .arcs) (s .accepted) (2 ^ 58))) (s .matrix .now) (s .p) w
+found c w e =
+    let s = c .before .before .args in
+    subst (λ b. Right b (s .matrix .now) (s .p) w) (value (c .before))
+    (subst (λ v. Right (toZ w64 (ofZ w64 (c .before .bound-of .result))) (s .matrix .now) (s .p) v) e (c .first-unsound .ensures))
+
+bound-of-requires : tie.Need-bound-of-requires
+bound-of-requires c κs = search needs
+
+first-unsound-requires : tie.Need-first-unsound-requires
+first-unsound-requires c κs = (search needs, rw (value c) (not-below _))
+
+enum-told : tie.Need-enum-told
+enum-told c = search needs
+
+sides-sound-requires : tie.Need-sides-sound-requires
+sides-sound-requires c κs = search needs
+
+enum-told-2 : tie.Need-enum-told-2
+enum-told-2 c = search needs
+
+returns : tie.Need-returns
+unfolding sumsWhere sidesWhere
+returns c = c .sides-sound .ensures ∙ matrix-sound _ _ _ _ (found (c .before .before .before) Sound (c .before .enum-told .given .1))
+
+returns-2 : tie.Need-returns-2
+unfolding sumsWhere sidesWhere
+returns-2 c = matrix-unsound _ _ _ _ _ (found (c .before .before) (Unsound _) (c .enum-told2 .given .1))
+
+pub sums-sound-spec : {M : Type 1} → statement M
+sums-sound-spec =
+    tie.close
+    (tie.spec
+    bound-of-requires
+    first-unsound-requires
+    enum-told
+    sides-sound-requires
+    enum-told-2
+    returns
+    returns-2)

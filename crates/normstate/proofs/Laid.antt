@@ -1,0 +1,63 @@
+-- The bytes of a state's file in the parts that are laid one after the other, and how long it is.
+-- Assumes nothing.
+use Prim.Native.Nat.{ℕ, _+_, _*_, _≤_}
+use mathlib.Core.Path.{_≡_, refl, sym, ap, _∙_}
+use mathlib.Core.List.{List, [], _∷_, _++_, map, append-assoc, append-nil}
+use lib.ListN.{length, take, length-map}
+use lib.Seq.{length-take-le}
+use mir.Syntax.{w64}
+use Rattle.words.specs.Words.{bytesOf, signedBytes, lay}
+use Rattle.words.proofs.Words.{length-bytesOf, lay-append}
+use Rattle.section.specs.Section.{encoded}
+use Rattle.limits.specs.declared.Label.{Label}
+use Rattle.heading.specs.Judge.{labelsOf}
+use Rattle.heading.specs.declared.Heading.{Heading}
+use Rattle.sums.specs.Triangle.{tri}
+use Rattle.state.specs.State.{State, accepted}
+use Rattle.normread.specs.Kinds.{arcBytes, normalLabelBytes}
+use Rattle.normroom.specs.Bytes.{fileLong, nameBytes, counted, tailBytes}
+use Rattle.normroom.proofs.Laid.{length-name, file-laid, file-long}
+use Rattle.normstate.specs.OfState.{arcFor, labelOf, systemOf, stateBytes}
+
+-- a label: its name, then its estimate
+pub label-laid : (out : List ℕ) (at arc : ℕ) (l : Label)
+    → lay (lay out at (nameBytes (l .kind) (l .index) (arcFor arc (l .kind)) (l .weight))) (at + 16) (signedBytes w64 (l .estimate)) ≡ lay out at (normalLabelBytes (labelOf arc l))
+unfolding normalLabelBytes labelOf nameBytes
+label-laid out at arc l =
+    lay-append out at (at + 16) _ _ (ap (λ n. at + n) (sym (length-name _ _ _ _))) ∙ ap (lay out at) (simp append-assoc)
+
+-- the arcs section of one arc
+pub arc-laid : (out : List ℕ) (arc : ℕ) → lay (lay out 0 (bytesOf 4 1)) 4 (bytesOf 4 arc) ≡ lay out 0 (counted arcBytes (arc ∷ []))
+unfolding counted encoded arcBytes
+arc-laid out arc = lay-append out 0 4 _ _ (simp length-bytesOf) ∙ ap (λ b. lay out 0 (bytesOf 4 1 ++ b)) (sym (append-nil (bytesOf 4 arc)))
+
+pub labels-long : (h : Heading) → h .parameters ≤ length (h .labels) → length (map (labelOf (h .settings .arc)) (labelsOf h)) ≡ h .parameters
+unfolding labelsOf
+labels-long h few = length-map (take (h .parameters) (h .labels)) (labelOf (h .settings .arc)) ∙ length-take-le (h .parameters) (h .labels) few
+
+-- the whole file
+module _ (h : Heading) (s : State) (few : h .parameters ≤ length (h .labels)) where
+  pub labels-many : length (systemOf h s .labels) ≡ h .parameters
+  unfolding systemOf
+  labels-many = labels-long h few
+
+  pub state-laid : (out : List ℕ)
+      → let a = lay out 0 (counted arcBytes (h .settings .arc ∷ [])) in
+      let b = lay a 8 (counted normalLabelBytes (map (labelOf (h .settings .arc)) (labelsOf h))) in
+      lay b (12 + 24 * h .parameters) (tailBytes (take (tri (h .parameters)) (s .matrix)) (take (h .parameters) (s .rights)) (accepted (s .tally)) (s .tally .square))
+      ≡ lay out 0 (stateBytes h s)
+  unfolding stateBytes systemOf
+  state-laid out = file-laid 1 (h .parameters) (systemOf h s) refl labels-many out
+
+  module _ (sums : tri (h .parameters) ≤ length (s .matrix)) (sides : h .parameters ≤ length (s .rights)) where
+    pub matrix-many : length (systemOf h s .matrix) ≡ tri (h .parameters)
+    unfolding systemOf
+    matrix-many = length-take-le (tri (h .parameters)) (s .matrix) sums
+
+    pub rights-many : length (systemOf h s .rights) ≡ h .parameters
+    unfolding systemOf
+    rights-many = length-take-le (h .parameters) (s .rights) sides
+
+    pub state-long : length (stateBytes h s) ≡ fileLong 1 (h .parameters)
+    unfolding stateBytes systemOf
+    state-long = file-long 1 (h .parameters) (systemOf h s) refl labels-many matrix-many rights-many

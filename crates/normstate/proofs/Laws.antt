@@ -1,0 +1,84 @@
+-- What is written of a state is a normal file: it is accepted, and it holds exactly the state's one arc, labels and sums.
+-- Assumes nothing.
+use Prim.Native.Nat.{ℕ, _≤_}
+use mathlib.Core.Path.{_≡_, refl, sym, ap, _∙_}
+use mathlib.Core.Bool.{true}
+use native.Mathlib.Omega.{arith}
+use lib.ListN.{length}
+use mir.Syntax.{w64}
+use mir.Val.{SFits}
+use Rattle.whole.specs.Answer.{good}
+use Rattle.whole.specs.Lists.{all, ascend}
+use Rattle.whole.proofs.Cases.{holds, is-upTo, both-first, between-true}
+use Rattle.section.proofs.Read.{Each}
+use Rattle.refusal.proofs.Firsts.{unless-none, first-none}
+use Rattle.limits.specs.Limits.{settingsOk}
+use Rattle.heading.specs.Judge.{labelsOf}
+use Rattle.heading.specs.declared.Heading.{Heading}
+use Rattle.sums.specs.Triangle.{tri}
+use Rattle.state.specs.State.{State, soundState, stateNumber}
+use Rattle.state.proofs.Rooms.{Roomed, roomed}
+use Rattle.system.specs.System.{arcOk, nowhere, sumsWhere, unsoundIn}
+use Rattle.system.proofs.Sound.{SoundSystem, sound-where}
+use Rattle.normread.specs.Normal.{readNormal}
+use Rattle.normread.proofs.Back.{placed, written-read}
+use Rattle.normstate.specs.OfState.{systemOf, stateBytes, fileNumber}
+use Rattle.normstate.proofs.Labels.{labels-ok, labels-held, keys-ascend}
+use Rattle.normstate.proofs.Laid.{labels-long, matrix-many, rights-many}
+use Rattle.normstate.proofs.Sums.{state-sums}
+
+module _ (h : Heading) (s : State) where
+  -- what every heading and tally of the machine has: arrays of their lengths, estimates of 64 bits
+  pub record Held : Type 0 where
+    pub labels : length (h .labels) ≡ 50
+    pub counts : length (s .tally .counts) ≡ 16
+    pub estimates : Each (λ l. SFits w64 (l .estimate)) (labelsOf h)
+
+  module _ (held : Held) where
+    module _ (room : Roomed h (s .matrix) (s .rights)) (sound : soundState (h .stations) (h .parameters) s ≡ true) where
+      fits : h .parameters ≤ length (h .labels)
+      fits = omega (arith, room .sound .few, held .labels)
+
+      arc-ok : arcOk (h .settings .arc) ≡ true
+      unfolding settingsOk arcOk
+      arc-ok = both-first _ _ (room .sound .settings)
+
+      arc-few : h .settings .arc ≤ 999999
+      unfolding arcOk
+      arc-few = between-true _ _ _ arc-ok .1
+
+      sums : unsoundIn (systemOf h s) ≡ nowhere
+      unfolding unsoundIn systemOf
+      sums =
+          ap (λ p. sumsWhere 1 p (systemOf h s .matrix) (systemOf h s .rights) (systemOf h s .accepted) (systemOf h s .square)) (labels-long h fits)
+          ∙ sound-where _ _ _ _ _ _ (state-sums (h .stations) (h .parameters) s sound (held .counts))
+
+      system-sound : SoundSystem (systemOf h s)
+      unfolding systemOf all ascend
+      system-sound =
+          let many = labels-long h fits in
+          record {
+            some-arcs = omega arith;
+            few-arcs = omega arith;
+            arcs = sym (holds _ _ arc-ok refl);
+            arcs-up = sym (holds _ _ (is-upTo _ _ (omega arith)) refl);
+            some-labels = omega (arith, many, room .sound .some);
+            few-labels = omega (arith, many, room .sound .few);
+            labels = labels-ok (h .settings .arc) (labelsOf h) (room .sound .labels);
+            labels-up = keys-ascend (h .settings .arc) arc-few (labelsOf h) (room .sound .labels) (room .sound .labels-up);
+            matrix = matrix-many h s fits (room .matrix) (room .rights) ∙ ap tri (sym many);
+            rights = rights-many h s fits (room .matrix) (room .rights) ∙ sym many;
+            sums = sums;
+          }
+
+    estimates : Each (λ l. SFits w64 (l .estimate)) (systemOf h s .labels)
+    unfolding systemOf
+    estimates = labels-held (h .settings .arc) (labelsOf h) (held .estimates)
+
+    -- what is written is accepted, and holds exactly that
+    pub state-accepted : (room : ℕ) → fileNumber h s room ≡ 0 → readNormal (stateBytes h s) ≡ good (placed (systemOf h s))
+    unfolding fileNumber stateNumber stateBytes
+    state-accepted room e =
+        let k = first-none _ _ (first-none _ _ e .0) in
+        let sound = unless-none 6 _ (λ z. omega arith) (first-none _ _ (k .1) .0) in
+        written-read (systemOf h s) (system-sound (roomed h (s .matrix) (s .rights) (k .0)) sound) estimates

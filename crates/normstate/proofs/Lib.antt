@@ -1,0 +1,4 @@
+pub mod Laid
+pub mod Labels
+pub mod Sums
+pub mod Laws

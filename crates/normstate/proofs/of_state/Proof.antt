@@ -1,0 +1,86 @@
+-- `normstate::of_state` meets its contract: the state is judged first, and the file is laid only where it is accepted.
+-- Assumes nothing.
+use borrow.Author.Needs.{needs}
+use mathlib.Core.Path.{_≡_, sym, ap, _∙_}
+use native.Mathlib.Omega.{arith}
+use lib.ListN.{length, length-map}
+use Rattle.whole.specs.Answer.{given}
+use Rattle.refusal.proofs.Firsts.{first-none}
+use Rattle.heading.specs.Judge.{toldVerdict}
+use Rattle.state.specs.State.{State, stateOf, stateNumber}
+use Rattle.state.proofs.Rooms.{by-given, by-refused, Roomed, roomed}
+use Rattle.normroom.specs.Bytes.{fileLong}
+use Rattle.normwrite.proofs.Answers.{on-refused, on-short, on-written}
+use Rattle.normstate.specs.OfState.{stateBytes, fileNumber, fileOf, leftIn}
+use Rattle.normstate.proofs.Laid.{state-long}
+use Rattle.normstate.proofs.of_state.Statement.{statement}
+use Rattle.normstate.proofs.of_state.Tie as tie
+
+-- the state that is handed in
+abbrev held : tie.Start → State
+held s = stateOf (s .args .matrix .now) (s .args .rights .now) (s .args .t)
+
+-- nothing is refused
+sound : (c : tie.After-enum-told) → let s = c .before .before .before .before in stateNumber (s .args .h) (held s) ≡ 0
+sound c = by-given _ (sym (ap toldVerdict (c .enum-told .given .1)) ∙ c .before .before .judge-state .ensures)
+
+room : (c : tie.After-enum-told) → let s = c .before .before .before .before in Roomed (s .args .h) (s .args .matrix .now) (s .args .rights .now)
+unfolding stateNumber
+room c = roomed _ _ _ (first-none _ _ (sound c) .0)
+
+long : (c : tie.After-enum-told) → let s = c .before .before .before .before in length (stateBytes (s .args .h) (held s)) ≡ fileLong 1 (s .args .h .parameters)
+long c =
+    let s = c .before .before .before .before in
+    let labels = simp length-map at (s .good .0 .1 .1 .1 .1 .1 .0 .1 .0 .1) in
+    state-long (s .args .h) (held s) (omega (arith, room c .sound .few)) (room c .matrix) (room c .rights)
+
+judge-state-requires : tie.Need-judge-state-requires
+judge-state-requires c κs = search needs
+
+enum-known-refusal : tie.Need-enum-known-refusal
+enum-known-refusal c = search needs
+
+enum-told : tie.Need-enum-told
+enum-told c = search needs
+
+needed-requires : tie.Need-needed-requires
+needed-requires c κs = (omega arith, omega (arith, room c .sound .few))
+
+put-file-requires : tie.Need-put-file-requires
+put-file-requires c κs = let w = room (c .before .before .before) in ((w .sound .few, w .matrix, w .rights), omega (arith, c .before .before .needed .ensures))
+
+returns : tie.Need-returns
+unfolding fileOf fileNumber leftIn
+returns c =
+    let s = c .before .before .before .before .before in
+    on-refused _ (stateBytes (s .args .h) (held s)) (s .args .out .now) (c .before .refusal .given .0 .0) (by-refused _ _ (sym (ap toldVerdict (c .before .refusal .given .1)) ∙ c .before .before .before .judge-state .ensures))
+
+returns-2 : tie.Need-returns-2
+unfolding fileOf fileNumber leftIn
+returns-2 c =
+    let s = c .before .before .before .before .before .before in
+    on-short _ (stateBytes (s .args .h) (held s)) (s .args .out .now) (sound (c .before .before)) (omega (arith, long (c .before .before), c .before .needed .ensures))
+
+same-length : tie.Need-same-length
+same-length c = search needs
+
+returns-3 : tie.Need-returns-3
+unfolding fileOf fileNumber leftIn
+returns-3 c =
+    let s = c .before .before .before .before .before .before .before .before .before .before in
+    let told = on-written _ (stateBytes (s .args .h) (held s)) (s .args .out .now) (sound (c .before .before .before .before .before .before)) (omega (arith, long (c .before .before .before .before .before .before), c .before .before .before .before .before .needed .ensures)) in
+    (ap given (c .before .before .before .before .before .needed .ensures ∙ sym (long (c .before .before .before .before .before .before))) ∙ told .0, c .before .before .put-file .ensures ∙ told .1)
+
+pub of-state-spec : {M : Type 1} → statement M
+of-state-spec =
+    tie.close
+    (tie.spec
+    judge-state-requires
+    enum-known-refusal
+    enum-told
+    needed-requires
+    put-file-requires
+    returns
+    returns-2
+    same-length
+    returns-3)

@@ -1,0 +1,52 @@
+-- Document 01, 'Normal file': "A state gives the file of its one arc, accepted being n." "arc 0 for kinds 1 and 2, else a listed arc". 20 for the
+-- state's room, 2, 4, 5, 6, then 20 for the bytes. "A longer buffer keeps its rest. A refusal changes nothing lent."
+use Prim.Native.Nat.{ℕ}
+use mathlib.Core.List.{List, [], _∷_, map}
+use lib.ListN.{length, take}
+use Rattle.whole.specs.Tests.{less, upTo, same, pick}
+use Rattle.whole.specs.Answer.{Answered}
+use Rattle.words.specs.Words.{lay}
+use Rattle.refusal.specs.First.{when, first, answered}
+use Rattle.limits.specs.declared.Label.{Label}
+use Rattle.heading.specs.Judge.{labelsOf}
+use Rattle.heading.specs.declared.Heading.{Heading}
+use Rattle.sums.specs.Triangle.{tri}
+use Rattle.state.specs.State.{State, accepted, stateNumber}
+use Rattle.system.specs.System.{System}
+use Rattle.system.specs.declared.NormalLabel.{NormalLabel}
+use Rattle.normread.specs.Normal.{normalBytes}
+
+-- the arc that a label of a kind is of: 0 for kinds 1 and 2, which all arcs share
+unfoldable pub arcFor : ℕ → ℕ → ℕ
+arcFor arc kind = pick (upTo kind 2) 0 arc
+
+unfoldable pub labelOf : ℕ → Label → NormalLabel
+labelOf arc l =
+    record { kind = l .kind; index = l .index; arc = arcFor arc (l .kind); weight = l .weight; estimate = l .estimate }
+
+-- what the state of an arc holds, as a system of that one arc
+unfoldable pub systemOf : Heading → State → System
+systemOf h s =
+    record {
+      arcs = h .settings .arc ∷ [];
+      labels = map (labelOf (h .settings .arc)) (labelsOf h);
+      matrix = take (tri (h .parameters)) (s .matrix);
+      rights = take (h .parameters) (s .rights);
+      accepted = accepted (s .tally);
+      square = s .tally .square;
+    }
+
+unfoldable pub stateBytes : Heading → State → List ℕ
+stateBytes h s = normalBytes (systemOf h s)
+
+-- 20, 2, 4, 5, 6 for the heading and its state, then 20 for the bytes; 0 where nothing is wrong
+unfoldable pub fileNumber : Heading → State → ℕ → ℕ
+fileNumber h s room = first (stateNumber h s ∷ when 20 (less room (length (stateBytes h s))) ∷ [])
+
+-- the length of the file, or the refusal
+unfoldable pub fileOf : Heading → State → ℕ → Answered ℕ
+fileOf h s room = answered (fileNumber h s room) (length (stateBytes h s))
+
+-- what is left in the buffer
+unfoldable pub leftIn : Heading → State → List ℕ → List ℕ
+leftIn h s out = pick (same (fileNumber h s (length out)) 0) (lay out 0 (stateBytes h s)) out
