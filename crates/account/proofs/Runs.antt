@@ -29,12 +29,12 @@ use Rattle.account.proofs.Order.{order}
 use Rattle.account.proofs.Never.{never}
 
 -- ---- lengths
-length-cut : (size n : ℕ) (l : List ℕ) → length (cut size n l) ≡ n
+pub length-cut : (size n : ℕ) (l : List ℕ) → length (cut size n l) ≡ n
 unfolding cut
 length-cut size zero l = refl
 length-cut size (suc n) l = ap suc (length-cut size n (drop size l))
 
-length-answers : {R S A : Type 0} (step : R → S → S) (ans : R → S → A) (l : List R) (s : S) → length (answers step ans s l) ≡ length l
+pub length-answers : {R S A : Type 0} (step : R → S → S) (ans : R → S → A) (l : List R) (s : S) → length (answers step ans s l) ≡ length l
 unfolding answers
 length-answers step ans [] s = refl
 length-answers step ans (r ∷ l) s = ap suc (length-answers step ans l (step r s))

@@ -1,11 +1,11 @@
 -- What an arc file that was read is, section by section; and that the heading read is sound.
 -- Assumes nothing.
-use Prim.Native.Nat.{ℕ, _+_, _≤_}
+use Prim.Native.Nat.{ℕ, _+_, _*_, _≤_}
 use mathlib.Core.Path.{_≡_, refl, sym, ap, _∙_}
 use mathlib.Core.List.{List, [], _∷_}
 use mathlib.Core.Bool.{true}
 use native.Mathlib.Omega.{arith}
-use lib.ListN.{length, getD, length-append, length-replicate}
+use lib.ListN.{length, getD, drop, length-append, length-replicate, length-drop}
 use mir.Syntax.{w64}
 use mir.Val.{SFits}
 use mir.ValLaws.{toZ-fits}
@@ -17,14 +17,14 @@ use Rattle.words.specs.Words.{signedWord}
 use Rattle.words.proofs.Words.{Bytes, word-small}
 use Rattle.section.specs.Section.{Run, sectionAt, closed}
 use Rattle.section.proofs.Walk.{good-same, pick-read, then-read}
-use Rattle.section.proofs.Read.{Each, section-read, records-each, records-all, records-ascend}
+use Rattle.section.proofs.Read.{Each, Section, section-read, records-each, records-all, records-ascend}
 use Rattle.limits.specs.Limits.{settingsOk, labelOk, labelKey, stationOk, stationKey, noSettings, noLabel, noStation}
 use Rattle.heading.specs.Judge.{labelsOf, stationsOf, countsOk, fieldsOk, ordersOk, judged}
 use Rattle.limits.specs.declared.Settings.{Settings}
 use Rattle.limits.specs.declared.Label.{Label}
 use Rattle.limits.specs.declared.Station.{Station}
 use Rattle.heading.specs.declared.Heading.{Heading}
-use Rattle.arcread.specs.Kinds.{labelAt, stationAtOk, settingsKind, labelKind, stationKind, recordKind}
+use Rattle.arcread.specs.Kinds.{labelAt, stationAtOk, settingsKind, labelKind, stationKind, recordKind, recordSize}
 use Rattle.arcread.specs.Arc.{padded, headingOf, Arc, readArc}
 
 -- ---- its four sections
@@ -64,6 +64,14 @@ read-parts s a e =
       last = less-false _ _ (c .0);
       is = sym (good-same (c .1));
     }
+
+-- its records stand end to end, from their place to the end of the file
+module _ (s : List ℕ) (a : Arc) (p : Parts s a) where
+  pub records-section : Section (recordKind (length (p .labels .items))) s 0 65535 (p .stations .next) (p .records)
+  records-section = section-read (recordKind (length (p .labels .items))) s 0 65535 (p .stations .next) (p .records) (p .fourth)
+
+  pub long-run : length (drop (p .stations .next + 4) s) ≡ length (p .records .items) * recordSize (length (p .labels .items))
+  long-run = length-drop (p .stations .next + 4) s ∙ omega (arith, records-section .next, records-section .within, p .last)
 
 -- ---- a heading of what was read
 module _ (x : Settings) (ls : List Label) (ts : List Station) where
@@ -151,3 +159,16 @@ module _ (s : List ℕ) (a : Arc) (e : readArc s ≡ good a) where
       ap (λ b. labelsOf (b .heading)) (parts .is) ∙ labels-of (getD (parts .settings .items) 0 noSettings) (parts .labels .items) (parts .stations .items) in
       rw same
       (records-each labelKind s (λ l. SFits w64 (l .estimate)) (λ at. toZ-fits w64 _ (record { fits = word-small 8 s (at + 8) bounded })) _ _ _ (parts .labels) (two .run))
+
+  -- its records: no more than a file may have, and how many bytes they are
+  pub run-few : a .count ≤ 65535
+  run-few = omega (arith, ap (λ b. b .count) (parts .is), records-section s a parts .count .to)
+
+  pub run-start : a .start ≤ length s
+  run-start = omega (arith, ap (λ b. b .start) (parts .is), records-section s a parts .next, records-section s a parts .within)
+
+  pub run-long : length (drop (a .start) s) ≡ a .count * recordSize (a .heading .parameters)
+  unfolding headingOf
+  run-long =
+      ap (λ b. length (drop (b .start) s)) (parts .is) ∙ long-run s a parts
+      ∙ sym (ap (λ b. b .count * recordSize (b .heading .parameters)) (parts .is))

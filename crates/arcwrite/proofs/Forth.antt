@@ -5,7 +5,7 @@ use mathlib.Core.Path.{_≡_, refl, sym, ap, ap₂, _∙_}
 use mathlib.Core.List.{List, [], _∷_, _++_, append-nil}
 use native.Mathlib.Omega.{arith}
 use native.Mathlib.Nat.{mul-div-left, mul-mod-left}
-use lib.ListN.{length, getD, drop, length-drop, take-append-drop}
+use lib.ListN.{length, getD, drop, take-append-drop}
 use lib.Seq.{drop-drop}
 use Rattle.limits.specs.Limits.{noSettings}
 use Rattle.whole.specs.Answer.{good, given}
@@ -19,9 +19,9 @@ use Rattle.limits.specs.declared.Settings.{Settings}
 use Rattle.limits.specs.declared.Label.{Label}
 use Rattle.limits.specs.declared.Station.{Station}
 use Rattle.heading.specs.declared.Heading.{Heading}
-use Rattle.arcread.specs.Kinds.{settingsBytes, labelBytes, stationBytes, settingsKind, labelKind, stationKind, recordKind, recordSize}
+use Rattle.arcread.specs.Kinds.{settingsBytes, labelBytes, stationBytes, settingsKind, labelKind, stationKind, recordSize}
 use Rattle.arcread.specs.Arc.{Arc, headingOf, readArc}
-use Rattle.arcread.proofs.Accepted.{Parts, read-parts, labels-of, stations-of, single, Passed, heading-passed}
+use Rattle.arcread.proofs.Accepted.{Parts, read-parts, records-section, long-run, run-few, labels-of, stations-of, single, Passed, heading-passed}
 use Rattle.arcwrite.specs.Write.{recordsIn, arcBytes, writeArc, leftIn}
 use Rattle.arcwrite.proofs.Records.{settings-forth, label-forth, station-forth}
 use Rattle.arcwrite.proofs.Back.{records-on, stations-on, labels-on, file}
@@ -71,28 +71,21 @@ module _ (s : List ℕ) (a : Arc) (p : Parts s a) where
   settings-section : Section settingsKind s 1 1 0 (p .settings)
   settings-section = section-read settingsKind s 1 1 0 (p .settings) (p .first)
 
-  records-section : Section (recordKind (length (p .labels .items))) s 0 65535 (p .stations .next) (p .records)
-  records-section = section-read (recordKind (length (p .labels .items))) s 0 65535 (p .stations .next) (p .records) (p .fourth)
-
   alone : p .settings .items ≡ x ∷ []
   alone = single (p .settings .items) noSettings (omega (arith, settings-section .count .from, settings-section .count .to))
 
-  -- the run is as long as its records
-  long-run : length (drop start s) ≡ n * recordSize (length (p .labels .items))
-  long-run = length-drop start s ∙ omega (arith, records-section .next, records-section .within, p .last)
-
   as-many : recordsIn heading (drop start s) ≡ n
   unfolding recordsIn headingOf
-  as-many = rw long-run (mul-div-left n (omega arith))
+  as-many = rw (long-run s a p) (mul-div-left n (omega arith))
 
   no-rest : length (drop start s) % recordSize (heading .parameters) ≡ 0
   unfolding headingOf
-  no-rest = rw long-run (mul-mod-left n _)
+  no-rest = rw (long-run s a p) (mul-mod-left n _)
 
   module _ (bounded : Bytes s) where
     records-same : records-on n (drop start s) ≡ drop (p .stations .next) s
     records-same =
-        let c = records-section .count in
+        let c = records-section s a p .count in
         let here : p .stations .next + 4 ≤ length s = omega (arith, c .whole) in
         ap₂ (λ u v. u ++ v) (ap (bytesOf 4) (sym (c .is)) ∙ word-forth s bounded 4 (p .stations .next) here) (sym (drop-drop 4 (p .stations .next) s))
         ∙ take-append-drop 4 (drop (p .stations .next) s)
@@ -133,7 +126,7 @@ module _ (s : List ℕ) (a : Arc) (e : readArc s ≡ good a) where
   run-whole = ap₂ (λ h k. length (drop k s) % recordSize (h .parameters)) heading-is start-is ∙ no-rest s a parts
 
   run-bound : recordsIn (a .heading) (drop (a .start) s) ≤ 65535
-  run-bound = omega (arith, run-count, ap (λ b. b .count) (parts .is), records-section s a parts .count .to)
+  run-bound = omega (arith, run-count, run-few s a e)
 
   module _ (bounded : Bytes s) where
     -- "files accepted are rewritten to the same bytes, those of a not-a-number too"

@@ -1,0 +1,81 @@
+-- `desk_run::run_all` takes its words from left to right and ends.
+-- Assumes nothing.
+use mathlib.Core.Path.{_≡_}
+use Prim.Native.Nat.{_-_}
+use lib.ListN.{length}
+use borrow.Author.Needs.{needs}
+use Rattle.desk_run.proofs.run_all.Statement.{statement}
+use Rattle.desk_run.proofs.run_all.Tie as tie
+
+abbrev Inv-loop : tie.InvT-loop
+Inv-loop words big₀ second₀ out₀ at₀ i₀ big second out at i = (length big ≡ length big₀) × (length second ≡ length second₀) × (length out ≡ length out₀)
+
+abbrev μ-loop : tie.MeasureT-loop
+μ-loop words big₀ second₀ out₀ at₀ i₀ big second out at i = words - i
+
+loop-holds : tie.Need-loop-holds Inv-loop μ-loop
+loop-holds c = search needs
+
+run-part-requires : tie.Need-run-part-requires Inv-loop μ-loop
+run-part-requires c κs = search needs
+
+add-i : tie.Need-add-i Inv-loop μ-loop
+add-i c = search needs
+
+loop-less : tie.Need-loop-less Inv-loop μ-loop
+loop-less c = search needs
+
+loop-again : tie.Need-loop-again Inv-loop μ-loop
+loop-again c = search needs
+
+sub-run-one : tie.Need-sub-run-one Inv-loop μ-loop
+sub-run-one c = search needs
+
+run-one-requires : tie.Need-run-one-requires Inv-loop μ-loop
+run-one-requires c κs = search needs
+
+same-length : tie.Need-same-length Inv-loop μ-loop
+same-length c = search needs
+
+same-length-2 : tie.Need-same-length-2 Inv-loop μ-loop
+same-length-2 c = search needs
+
+same-length-3 : tie.Need-same-length-3 Inv-loop μ-loop
+same-length-3 c = search needs
+
+returns : tie.Need-returns Inv-loop μ-loop
+returns c = search needs
+
+same-length-4 : tie.Need-same-length-4 Inv-loop μ-loop
+same-length-4 c = search needs
+
+same-length-5 : tie.Need-same-length-5 Inv-loop μ-loop
+same-length-5 c = search needs
+
+same-length-6 : tie.Need-same-length-6 Inv-loop μ-loop
+same-length-6 c = search needs
+
+returns-2 : tie.Need-returns-2 Inv-loop μ-loop
+returns-2 c = search needs
+
+pub run-all-spec : {M : Type 1} → statement M
+run-all-spec =
+    tie.close
+    (tie.spec
+    Inv-loop
+    μ-loop
+    loop-holds
+    run-part-requires
+    add-i
+    loop-less
+    loop-again
+    sub-run-one
+    run-one-requires
+    same-length
+    same-length-2
+    same-length-3
+    returns
+    same-length-4
+    same-length-5
+    same-length-6
+    returns-2)

@@ -1,0 +1,39 @@
+// Prints the listings of the arc files that the arguments name, one after another.
+ghost use Rattle.io.specs.Counts.{Counts};
+
+// The file of a path, as far as the buffer holds it.
+fn load(path: &[u8], buf: &mut [u8]) -> usize
+    ensures { λ r. ⌜ Counts r (now (buf .exit)) ⌝ }
+{
+    let fd = os::open_read(path);
+    if fd < 0 {
+        os::fail(path);
+        return 0;
+    }
+    let n = io::read_full(fd, buf);
+    libc::close(fd);
+    n
+}
+
+// The listing of the file of argument i.
+fn run_arg(i: usize, path: &mut [u8], buf: &mut [u8], out: &mut [u8]) {
+    let n = os::arg(i, path);
+    let k = load(&path[..n], buf);
+    prints::print(&buf[..k], out);
+}
+
+// Every file that the arguments name.
+fn run(count: usize, path: &mut [u8], buf: &mut [u8], out: &mut [u8]) {
+    let mut i: usize = 1;
+    while i < count {
+        run_arg(i, path, buf, out);
+        i += 1;
+    }
+}
+
+fn main() {
+    let mut buf = prints::file_room();
+    let mut out = prints::text_room();
+    let mut path = io::buffer();
+    run(os::arg_count(), &mut path, &mut buf, &mut out);
+}

@@ -1,0 +1,29 @@
+// What the programs that print listings share: room, and the listing of a file written to standard output.
+use libc::STDOUT_FILENO;
+use listing::ListAnswer;
+ghost use mathlib.Core.Path.{_≡_};
+ghost use lib.ListN.{length};
+
+// 65,537 zeros: the longest file, and one byte more, by which a longer one is found out.
+pub fn file_room() -> [u8; 65537]
+    ensures { λ r. ⌜ 65537 ≡ length r ⌝ }
+{
+    [0; 65537]
+}
+
+// For the longest listing (docs/FORMATS.md).
+pub fn text_room() -> [u8; 5596]
+    ensures { λ r. ⌜ 5596 ≡ length r ⌝ }
+{
+    [0; 5596]
+}
+
+// The listing of a file of at most 64 KiB; nothing where the room for it is too short.
+pub fn print(file: &[u8], out: &mut [u8]) {
+    match listing::list(file, 65536, out) {
+        ListAnswer::Is(n) => {
+            io::write_all(STDOUT_FILENO, &out[..n]);
+        }
+        ListAnswer::Refused(_) => {}
+    }
+}

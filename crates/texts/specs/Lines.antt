@@ -1,0 +1,117 @@
+-- Document 01, 'At the edges' 7: the lines of the arc program's listing, as bytes. "Parameter lines give diagonal and right side; refusal lines give
+-- number and tally, ascending. With no records, line 3 is `3 0 unseen 0 0`. A refused file prints only `refused N at PLACE`". Every line ends in
+-- one newline; numbers with tally 0 are left out.
+use Prim.Native.Nat.{ℕ, zero, suc}
+use mathlib.Core.Bool.{Bool}
+use mathlib.Core.List.{List, [], _∷_, _++_}
+use lib.IntN.{ℤ, pos}
+use lib.ListN.{length, getD}
+use Rattle.whole.specs.Tests.{same, pick}
+use Rattle.decimal.specs.Decimal.{decimal, signedDecimal}
+use Rattle.limits.specs.declared.Label.{Label}
+use Rattle.heading.specs.Judge.{labelsOf}
+use Rattle.heading.specs.declared.Heading.{Heading}
+use Rattle.sums.specs.Sound.{entry}
+use Rattle.state.specs.State.{seenIn}
+use Rattle.account.specs.Mix.{keep}
+
+-- ---- the words, in ASCII
+-- "arc "
+abbrev pub arcText : List ℕ
+arcText = 97 ∷ 114 ∷ 99 ∷ 32 ∷ []
+
+-- "parameters "
+abbrev pub parametersText : List ℕ
+parametersText = 112 ∷ 97 ∷ 114 ∷ 97 ∷ 109 ∷ 101 ∷ 116 ∷ 101 ∷ 114 ∷ 115 ∷ 32 ∷ []
+
+-- " seen "
+abbrev pub seenText : List ℕ
+seenText = 32 ∷ 115 ∷ 101 ∷ 101 ∷ 110 ∷ 32 ∷ []
+
+-- " unseen "
+abbrev pub unseenText : List ℕ
+unseenText = 32 ∷ 117 ∷ 110 ∷ 115 ∷ 101 ∷ 101 ∷ 110 ∷ 32 ∷ []
+
+-- "records "
+abbrev pub recordsText : List ℕ
+recordsText = 114 ∷ 101 ∷ 99 ∷ 111 ∷ 114 ∷ 100 ∷ 115 ∷ 32 ∷ []
+
+-- " accepted "
+abbrev pub acceptedText : List ℕ
+acceptedText = 32 ∷ 97 ∷ 99 ∷ 99 ∷ 101 ∷ 112 ∷ 116 ∷ 101 ∷ 100 ∷ 32 ∷ []
+
+-- "square sum "
+abbrev pub squareText : List ℕ
+squareText = 115 ∷ 113 ∷ 117 ∷ 97 ∷ 114 ∷ 101 ∷ 32 ∷ 115 ∷ 117 ∷ 109 ∷ 32 ∷ []
+
+-- "refused "
+abbrev pub refusedText : List ℕ
+refusedText = 114 ∷ 101 ∷ 102 ∷ 117 ∷ 115 ∷ 101 ∷ 100 ∷ 32 ∷ []
+
+-- " at "
+abbrev pub atText : List ℕ
+atText = 32 ∷ 97 ∷ 116 ∷ 32 ∷ []
+
+-- " "
+abbrev pub space : List ℕ
+space = 32 ∷ []
+
+-- the end of a line
+abbrev pub newline : List ℕ
+newline = 10 ∷ []
+
+-- ---- lines
+-- a text and a number: `arc 7`
+unfoldable pub oneLine : List ℕ → ℕ → List ℕ
+oneLine text n = text ++ (decimal n ++ newline)
+
+-- a number behind a text, twice: `records 2 accepted 1`
+unfoldable pub twoLine : List ℕ → ℕ → List ℕ → ℕ → List ℕ
+twoLine before m between n = before ++ (decimal m ++ (between ++ (decimal n ++ newline)))
+
+-- `refused N at PLACE`
+unfoldable pub refusedLine : ℕ → ℕ → List ℕ
+refusedLine number place = twoLine refusedText number atText place
+
+-- kind and index: `3 0`
+unfoldable pub labelText : Label → List ℕ
+labelText l = decimal (l .kind) ++ (space ++ decimal (l .index))
+
+-- diagonal and right side: `147456 50331648`, with the line's end
+unfoldable pub sumsText : ℤ → ℤ → List ℕ
+sumsText diagonal right = signedDecimal diagonal ++ (space ++ (signedDecimal right ++ newline))
+
+-- `3 0 seen 147456 50331648`
+unfoldable pub parameterLine : Label → Bool → ℤ → ℤ → List ℕ
+parameterLine l seen diagonal right = labelText l ++ (pick seen seenText unseenText ++ sumsText diagonal right)
+
+-- those of labels, the first of them parameter i, with sums
+unfoldable pub parameterLines : List ℤ → List ℤ → ℕ → List Label → List ℕ
+parameterLines m r i [] = []
+parameterLines m r i (l ∷ ls) =
+    parameterLine l (seenIn m i) (entry m i i) (getD r i (pos 0)) ++ parameterLines m r (suc i) ls
+
+-- ---- what the records were answered: 0 for accepted, else the refusal's number
+-- how many have an answer
+unfoldable pub tallyOf : ℕ → List ℕ → ℕ
+tallyOf k told = length (keep (λ n. same n k) told)
+
+-- `18 1`, or nothing where no record has that number
+unfoldable pub tallyLine : List ℕ → ℕ → List ℕ
+tallyLine told k = pick (same (tallyOf k told) 0) [] (twoLine [] k space (tallyOf k told))
+
+-- those of so many numbers, from k up
+unfoldable pub tallyLines : List ℕ → ℕ → ℕ → List ℕ
+tallyLines told zero k = []
+tallyLines told (suc n) k = tallyLine told k ++ tallyLines told n (suc k)
+
+-- ---- an arc
+-- of a heading, so many records with their answers, and the state after them: its sums, right sides and square sum
+unfoldable pub arcLines : Heading → ℕ → List ℕ → List ℤ → List ℤ → ℕ → List ℕ
+arcLines h n told m r square =
+    oneLine arcText (h .settings .arc)
+    ++ (oneLine parametersText (h .parameters)
+    ++ (parameterLines m r 0 (labelsOf h)
+    ++ (twoLine recordsText n acceptedText (tallyOf 0 told)
+    ++ (tallyLines told 19 1
+    ++ oneLine squareText square))))
