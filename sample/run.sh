@@ -3,6 +3,7 @@
 # sample of this folder. It wants the toolchain's rt on the path.
 set -e
 cd "$(dirname "$0")/.."
+mkdir -p target
 rt check arc >target/arc.log 2>&1 || { cat target/arc.log; exit 1; }
 kit=$(dirname "$(dirname "$(readlink -f "$(command -v rt)")")"); tools=$kit/on/$(uname -m)/toolchain
 # on another machine than x86-64 the program runs under the kit's emulator

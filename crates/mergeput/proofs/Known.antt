@@ -7,7 +7,7 @@ use native.Mathlib.Omega.{arith}
 use lib.ListN.{length}
 use Rattle.whole.specs.Answer.{Judged, good, bad}
 use Rattle.words.specs.Words.{word}
-use Rattle.section.proofs.Walk.{not-bad}
+use Rattle.section.proofs.Walk.{not-bad, by-judged}
 use Rattle.sums.specs.Triangle.{tri}
 use Rattle.normread.specs.Normal.{Normal, readNormal, shown, toldAnswer, toldRead}
 use Rattle.normread.specs.Parts.{arcsAt}
@@ -33,10 +33,6 @@ taken-of s r x e t =
       rights = ap (λ d. d .rights) t ∙ ap (λ z. z .rights) (sym is);
       totals = ap (λ d. d .totals) t ∙ ap (λ z. z .totals) (sym is);
     }
-
-pub by-judged : {A : Type 0} (j : Judged Normal) → ((x : Normal) → j ≡ good x → A) → ((number place : ℕ) → j ≡ bad number place → A) → A
-by-judged (good x) f g = f x refl
-by-judged (bad number place) f g = g number place refl
 
 pub taken : (s : List ℕ) (r : NormalRead) → toldRead r ≡ shown (readNormal s) → r .answer ≡ Read → Taken s r
 taken s r t e =

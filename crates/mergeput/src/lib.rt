@@ -73,21 +73,6 @@ pub fn join_labels(
 
 // ---- the merged file
 
-fn triangle(n: usize) -> usize
-    requires { ⌜ n ≤ 500 ⌝ }
-    ensures { λ r. ⌜ (r ≡ tri n) × (r ≤ 125250) ⌝ }
-{
-    n * (n + 1) / 2
-}
-
-// The length of a file of so many arcs and labels.
-pub fn needed(m: usize, n: usize) -> usize
-    requires { ⌜ (m ≤ 16) × (n ≤ 500) ⌝ }
-    ensures { λ r. ⌜ r ≡ 36 + 4 * m + 32 * n + 8 * tri n ⌝ }
-{
-    36 + 4 * m + 32 * n + 8 * triangle(n)
-}
-
 // Arcs and labels, each after its count.
 fn put_heads(
     out: &mut [u8],
@@ -141,7 +126,7 @@ fn put_middle(
     requires { ⌜ at + 8 + 8 * tri n + 8 * n ≤ length (now out) ⌝ }
     ensures { λ _. ⌜ now (out .exit) ≡ lay (now (out .entry)) at (middleBytes (mergedOf (systemIn (now (a .entry))) (systemIn (now (b .entry))))) ⌝ }
 {
-    let sums = triangle(n);
+    let sums = sums::triangle(n);
     words::write_u32(out, at, sums as u32);
     mergesums::put_columns(
         out,
@@ -202,6 +187,6 @@ pub fn put_file(
     put_heads(out, a, x, b, y, m, left, right, n);
     let middle = 8 + 4 * m + 24 * n;
     put_middle(out, middle, a, x, b, y, left, right, n);
-    let last = middle + 8 + 8 * triangle(n) + 8 * n;
+    let last = middle + 8 + 8 * sums::triangle(n) + 8 * n;
     put_last(out, last, a, x, b, y);
 }

@@ -36,7 +36,7 @@ fn is_roomy(arcs: usize, parameters: usize, heads: usize, matrix: usize, rights:
     let a = whole::least(arcs, 16);
     let p = whole::least(parameters, 500);
     if a + 5 * p + 2 <= heads {
-        if normroom::triangle(p) <= matrix {
+        if sums::triangle(p) <= matrix {
             p <= rights
         } else {
             false
@@ -285,7 +285,7 @@ fn sums_fit(arcs: usize, p: usize, heads: &[u64], matrix: &[i64], rights: &[i64]
     ensures { λ r. ⌜ r ≡ sumsFit (systemIn arcs p (now (heads .entry)) (now (matrix .entry)) (now (rights .entry))) ⌝ }
 {
     let totals = arcs + 5 * p;
-    let sums = normroom::triangle(p);
+    let sums = sums::triangle(p);
     sums_sound(
         arcs,
         p,

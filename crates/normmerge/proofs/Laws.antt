@@ -27,7 +27,7 @@ use Rattle.merging.proofs.Merged.{in-merged-first, in-merged-second}
 use Rattle.merging.proofs.Laws.{merge-value, merge-side, merge-totals, merge-labels, merge-arcs, priors-first, priors-second, merge-either, refuse-either, merge-proper, merge-groups, accept-groups, accept-back}
 use Rattle.merging.proofs.Files.{sound-system, merged-each}
 use Rattle.mergeput.specs.Parts.{normalOr, normalIn, systemIn}
-use Rattle.mergeput.proofs.Known.{by-judged}
+use Rattle.section.proofs.Walk.{by-judged}
 use Rattle.normmerge.specs.Files.{written, inFile, refusing, mergedBytes, pairNumber, pairAnswer, pairLeft, mergeAnswer, mergeLeft}
 use Rattle.normmerge.proofs.Written.{accepted, holds-proper, Written, written-file, written-where}
 use Rattle.normmerge.proofs.Outcomes.{pair-refused, first-bad, second-bad, both-good}

@@ -21,7 +21,7 @@ use Rattle.normread.specs.declared.ReadAnswer.the-variants.{Refused}
 use Rattle.merging.specs.Merge.{mergeNumber}
 use Rattle.normmerge.specs.Files.{Merging, written, inFile, refusing, mergedBytes, pairNumber, pairAnswer, pairLeft, fromFile, mergeAnswer, mergeLeft}
 use Rattle.mergeput.specs.Parts.{normalIn, systemIn, Taken}
-use Rattle.mergeput.proofs.Known.{by-judged}
+use Rattle.section.proofs.Walk.{by-judged}
 
 -- ---- two systems
 module _ (x y : System) where

@@ -18,7 +18,7 @@ use Rattle.normread.proofs.Accepted.{accepted-sound}
 use Rattle.merging.specs.Merge.{mergedOf, mergeNumber, Proper}
 use Rattle.merging.proofs.Files.{proper}
 use Rattle.mergeput.specs.Parts.{normalOr, normalIn, systemIn}
-use Rattle.mergeput.proofs.Known.{by-judged}
+use Rattle.section.proofs.Walk.{by-judged}
 use Rattle.mergeput.proofs.Loaded.{front}
 use Rattle.normmerge.specs.Files.{written, inFile, refusing, mergedBytes, pairNumber, pairAnswer, pairLeft, mergeAnswer, mergeLeft}
 use Rattle.normmerge.proofs.Outcomes.{pair-written, first-bad, second-bad, both-good}

@@ -35,7 +35,7 @@ fn merge_room(
     requires { ⌜ (mergeNumber (systemIn (now a)) (systemIn (now b)) ≡ 0) × (n ≤ 500) ⌝ }
     ensures { λ r. ⌜ Merges r (systemIn (now (a .entry))) (systemIn (now (b .entry))) (now (out .entry)) (now (out .exit)) ⌝ }
 {
-    let length = mergeput::needed(m, n);
+    let length = normroom::needed(m, n);
     if out.len() < length {
         return MergeAnswer::Refused(Refusal::Room);
     }

@@ -264,7 +264,7 @@ fn triangle(p: usize) -> u32
     requires { ⌜ p ≤ 500 ⌝ }
     ensures { λ r. ⌜ (r ≡ tri p) × (r ≤ 125250) ⌝ }
 {
-    (p * (p + 1) / 2) as u32
+    sums::triangle(p) as u32
 }
 
 // The totals section, the last one; `matrix` and `rights` are where the sums before it begin.

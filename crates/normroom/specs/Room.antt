@@ -6,7 +6,7 @@ use mathlib.Core.List.{List, [], _∷_, _++_}
 use mathlib.Core.Bool.{Bool, true, false}
 use lib.IntN.{ℤ}
 use mir.Val.{toZ, ofZ}
-use lib.ListN.{length, getD, take, drop}
+use lib.ListN.{length, getD, take}
 use mir.Syntax.{w64}
 use Rattle.whole.specs.Tests.{upTo, both, between}
 use Rattle.whole.specs.Lists.{all, ascend}
@@ -52,10 +52,6 @@ labelNumbers l = l .kind ∷ l .index ∷ l .arc ∷ l .weight ∷ ofZ w64 (l .e
 
 unfoldable pub headsOf : System → List ℕ
 headsOf x = x .arcs ++ (encoded labelNumbers (x .labels) ++ (x .accepted ∷ x .square ∷ []))
-
--- "A longer buffer keeps its rest."
-unfoldable pub over : {A : Type 0} → List A → List A → List A
-over new old = new ++ drop (length new) old
 
 -- ---- judging
 -- 20: each room has the length that the numbers of arcs and parameters want, a number past its capacity standing as the capacity

@@ -13,20 +13,12 @@ ghost use Rattle.normroom.specs.Bytes.{fileLong, nameBytes, counted, tai
 
 // ---- sizes
 
-// How many matrix sums p parameters have.
-pub fn triangle(p: usize) -> usize
-    requires { ⌜ p ≤ 500 ⌝ }
-    ensures { λ r. ⌜ (r ≡ tri p) × (r ≤ 125250) ⌝ }
-{
-    p * (p + 1) / 2
-}
-
 // The length of a file of so many arcs and parameters.
 pub fn needed(arcs: usize, parameters: usize) -> usize
     requires { ⌜ (arcs ≤ 16) × (parameters ≤ 500) ⌝ }
     ensures { λ r. ⌜ r ≡ fileLong arcs parameters ⌝ }
 {
-    36 + 4 * arcs + 32 * parameters + 8 * triangle(parameters)
+    36 + 4 * arcs + 32 * parameters + 8 * sums::triangle(parameters)
 }
 
 // ---- labels
@@ -140,7 +132,7 @@ pub fn put_tail(
     requires { ⌜ at + 28 + 8 * tri p + 8 * p ≤ length (now out) ⌝ }
     ensures { λ _. ⌜ now (out .exit) ≡ lay (now (out .entry)) at (tailBytes (take (tri p) (now (matrix .entry))) (take p (now (rights .entry))) accepted square) ⌝ }
 {
-    let sums = triangle(p);
+    let sums = sums::triangle(p);
     let rights_at = at + 4 + 8 * sums;
     put_sums(matrix, sums, out, at);
     put_sums(rights, p, out, rights_at);

@@ -14,7 +14,7 @@ use Rattle.whole.specs.Answer.{Judged, good, bad}
 use Rattle.whole.proofs.Cases.{yes, no}
 use Rattle.words.specs.Words.{word, signedWord, lay}
 use Rattle.words.proofs.Words.{lay-front}
-use Rattle.section.proofs.Walk.{not-bad, then-good, then-bad}
+use Rattle.section.proofs.Walk.{not-bad, by-judged, then-good, then-bad}
 use Rattle.refusal.specs.Number.{numberOf}
 use Rattle.refusal.specs.declared.Refusal.{Refusal}
 use Rattle.sums.specs.Triangle.{tri}
@@ -26,15 +26,13 @@ use Rattle.normread.specs.Normal.{Normal, readNormal, shown, toldAnswer, toldRe
 use Rattle.normread.specs.declared.NormalRead.{NormalRead}
 use Rattle.normread.specs.declared.ReadAnswer.the-variants.{Read, Refused}
 use Rattle.normread.proofs.Accepted.{accepted-sound, accepted-standing}
-use Rattle.normroom.specs.Room.{headsLong, headsOf, over, roomyFor}
+use Rattle.whole.specs.Lists.{over}
+use Rattle.normroom.specs.Room.{headsLong, headsOf, roomyFor}
 use Rattle.normunpack.specs.Parts.{normalAt, labelsFrom, headsAt}
 use Rattle.normunpack.specs.Unpack.{roomily, unpackNormal, filled, matrixOf, rightsOf}
 use Rattle.normunpack.proofs.Laid.{long-heads}
 
 -- ---- from the reader's answer
-by-judged : {A : Type 0} (j : Judged Normal) → ((x : Normal) → j ≡ good x → A) → ((number place : ℕ) → j ≡ bad number place → A) → A
-by-judged (good x) f g = f x refl
-by-judged (bad number place) f g = g number place refl
 
 -- an accepted file is what stands at its places
 standing : (s : List ℕ) (x : Normal) → readNormal s ≡ good x → x ≡ normalAt s (length (x .holds .arcs)) (length (x .holds .labels)) (x .matrix) (x .rights) (x .totals)

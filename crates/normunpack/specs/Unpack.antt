@@ -9,7 +9,8 @@ use Rattle.whole.specs.Answer.{Judged, good, bad}
 use Rattle.section.specs.Section.{andThen}
 use Rattle.system.specs.System.{System}
 use Rattle.normread.specs.Normal.{Normal, readNormal}
-use Rattle.normroom.specs.Room.{over, roomyFor}
+use Rattle.whole.specs.Lists.{over}
+use Rattle.normroom.specs.Room.{roomyFor}
 
 -- 20 where one of the rooms is too short for what the file holds
 unfoldable pub roomily : ℕ → ℕ → ℕ → ℕ → Normal → Judged Normal

@@ -24,6 +24,11 @@ not-bad e = subst isGood e tt
 pub good-same : {A : Type 0} {a b : A} → good a ≡ good b → a ≡ b
 good-same e = cc
 
+-- by what a reading comes to
+pub by-judged : {A B : Type 0} (j : Judged B) → ((x : B) → j ≡ good x → A) → ((number place : ℕ) → j ≡ bad number place → A) → A
+by-judged (good x) f g = f x refl
+by-judged (bad number place) f g = g number place refl
+
 -- ---- one part after another
 module _ {A B : Type 0} (j : Judged A) (f : A → Judged B) where
   pub then-good : {a : A} → j ≡ good a → andThen j f ≡ f a

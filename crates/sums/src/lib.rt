@@ -81,6 +81,14 @@ pub fn place(i: usize, j: usize) -> usize
     j * (j + 1) / 2 + i
 }
 
+// How many matrix sums p parameters have.
+pub fn triangle(p: usize) -> usize
+    requires { ⌜ p ≤ 500 ⌝ }
+    ensures { λ r. ⌜ (r ≡ tri p) × (r ≤ 125250) ⌝ }
+{
+    p * (p + 1) / 2
+}
+
 // Whether the entry of row i and column j is one that sums cannot have.
 fn is_broken(s: &[i64], i: usize, j: usize, bound: i64) -> bool
     requires { ⌜ (i ≤ j) × (j < 500) ⌝ }

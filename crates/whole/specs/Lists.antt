@@ -1,8 +1,8 @@
 -- Lists that are judged: each element by a test, and their order by a key.
 use Prim.Native.Nat.{ℕ, _+_}
-use mathlib.Core.List.{List, [], _∷_}
+use mathlib.Core.List.{List, [], _∷_, _++_}
 use mathlib.Core.Bool.{Bool, true}
-use lib.ListN.{take, drop}
+use lib.ListN.{length, take, drop}
 use Rattle.whole.specs.Tests.{upTo, both}
 
 -- each element passes
@@ -18,3 +18,7 @@ ascend key floor (x ∷ xs) = both (upTo floor (key x)) (ascend key (key x + 1) 
 -- the first n elements without the first i: what a walk over n elements has before it when i are done
 unfoldable pub rest : {A : Type 0} → List A → ℕ → ℕ → List A
 rest l n i = drop i (take n l)
+
+-- "A longer buffer keeps its rest": values at the front of a room
+unfoldable pub over : {A : Type 0} → List A → List A → List A
+over new old = new ++ drop (length new) old

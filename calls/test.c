@@ -1,0 +1,348 @@
+/* Runs the library's calls on cases whose answers plain C works out here or in bench/peer.c, and prints what was compared: days and cells one by
+   one, units at random and at the limits, forged headings and states, rooms one element too short or longer than needed, files cut short, normal files unpacked,
+   written again and merged, listings. */
+#include <stdint.h>
+#include <stdio.h>
+#include <string.h>
+#include "wheloruka.h"
+#include "../bench/peer.c"
+
+#define ROOM WHL_MATRIX_SUMS(50)
+#define STATE tally, sizeof tally, matrix, ROOM, rights, 50
+#define CHECK(t) check(t, #t, __LINE__)
+
+static unsigned long checks, wrong;
+static u64 seed = 1;
+static uint8_t file[4096], heading[WHL_HEADING_MOST], tally[WHL_TALLY_BYTES], answers[64];
+static int64_t matrix[ROOM], rights[50];
+
+static void check(int holds, const char *what, int line)
+{
+    checks++;
+    if (!holds && wrong++ < 10) printf("WRONG at line %d: %s\n", line, what);
+}
+
+static void told(const char *what) { printf("%s: %lu cases\n", what, checks); checks = 0; }
+static u32 next(u32 n) { seed = seed * 6364136223846793005ULL + 1442695040888963407ULL; return (u32)(seed >> 33) % n; }
+static size_t put(size_t at, u64 x, int n) { while (n--) { file[at++] = (u8)x; x >>= 8; } return at; }
+static size_t put_double(size_t at, double x) { u64 b; memcpy(&b, &x, 8); return put(at, b, 8); }
+
+/* ---- days and cells */
+
+static void days(void)
+{
+    static const u32 lengths[12] = { 31, 28, 31, 30, 31, 30, 31, 31, 30, 31, 30, 31 };
+    uint32_t n = 0, out[4];
+    for (u32 year = 1950; year < 2100; year++)
+        for (u32 month = 1; month <= 12; month++) {
+            u32 long_month = lengths[month - 1] + (month == 2 && year % 4 == 0);
+            for (u32 day = 1; day <= long_month; day++) {
+                n++;
+                CHECK(whl_day_of_date(year, month, day, out, 1) == 0 && out[0] == n);
+                CHECK(whl_date_of_day(n, out, 3) == 0 && out[0] == year && out[1] == month && out[2] == day);
+            }
+            CHECK(whl_day_of_date(year, month, 0, out, 1) == 4 && whl_day_of_date(year, month, long_month + 1, out, 1) == 4);
+        }
+    CHECK(n == 54787 && whl_date_of_day(0, out, 3) == 4 && whl_date_of_day(n + 1, out, 3) == 4);
+    CHECK(whl_day_of_date(1949, 12, 31, out, 1) == 4 && whl_day_of_date(2100, 1, 1, out, 1) == 4 && whl_day_of_date(2000, 13, 1, out, 1) == 4);
+    out[0] = out[1] = out[2] = out[3] = 77;
+    CHECK(whl_day_of_date(2000, 1, 1, out, 0) == 20 && whl_date_of_day(1, out, 2) == 20 && out[0] == 77 && out[1] == 77);
+    CHECK(whl_date_of_day(1, out, 4) == 0 && out[3] == 77);
+    told("days");
+}
+
+static void cells(void)
+{
+    uint32_t out[3];
+    for (u32 index = 0; index < 990; index++) {
+        CHECK(whl_cell_at(index, out, 3) == 0 && (out[0] == 'C' || out[0] == 'S') && out[1] >= 1 && out[1] <= 30 && out[2] <= out[1]);
+        u32 row = out[0] == 'C' ? out[1] : 31 - out[1], column = out[0] == 'C' ? out[2] + 1 : 33 - out[2];
+        CHECK(33 * (row - 1) + column - 1 == index);
+        CHECK(whl_index_of(out[0], out[1], out[2], out, 1) == 0 && out[0] == index);
+    }
+    CHECK(whl_cell_at(990, out, 3) == 4 && whl_cell_at(0, out, 2) == 20);
+    CHECK(whl_index_of('c', 2, 0, out, 1) == 4 && whl_index_of('C', 31, 0, out, 1) == 4 && whl_index_of('S', 2, 3, out, 1) == 4);
+    told("cells");
+}
+
+/* ---- units */
+
+static void unit_case(u32 kind, double x)
+{
+    i64 q = 0;
+    int64_t p = 77;
+    double back = 77;
+    int answer = unit(&types[kind - 1], x, &q);
+    uint32_t n = whl_unit_of(kind, x, &p, 1);
+    if (!answer && types[kind - 1].turns && q == TURN) q = 0;
+    CHECK(n == (u32)answer && p == (answer ? 77 : q));
+    if (answer) return;
+    CHECK(whl_double_of(kind, q, &back, 1) == 0 && back == (double)q / (double)(1ULL << types[kind - 1].k));
+}
+
+static void units(void)
+{
+    for (u32 kind = 1; kind <= 10; kind++) {
+        const struct type *t = &types[kind - 1];
+        double scale = (double)(1ULL << t->k);
+        for (int i = 0; i < 20000; i++) {
+            u64 bits = next(1u << 31);
+            bits = bits << 31 ^ next(1u << 31);
+            bits = bits << 2 ^ next(4);
+            double x;
+            memcpy(&x, &bits, 8);
+            unit_case(kind, x);
+            unit_case(kind, ((double)t->low + ((double)t->high - (double)t->low) * (next(1u << 30) / 1073741824.0)) / scale);
+        }
+        for (int half = -4; half <= 4; half++) {
+            unit_case(kind, ((double)t->low + half / 2.0) / scale);
+            unit_case(kind, ((double)t->high + half / 2.0) / scale);
+            unit_case(kind, half / 2.0 / scale);
+        }
+        double out = 77;
+        int64_t q = 77;
+        i64 top = t->turns ? TURN - 1 : t->high;
+        CHECK(whl_double_of(kind, t->low - 1, &out, 1) == 16 && whl_double_of(kind, top + 1, &out, 1) == 16 && out == 77);
+        CHECK(whl_double_of(kind, 0, &out, 0) == 20 && whl_unit_of(kind, 0, &q, 0) == 20 && out == 77 && q == 77);
+    }
+    double out;
+    int64_t q;
+    CHECK(whl_unit_of(0, 1, &q, 1) == 11 && whl_unit_of(11, 1, &q, 1) == 11 && whl_double_of(0, 1, &out, 1) == 11);
+    told("units");
+}
+
+/* ---- an arc file of P parameters, T stations and some records that are accepted: its length */
+
+static size_t make(int p, int t, int records)
+{
+    size_t at = put(put(put(put(put(0, 1, 4), 7, 4), 8036, 4), 2, 2), 30, 2);
+    at = put(at, (u64)p, 4);
+    for (int i = 0; i < p; i++) at = put(put(put(put(at, 2, 2), 3 * (u64)i, 2), 5, 4), (u64)(-1000003LL * i), 8);
+    at = put(at, (u64)t, 4);
+    for (int i = 0; i < t; i++) at = put(put(put(at, 13 + 60 * (u64)i, 2), 0, 2), (u32)(100 * i - 500), 4);
+    at = put(at, (u64)records, 4);
+    for (int i = 0; i < records; i++) {
+        at = put(put(put(put(put(at, 13 + 60 * (u64)(i % t), 2), 2, 2), 1, 4), 8036, 4), 10000 + 1000 * (u64)i, 4);
+        at = put_double(put_double(at, 1000.25 + next(5) / 16.0), 1000.25);
+        for (int k = 0; k < p; k++) at = put(at, next(65536), 2);
+    }
+    return at;
+}
+
+/* ---- forged headings and states, against the peer's judge */
+
+static int peer_judges(void)
+{
+    struct heading h = { u32_at(heading), u32_at(heading + 4), u16_at(heading + 8), u16_at(heading + 10), u16_at(heading + 12), u16_at(heading + 14), { { 0, 0, 0, 0 } }, { { 0, 0 } } };
+    struct tally t = { u64_at(tally), { 0 }, { { 0 } } };
+    if (h.parameters > 50 || h.stations > 16)
+        return 2;
+    for (usize i = 0; i < h.parameters; i++) {
+        const u8 *p = heading + 16 + 16 * i;
+        h.labels[i] = (struct label){ u16_at(p), u16_at(p + 2), u32_at(p + 4), (i64)u64_at(p + 8) };
+    }
+    for (usize i = 0; i < h.stations; i++) {
+        const u8 *p = heading + 16 + 16 * h.parameters + 8 * i;
+        h.listed[i] = (struct station){ u16_at(p), (i32)u32_at(p + 4) };
+    }
+    for (usize i = 0; i < 16; i++) t.counts[i] = u32_at(tally + 8 + 4 * i);
+    for (usize i = 0; i < 160; i++) t.last[i / 10][i % 10] = u64_at(tally + 72 + 8 * i);
+    return judge_state(&h, &t, (const i64 *)matrix, (const i64 *)rights);
+}
+
+static void forged(void)
+{
+    static const int ps[4] = { 1, 3, 7, 50 };
+    unsigned long numbers[8] = { 0 };
+    for (int round = 0; round < 40000; round++) {
+        int p = ps[round % 4], t = 1 + (int)next(16);
+        uint64_t found[2];
+        size_t length = make(p, t, 6);
+        memset(tally, 0, sizeof tally);
+        CHECK(whl_read(file, length, heading, sizeof heading, found, 2) == 0 && found[0] == 6);
+        CHECK(whl_start(heading, sizeof heading, STATE) == 0);
+        CHECK(whl_take_run(heading, sizeof heading, STATE, file + found[1], length - found[1], answers, 6) == 0 && answers[5] == 0);
+        u8 bit = (u8)(1 << next(8));
+        int64_t big = next(1u << 31);
+        big <<= next(33);
+        switch (next(5)) {
+        case 0: heading[next((u32)WHL_HEADING_BYTES(p, t))] ^= bit; break;
+        case 1: tally[next(sizeof tally)] ^= bit; break;
+        case 2: matrix[next((u32)WHL_MATRIX_SUMS(p))] = bit < 8 ? 0 : big; break;
+        case 3: rights[next((u32)p)] = bit < 8 ? big : -big; break;
+        }
+        int peer = peer_judges();
+        uint32_t n = whl_judge(heading, sizeof heading, STATE);
+        CHECK(n == (u32)peer);
+        numbers[n & 7]++;
+        /* a refused state takes nothing, and nothing changes */
+        if (n) {
+            uint8_t t0[sizeof tally];
+            int64_t m0[ROOM], r0[50];
+            memcpy(t0, tally, sizeof tally); memcpy(m0, matrix, sizeof matrix); memcpy(r0, rights, sizeof rights); answers[0] = 77;
+            CHECK(whl_take(heading, sizeof heading, STATE, file + found[1], WHL_RECORD_BYTES(p)) == n);
+            CHECK(whl_take_run(heading, sizeof heading, STATE, file + found[1], WHL_RECORD_BYTES(p), answers, 6) == n && answers[0] == 77);
+            CHECK(!memcmp(t0, tally, sizeof tally) && !memcmp(m0, matrix, sizeof matrix) && !memcmp(r0, rights, sizeof rights));
+        }
+    }
+    CHECK(numbers[0] && numbers[2] && numbers[4] && numbers[5] && numbers[6]);
+    told("forged headings and states");
+}
+
+/* ---- rooms that are one element too short, and longer ones */
+
+static void rooms(void)
+{
+    for (int p = 1; p <= 50; p++) {
+        int t = p % 16 + 1;
+        size_t length = make(p, t, 2), h = WHL_HEADING_BYTES(p, t), m = WHL_MATRIX_SUMS(p), r = (size_t)p, size = WHL_RECORD_BYTES(p);
+        uint64_t found[2] = { 77, 77 };
+        memset(heading, 7, sizeof heading); memset(tally, 7, sizeof tally); memset(matrix, 7, sizeof matrix); memset(rights, 7, sizeof rights); memset(answers, 7, sizeof answers);
+        CHECK(whl_read(file, length, heading, h - 1, found, 2) == 20 && whl_read(file, length, heading, h, found, 1) == 20 && heading[0] == 7 && found[0] == 77);
+        CHECK(whl_read(file, length, heading, h, found, 2) == 0 && (h == sizeof heading || heading[h] == 7));
+        CHECK(whl_start(heading, h - 1, tally, 1352, matrix, m, rights, r) == 20 && whl_start(heading, h, tally, 1351, matrix, m, rights, r) == 20);
+        CHECK(whl_start(heading, h, tally, 1352, matrix, m - 1, rights, r) == 20 && whl_start(heading, h, tally, 1352, matrix, m, rights, r - 1) == 20);
+        CHECK(tally[0] == 7 && matrix[0] == 0x0707070707070707 && rights[0] == 0x0707070707070707);
+        CHECK(whl_start(heading, h, tally, 1352, matrix, m, rights, r) == 0);
+        CHECK((m == ROOM || matrix[m] == 0x0707070707070707) && (r == 50 || rights[r] == 0x0707070707070707));
+        CHECK(whl_take_run(heading, h, tally, 1352, matrix, m, rights, r, file + found[1], 2 * size, answers, 1) == 20 && answers[0] == 7);
+        CHECK(whl_take_run(heading, h, tally, 1352, matrix, m, rights, r, file + found[1], 2 * size - 1, answers, 2) == 1 && answers[0] == 7);
+        CHECK(whl_take(heading, h, tally, 1352, matrix, m, rights, r, file + found[1], size - 1) == 1);
+        CHECK(whl_take(heading, h, tally, 1352, matrix, m, rights, r, file + found[1], size + 1) == 3);
+        CHECK(whl_take_run(heading, h, tally, 1352, matrix, m, rights, r, file + found[1], 2 * size, answers, 3) == 0);
+        CHECK(answers[0] == 0 && answers[1] == 0 && answers[2] == 7);
+        CHECK(whl_take(heading, h, tally, 1352, matrix, m, rights, r, file + found[1], size) == 17);
+        for (int i = 0; i < p; i++) CHECK(whl_seen(matrix, m, (size_t)i) == (matrix[i * (i + 3) / 2] != 0));
+    }
+    told("rooms");
+}
+
+/* ---- files cut short, or with a byte more */
+
+static void cuts(void)
+{
+    size_t length = make(3, 2, 4);
+    uint64_t found[2], out[5];
+    for (size_t n = 0; n < length; n++)
+        CHECK(whl_read(file, n, heading, sizeof heading, found, 2) == 1 && whl_read_place(file, n) == n);
+    file[length] = 0;
+    CHECK(whl_read(file, length, heading, sizeof heading, found, 2) == 0 && whl_read_place(file, length) == 0 && found[0] == 4 && found[1] == 28 + 48 + 16);
+    CHECK(whl_read(file, length + 1, heading, sizeof heading, found, 2) == 3 && whl_read_place(file, length + 1) == length);
+    /* a normal file of one arc and one parameter: 36 + 4 + 32 + 8 bytes */
+    size_t at = put(put(0, 1, 4), 7, 4);
+    at = put(put(put(put(put(put(put(at, 1, 4), 3, 2), 0, 2), 7, 4), 5, 4), 0, 4), 0, 8);
+    at = put(put(put(put(put(put(put(at, 1, 4), 147456, 8), 1, 4), 50331648, 8), 1, 4), 1, 8), 17179869184, 8);
+    CHECK(at == 80);
+    for (size_t n = 0; n < at; n++)
+        CHECK(whl_normal_read(file, n, out, 5) == 1 && whl_normal_place(file, n) == n);
+    out[0] = 77;
+    CHECK(whl_normal_read(file, at, out, 4) == 20 && out[0] == 77);
+    CHECK(whl_normal_read(file, at, out, 5) == 0 && whl_normal_place(file, at) == 0);
+    CHECK(out[0] == 1 && out[1] == 1 && out[2] == 40 && out[3] == 52 && out[4] == 64);
+    file[47] = 0x80; /* the diagonal sum below zero */
+    CHECK(whl_normal_read(file, at, out, 5) == 6 && whl_normal_place(file, at) == 40);
+    told("files");
+}
+
+/* ---- normal files from states, unpacked, written again and merged; listings */
+
+static uint8_t files[3][WHL_NORMAL_BYTES(2, 100)];
+static uint64_t heads[WHL_HEADS(2, 100)];
+static int64_t sums[WHL_MATRIX_SUMS(100)], sides[100];
+
+/* The normal file of a state of p parameters that was taken for an arc, into files[k]: its length. */
+static size_t one_arc(int k, int p, u32 arc)
+{
+    size_t length = make(p, 5, 6);
+    uint64_t found[2], size = 77, out[5];
+    put(4, arc, 4);
+    CHECK(whl_read(file, length, heading, sizeof heading, found, 2) == 0 && whl_start(heading, sizeof heading, STATE) == 0);
+    CHECK(whl_take_run(heading, sizeof heading, STATE, file + found[1], length - found[1], answers, 6) == 0);
+    size_t needed = WHL_NORMAL_BYTES(1, p);
+    memset(files[k], 7, sizeof files[k]);
+    CHECK(whl_of_state(heading, sizeof heading, STATE, files[k], needed - 1, &size, 1) == 20 && whl_of_state(heading, sizeof heading, STATE, files[k], needed, &size, 0) == 20);
+    CHECK(size == 77 && files[k][0] == 7);
+    CHECK(whl_of_state(heading, sizeof heading, STATE, files[k], sizeof files[k], &size, 1) == 0 && size == needed && files[k][needed] == 7);
+    CHECK(whl_normal_read(files[k], needed, out, 5) == 0 && out[0] == 1 && out[1] == (u64)p);
+    CHECK(!memcmp(files[k] + out[2], matrix, 8 * WHL_MATRIX_SUMS(p)) && !memcmp(files[k] + out[3], rights, 8 * (size_t)p));
+    CHECK(u64_at(files[k] + out[4]) == 6 && u64_at(files[k] + out[4] + 8) == u64_at(tally));
+    return needed;
+}
+
+/* What a file holds, written again, is the file. */
+static void again(const uint8_t *bytes, size_t length)
+{
+    uint64_t out[5], size = 77;
+    static uint8_t copy[sizeof files[0]];
+    CHECK(whl_normal_read(bytes, length, out, 5) == 0);
+    size_t a = out[0], p = out[1], h = WHL_HEADS(a, p), m = WHL_MATRIX_SUMS(p);
+    heads[0] = 77;
+    CHECK(whl_normal_unpack(bytes, length, heads, h - 1, sums, m, sides, p) == 20 && whl_normal_unpack(bytes, length, heads, h, sums, m - 1, sides, p) == 20);
+    CHECK(whl_normal_unpack(bytes, length, heads, h, sums, m, sides, p - 1) == 20 && heads[0] == 77);
+    CHECK(whl_normal_unpack(bytes, length - 1, heads, h, sums, m, sides, p) == 1 && heads[0] == 77);
+    CHECK(whl_normal_unpack(bytes, length, heads, h, sums, m, sides, p) == 0);
+    CHECK(whl_normal_write(a, p, heads, h - 1, sums, m, sides, p, copy, sizeof copy, &size, 1) == 20);
+    CHECK(whl_normal_write(a, p, heads, h, sums, m, sides, p, copy, length - 1, &size, 1) == 20 && size == 77);
+    CHECK(whl_normal_write(a, p, heads, h, sums, m, sides, p, copy, sizeof copy, &size, 1) == 0 && size == length && !memcmp(copy, bytes, length));
+    heads[0]++; heads[a]++; /* another arc, another kind: never the same file, often none */
+    CHECK(whl_normal_write(a, p, heads, h, sums, m, sides, p, copy, sizeof copy, &size, 1) || memcmp(copy, bytes, length));
+    sums[0] = -1;
+    CHECK(whl_normal_write(a, p, heads, h, sums, m, sides, p, copy, sizeof copy, &size, 1) != 0);
+}
+
+static void normals(void)
+{
+    for (int p = 1; p <= 50; p++) {
+        size_t a = one_arc(0, p, 7), b = one_arc(1, 51 - p, 9);
+        uint64_t size = 77, other = 77;
+        static uint8_t twice[sizeof files[0]];
+        memset(files[2], 7, sizeof files[2]);
+        again(files[0], a);
+        /* the labels are of kind 2 in both: the longer list is the union */
+        size_t most = (size_t)(p > 51 - p ? p : 51 - p), needed = WHL_NORMAL_BYTES(2, most);
+        CHECK(whl_merge(files[0], a, files[1], b, files[2], needed - 1, &size, 1) == 20 && whl_merge(files[0], a, files[1], b, files[2], needed, &size, 0) == 20);
+        CHECK(size == 77 && files[2][0] == 7);
+        CHECK(whl_merge(files[0], a, files[1], b, files[2], sizeof files[2], &size, 1) == 0 && size == needed);
+        CHECK(whl_merge(files[1], b, files[0], a, twice, sizeof twice, &other, 1) == 0 && other == needed && !memcmp(files[2], twice, needed));
+        again(files[2], needed);
+        CHECK(whl_merge(files[0], a, files[0], a, files[2], sizeof files[2], &size, 1) == 21);
+        CHECK(whl_merge(files[0], a - 1, files[1], b, files[2], sizeof files[2], &size, 1) == 101);
+        CHECK(whl_merge(files[0], a, files[1], b - 1, files[2], sizeof files[2], &size, 1) == 201);
+    }
+    told("normal files");
+}
+
+static void listings(void)
+{
+    static const char edge[] = "arc 7\nparameters 1\n3 0 seen 147456 50331648\nrecords 2 accepted 1\n18 1\nsquare sum 17179869184\n";
+    static const char cut[] = "refused 1 at 119\n", large[] = "refused 20 at 100\n";
+    static uint8_t text[WHL_LISTING_MOST];
+    uint64_t size = 77;
+    size_t at = put(put(put(put(put(0, 1, 4), 7, 4), 8036, 4), 1, 2), 30, 2);
+    at = put(put(put(put(put(at, 1, 4), 3, 2), 0, 2), 5, 4), 0, 8);
+    at = put(put(put(put(put(at, 1, 4), 12, 2), 0, 2), 0, 4), 2, 4);
+    for (int i = 0; i < 2; i++) {
+        at = put(put(put(put(put(at, 12, 2), 2, 2), 1, 4), 8036, 4), 1000 * (u64)i, 4);
+        at = put(put_double(put_double(at, i ? 1001.5 : 1000.5), 1000.25), 3, 2);
+    }
+    text[0] = 7;
+    CHECK(whl_list(file, at, 65536, text, sizeof edge - 2, &size, 1) == 20 && whl_list(file, at, 65536, text, sizeof text, &size, 0) == 20 && text[0] == 7 && size == 77);
+    CHECK(whl_list(file, at, 65536, text, sizeof text, &size, 1) == 0 && size == sizeof edge - 1 && !memcmp(text, edge, size));
+    CHECK(whl_list(file, at - 1, 65536, text, sizeof text, &size, 1) == 0 && size == sizeof cut - 1 && !memcmp(text, cut, size));
+    CHECK(whl_list(file, at, 100, text, sizeof text, &size, 1) == 0 && size == sizeof large - 1 && !memcmp(text, large, size));
+    told("listings");
+}
+
+int main(void)
+{
+    days();
+    cells();
+    units();
+    forged();
+    rooms();
+    cuts();
+    normals();
+    listings();
+    if (wrong) printf("%lu WRONG\n", wrong);
+    return wrong != 0;
+}

@@ -1,0 +1,21 @@
+-- `lent::has_both` meets its contract.
+-- Assumes nothing.
+use Rattle.whole.proofs.Cases.{holds, fails}
+use borrow.Author.Needs.{needs}
+use Rattle.lent.proofs.has_both.Statement.{statement}
+use Rattle.lent.proofs.has_both.Tie as tie
+
+has-heading-requires : tie.Need-has-heading-requires
+has-heading-requires c κs = search needs
+
+has-tally-requires : tie.Need-has-tally-requires
+has-tally-requires c κs = search needs
+
+returns : tie.Need-returns
+returns c = holds _ _ (cc) (c .has-tally .ensures)
+
+returns-2 : tie.Need-returns-2
+returns-2 c = fails _ _ (cc)
+
+pub has-both-spec : {M : Type 1} → statement M
+has-both-spec = tie.close (tie.spec has-heading-requires has-tally-requires returns returns-2)

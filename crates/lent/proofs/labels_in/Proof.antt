@@ -1,0 +1,65 @@
+-- `lent::labels_in` meets its contract. The loop's invariant: what is left to put makes the whole.
+-- Assumes nothing.
+use Prim.Native.Nat.{_+_, _-_, _*_, _≤_}
+use native.Mathlib.Omega.{arith}
+use mathlib.Core.Path.{_≡_, sym, _∙_}
+use lib.Seq.{sets}
+use Rattle.arcread.specs.Kinds.{labelAt}
+use Rattle.limits.specs.Limits.{noLabel}
+use Rattle.arcread.specs.Arc.{padded}
+use Rattle.normwalk.specs.Walk.{stands}
+use Rattle.normread.proofs.Loops.{put-end, put-turn}
+use Rattle.lent.proofs.Loops.{fill-start}
+use borrow.Author.Needs.{needs}
+use Rattle.lent.proofs.labels_in.Statement.{statement}
+use Rattle.lent.proofs.labels_in.Tie as tie
+
+abbrev Inv-loop : tie.InvT-loop
+Inv-loop b n labels₀ at₀ i₀ labels at i =
+    (i ≤ n) × (at ≡ 16 + 16 * i) × (sets labels i (stands (labelAt b) 16 (n - i) at) ≡ padded 50 noLabel (stands (labelAt b) 16 n 16))
+
+abbrev μ-loop : tie.MeasureT-loop
+μ-loop b n labels₀ at₀ i₀ labels at i = n - i
+
+loop-holds : tie.Need-loop-holds Inv-loop μ-loop
+loop-holds c = (search needs, search needs, fill-start _ _ _ _ noLabel 50 (c .before .pre))
+
+label-in-requires : tie.Need-label-in-requires Inv-loop μ-loop
+label-in-requires c κs = search needs
+
+mul-labels : tie.Need-mul-labels Inv-loop μ-loop
+mul-labels c = search needs
+
+array-set-from-labels : tie.Need-array-set-from-labels Inv-loop μ-loop
+array-set-from-labels c = search needs
+
+add-at : tie.Need-add-at Inv-loop μ-loop
+add-at c = search needs
+
+add-i : tie.Need-add-i Inv-loop μ-loop
+add-i c = search needs
+
+loop-less : tie.Need-loop-less Inv-loop μ-loop
+loop-less c = search needs
+
+loop-again : tie.Need-loop-again Inv-loop μ-loop
+loop-again c = (search needs, search needs, rw (c .label-in .ensures) (sym (put-turn _ _ _ _ _ _ (omega arith)) ∙ c .before .before .loop .inv .2))
+
+returns : tie.Need-returns Inv-loop μ-loop
+returns c = sym (put-end _ _ _ _ _ _ (omega arith)) ∙ c .before .loop .inv .2
+
+pub labels-in-spec : {M : Type 1} → statement M
+labels-in-spec =
+    tie.close
+    (tie.spec
+    Inv-loop
+    μ-loop
+    loop-holds
+    label-in-requires
+    mul-labels
+    array-set-from-labels
+    add-at
+    add-i
+    loop-less
+    loop-again
+    returns)

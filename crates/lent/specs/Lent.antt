@@ -1,0 +1,71 @@
+-- A heading and a tally in lent bytes, for callers that hand in numbers and slices only: where each value stands. Every list of bytes is a
+-- heading and a tally, since a byte past the end counts as 0. Document 01: "for a heading, state, system or record in lent room, a length that
+-- docs/ fixes by its numbers of parameters, stations and arcs alone (a number past its capacity standing as the capacity)".
+use Prim.Native.Nat.{ℕ, _+_, _*_, min}
+use mathlib.Core.List.{List, _++_}
+use mathlib.Core.Bool.{Bool}
+use lib.ListN.{length}
+use Rattle.whole.specs.Tests.{upTo}
+use Rattle.words.specs.Words.{word, bytesOf}
+use Rattle.section.specs.Section.{encoded}
+use Rattle.limits.specs.Limits.{noLabel, noStation}
+use Rattle.heading.specs.Judge.{labelsOf, stationsOf}
+use Rattle.heading.specs.declared.Heading.{Heading}
+use Rattle.arcread.specs.Kinds.{settingsAt, settingsBytes, labelAt, labelBytes, stationAt, stationBytes}
+use Rattle.arcread.specs.Arc.{padded}
+use Rattle.state.specs.declared.Row.{Row}
+use Rattle.state.specs.declared.Tally.{Tally}
+use Rattle.normwalk.specs.Walk.{stands}
+
+-- ---- a heading: the settings' 12 bytes as in an arc file, the numbers of parameters and of stations, two bytes each, then the labels and the
+-- stations as in an arc file
+abbrev pub labelsHeld : List ℕ → ℕ
+labelsHeld b = min (word 2 b 12) 50
+
+abbrev pub stationsHeld : List ℕ → ℕ
+stationsHeld b = min (word 2 b 14) 16
+
+-- 16 bytes, 16 a label, 8 a station
+abbrev pub headingLong : ℕ → ℕ → ℕ
+headingLong p t = 16 + 16 * p + 8 * t
+
+unfoldable pub headingIn : List ℕ → Heading
+headingIn b =
+    record {
+      settings = settingsAt b 0;
+      parameters = word 2 b 12;
+      stations = word 2 b 14;
+      labels = padded 50 noLabel (stands (labelAt b) 16 (labelsHeld b) 16);
+      listed = padded 16 noStation (stands (stationAt b) 8 (stationsHeld b) (16 + 16 * labelsHeld b));
+    }
+
+unfoldable pub headingBytes : Heading → List ℕ
+headingBytes h =
+    settingsBytes (h .settings)
+    ++ (bytesOf 2 (h .parameters)
+    ++ (bytesOf 2 (h .stations)
+    ++ (encoded labelBytes (labelsOf h)
+    ++ encoded stationBytes (stationsOf h))))
+
+-- the bytes are as many as their own numbers of parameters and stations want
+unfoldable pub hasHeading : List ℕ → Bool
+hasHeading b = upTo (headingLong (labelsHeld b) (stationsHeld b)) (length b)
+
+-- ---- a tally: the square sum in eight bytes, sixteen counts of four, sixteen rows of ten times of eight
+unfoldable pub rowAt : List ℕ → ℕ → Row
+rowAt b at = record { times = stands (word 8 b) 8 10 at }
+
+unfoldable pub tallyIn : List ℕ → Tally
+tallyIn b = record { square = word 8 b 0; counts = stands (word 4 b) 4 16 8; rows = stands (rowAt b) 80 16 72 }
+
+unfoldable pub rowBytes : Row → List ℕ
+rowBytes w = encoded (bytesOf 8) (w .times)
+
+unfoldable pub tallyBytes : Tally → List ℕ
+tallyBytes t = bytesOf 8 (t .square) ++ (encoded (bytesOf 4) (t .counts) ++ encoded rowBytes (t .rows))
+
+abbrev pub tallyLong : ℕ
+tallyLong = 1352
+
+unfoldable pub hasTally : List ℕ → Bool
+hasTally b = upTo tallyLong (length b)

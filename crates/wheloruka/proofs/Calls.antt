@@ -1,0 +1,94 @@
+-- A call on a heading and a state in lent room: too short, done, or refused with everything kept.
+-- Assumes nothing.
+use Prim.Native.Nat.{ℕ}
+use mathlib.Core.Path.{_≡_, refl, sym, ap, ap₂, _∙_}
+use mathlib.Core.List.{List, [], _∷_}
+use mathlib.Core.Bool.{true, false}
+use native.Mathlib.Omega.{arith}
+use lib.IntN.{ℤ}
+use Rattle.whole.specs.Tests.{both}
+use Rattle.whole.specs.Answer.{given, refused}
+use Rattle.whole.proofs.Cases.{yes, no, is-same, not-same}
+use Rattle.words.specs.Words.{lay}
+use Rattle.refusal.specs.Number.{numberOf}
+use Rattle.refusal.specs.First.{answered}
+use Rattle.refusal.specs.declared.Refusal.{Refusal}
+use Rattle.refusal.proofs.Apart.{not-none}
+use Rattle.refusal.proofs.Firsts.{unless-true, unless-false, first-pass, first-stop, first-one}
+use Rattle.heading.specs.declared.Heading.{Heading}
+use Rattle.state.specs.State.{State, stateOf, emptyTally, roomNumber, started}
+use Rattle.state.specs.declared.Tally.{Tally}
+use Rattle.state.proofs.Rooms.{by-given, by-refused}
+use Rattle.account.specs.Taking.{takeAnswer, takeStep, runNumber, runState, runAnswers}
+use Rattle.taking.proofs.Answers.{state-left}
+use Rattle.lent.specs.Lent.{headingIn, hasHeading, tallyBytes, hasTally}
+use Rattle.wheloruka.specs.Taking.{Lent, lent, stateIn, lentNumber, callNumber, callLeft, answersLeft}
+
+-- ---- any call: k is the number that follows
+module _ (b : List ℕ) (x : Lent) (k : ℕ) where
+  pub number-short : both (hasHeading b) (hasTally (x .tally)) ≡ false → 20 ≡ callNumber b x k
+  unfolding callNumber lentNumber
+  number-short e =
+      let is : lentNumber b x ≡ 20 = unless-false 20 _ e in
+      sym (first-stop _ (k ∷ []) (λ z. let w = sym is ∙ z in omega arith) ∙ is)
+
+  module _ (whole : both (hasHeading b) (hasTally (x .tally)) ≡ true) where
+    number-is : callNumber b x k ≡ k
+    unfolding callNumber lentNumber
+    number-is = first-pass _ (k ∷ []) (unless-true 20 _ whole) ∙ first-one k
+
+    pub number-done : given (tt {0}) ≡ answered k (tt {0}) → 0 ≡ callNumber b x k
+    number-done e = sym (number-is ∙ by-given k e)
+
+    pub number-refused : (e : Refusal) (n : ℕ) → refused (numberOf e) ≡ answered k (tt {0}) → n ≡ numberOf e → n ≡ callNumber b x k
+    number-refused e n a i = i ∙ sym (number-is ∙ by-refused _ k a)
+
+  -- s is the state that a call which is done leaves, t what stands in the tally's room then
+  module _ (s : State) where
+    left-kept : (callNumber b x k ≡ 0 → ⊥) → x ≡ callLeft b x k s
+    unfolding callLeft
+    left-kept some = no _ _ _ (not-same _ _ some) refl
+
+    pub short : both (hasHeading b) (hasTally (x .tally)) ≡ false → (20 ≡ callNumber b x k) × (x ≡ callLeft b x k s)
+    short e = let is = number-short e in (is, left-kept (λ z. let w = is ∙ z in omega arith))
+
+    module _ (whole : both (hasHeading b) (hasTally (x .tally)) ≡ true) (m r : List ℤ) where
+      pub done : (t : List ℕ) (u : Tally) → t ≡ lay (x .tally) 0 (tallyBytes u) → given (tt {0}) ≡ answered k (tt {0}) → stateOf m r u ≡ s
+          → (0 ≡ callNumber b x k) × (lent t m r ≡ callLeft b x k s)
+      unfolding callLeft
+      done t u w e f =
+          let zero = number-done whole e in
+          (zero, yes _ _ _ (is-same _ _ (sym zero)) (ap (λ y. lent y m r) w ∙ ap (λ v. lent (lay (x .tally) 0 (tallyBytes (v .tally))) (v .matrix) (v .rights)) f))
+
+      pub kept : (e : Refusal) (n : ℕ) → refused (numberOf e) ≡ answered k (tt {0}) → n ≡ numberOf e → m ≡ x .matrix → r ≡ x .rights
+          → (n ≡ callNumber b x k) × (lent (x .tally) m r ≡ callLeft b x k s)
+      kept e n a i f g =
+          let is = number-refused whole e n a i in
+          (is, ap₂ (λ y z. lent (x .tally) y z) f g ∙ left-kept (λ z. not-none e (sym i ∙ is ∙ z)))
+
+-- ---- a refusal leaves the state as it was
+module _ (h : Heading) (m r : List ℤ) (e : Refusal) (is : refused (numberOf e) ≡ answered (roomNumber h m r) (tt {0})) where
+  pub start-kept : (started h m r .matrix ≡ m) × (started h m r .rights ≡ r)
+  unfolding started
+  start-kept =
+      let same : started h m r ≡ stateOf m r emptyTally = sym (no _ _ _ (not-same _ 0 (λ z. not-none e (sym (by-refused _ _ is) ∙ z))) refl) in
+      (ap (λ s. s .matrix) same, ap (λ s. s .rights) same)
+
+module _ (h : Heading) (l : List ℕ) (s : State) (e : Refusal) (is : refused (numberOf e) ≡ answered (takeAnswer h l s) (tt {0})) where
+  pub take-kept : takeStep h l s ≡ s
+  unfolding takeStep
+  take-kept = sym (no _ _ _ (not-same _ _ (λ z. not-none e (sym (by-refused _ _ is) ∙ z))) refl)
+
+module _ (h : Heading) (l : List ℕ) (room : ℕ) (s : State) (e : Refusal) (is : refused (numberOf e) ≡ answered (runNumber h l room s) (tt {0})) where
+  pub run-kept : runState h l room s ≡ s
+  run-kept = state-left h l room s (λ z. not-none e (sym (by-refused _ _ is) ∙ z))
+
+-- ---- the answers of a run
+module _ (b l out : List ℕ) (x : Lent) where
+  pub answers-short : both (hasHeading b) (hasTally (x .tally)) ≡ false → out ≡ answersLeft b l out x
+  unfolding answersLeft lentNumber
+  answers-short e = no _ _ _ (not-same _ _ (λ z. let w = sym (unless-false 20 _ e) ∙ z in omega arith)) refl
+
+  pub answers-whole : both (hasHeading b) (hasTally (x .tally)) ≡ true → (left : List ℕ) → left ≡ runAnswers (headingIn b) l out (stateIn x) → left ≡ answersLeft b l out x
+  unfolding answersLeft lentNumber
+  answers-whole e left h = yes _ _ _ (is-same _ _ (unless-true 20 _ e)) h

@@ -1,0 +1,109 @@
+-- `wheloruka::whl_of_state` meets its contract: the file with its length, or the refusal.
+-- Assumes nothing.
+use mathlib.Core.Path.{refl, sym, ap, ap₂, _∙_}
+use lib.ListN.{length, take}
+use lib.Seq.{length-take-le}
+use Rattle.state.specs.State.{stateOf}
+use Rattle.normwrite.specs.Write.{toldWrite}
+use Rattle.normstate.specs.OfState.{fileOf, leftIn}
+use Rattle.wheloruka.specs.Taking.{lent}
+use Rattle.wheloruka.specs.Writing.{stateFile, stateFileLeft}
+use Rattle.wheloruka.proofs.Writes.{wrote, refuses, keeps, state-none, file-whole, left-whole, file-short, left-short}
+use borrow.Author.Needs.{needs}
+use Rattle.wheloruka.proofs.whl_of_state.Statement.{statement}
+use Rattle.wheloruka.proofs.whl_of_state.Tie as tie
+
+has-both-requires : tie.Need-has-both-requires
+has-both-requires c κs = search needs
+
+heading-in-requires : tie.Need-heading-in-requires
+heading-in-requires c κs = search needs
+
+tally-in-requires : tie.Need-tally-in-requires
+tally-in-requires c κs = search needs
+
+room-for-requires : tie.Need-room-for-requires
+room-for-requires c κs = search needs
+
+slice-relend-prefix-of-state : tie.Need-slice-relend-prefix-of-state
+slice-relend-prefix-of-state c = search needs
+
+slice-aggregate-of-state : tie.Need-slice-aggregate-of-state
+slice-aggregate-of-state c = sym (length-take-le _ _ (c .before .room-for .ensures .1))
+
+of-state-requires : tie.Need-of-state-requires
+of-state-requires c κs = search needs
+
+enum-known-n : tie.Need-enum-known-n
+enum-known-n c = search needs
+
+give-place-requires : tie.Need-give-place-requires
+give-place-requires c κs = search needs
+
+enum-known-e : tie.Need-enum-known-e
+enum-known-e c = search needs
+
+number-requires : tie.Need-number-requires
+number-requires c κs = search needs
+
+same-length : tie.Need-same-length
+same-length c = search needs
+
+same-length-2 : tie.Need-same-length-2
+same-length-2 c = search needs
+
+returns : tie.Need-returns
+returns c =
+    let a = c .before .before .before .before .before .before .before .before .before .before .before .before .before .before .before .before .before .before .before .before .args in
+    let x = lent (a .tally .now) (a .matrix .now) (a .rights .now) in
+    let room = c .before .before .before .before .before .before .before .before .before .before .before .room-for .result in
+    let h = c .before .before .before .before .before .before .before .before .before .before .before .before .before .heading-in .ensures in
+    let t = c .before .before .before .before .before .before .before .before .before .before .before .before .tally-in .ensures in
+    let whole = sym (c .before .before .before .before .before .before .before .before .before .before .before .before .before .before .before .has-both .ensures) ∙ c .before .before .before .before .before .before .before .before .before .before .before .before .before .before .if1 .taken in
+    let told = sym (ap toldWrite (c .before .before .before .before .before .n .given .1)) ∙ c .before .before .before .before .before .before .before .before .before .of-state .ensures .0 ∙ ap₂ (λ h t. fileOf h (stateOf (a .matrix .now) (a .rights .now) t) (length (take room (a .out .now)))) h t ∙ file-whole _ x whole _ in
+    let left = c .before .before .before .before .before .before .before .before .before .of-state .ensures .1 ∙ ap₂ (λ h t. leftIn h (stateOf (a .matrix .now) (a .rights .now) t) (take room (a .out .now))) h t ∙ left-whole _ x whole _ in
+    wrote (stateFile (a .heading .now) x) (stateFileLeft (a .heading .now) x) (a .size .now) (a .out .now) (state-none _ _) _ (c .before .before .before .before .before .before .before .before .before .before .before .room-for .ensures .0) _ told (c .before .before .give-place .ensures) left
+
+same-length-3 : tie.Need-same-length-3
+same-length-3 c = search needs
+
+returns-2 : tie.Need-returns-2
+returns-2 c =
+    let a = c .before .before .before .before .before .before .before .before .before .before .before .before .before .before .before .before .before .args in
+    let x = lent (a .tally .now) (a .matrix .now) (a .rights .now) in
+    let room = c .before .before .before .before .before .before .before .before .room-for .result in
+    let h = c .before .before .before .before .before .before .before .before .before .before .heading-in .ensures in
+    let t = c .before .before .before .before .before .before .before .before .before .tally-in .ensures in
+    let whole = sym (c .before .before .before .before .before .before .before .before .before .before .before .before .has-both .ensures) ∙ c .before .before .before .before .before .before .before .before .before .before .before .if1 .taken in
+    let told = sym (ap toldWrite (c .before .before .e .given .1)) ∙ c .before .before .before .before .before .before .of-state .ensures .0 ∙ ap₂ (λ h t. fileOf h (stateOf (a .matrix .now) (a .rights .now) t) (length (take room (a .out .now)))) h t ∙ file-whole _ x whole _ in
+    let left = c .before .before .before .before .before .before .of-state .ensures .1 ∙ ap₂ (λ h t. leftIn h (stateOf (a .matrix .now) (a .rights .now) t) (take room (a .out .now))) h t ∙ left-whole _ x whole _ in
+    refuses (stateFile (a .heading .now) x) (stateFileLeft (a .heading .now) x) (a .size .now) (a .out .now) (state-none _ _) _ (c .before .before .before .before .before .before .before .before .room-for .ensures .0) _ told (c .number .ensures) left
+
+returns-3 : tie.Need-returns-3
+returns-3 c =
+    let e = sym (c .before .has-both .ensures) ∙ c .if1 .left in
+    let a = c .before .before .before .before .before .before .args in
+    let x = lent (a .tally .now) (a .matrix .now) (a .rights .now) in
+    keeps (stateFile (a .heading .now) x) (stateFileLeft (a .heading .now) x) (a .size .now) (a .out .now) _ (file-short _ x e _) refl (left-short _ x e _)
+
+pub whl-of-state-spec : {M : Type 1} → statement M
+whl-of-state-spec =
+    tie.close
+    (tie.spec
+    has-both-requires
+    heading-in-requires
+    tally-in-requires
+    room-for-requires
+    slice-relend-prefix-of-state
+    slice-aggregate-of-state
+    of-state-requires
+    enum-known-n
+    give-place-requires
+    enum-known-e
+    number-requires
+    same-length
+    same-length-2
+    returns
+    same-length-3
+    returns-2
+    returns-3)

@@ -1,0 +1,22 @@
+-- `wheloruka::whl_seen` meets its contract.
+-- Assumes nothing.
+use mathlib.Core.Path.{refl}
+use Rattle.whole.proofs.Cases.{yes, no}
+use Rattle.wheloruka.specs.Taking.{seenNumber}
+use borrow.Author.Needs.{needs}
+use Rattle.wheloruka.proofs.whl_seen.Statement.{statement}
+use Rattle.wheloruka.proofs.whl_seen.Tie as tie
+
+seen-requires : tie.Need-seen-requires
+seen-requires c κs = search needs
+
+returns : tie.Need-returns
+unfolding seenNumber
+returns c = yes _ _ _ (cc) refl
+
+returns-2 : tie.Need-returns-2
+unfolding seenNumber
+returns-2 c = no _ _ _ (cc) refl
+
+pub whl-seen-spec : {M : Type 1} → statement M
+whl-seen-spec = tie.close (tie.spec seen-requires returns returns-2)

@@ -1,0 +1,473 @@
+// The library for callers in C and in Rust: numbers and slices only, no requirement on any of them. A call answers 0 where it is done, else the
+// paper's refusal number; results go into lent room, and a refusal changes nothing there. include/wheloruka.h declares the calls.
+use arcread::ReadAnswer;
+use cells::Cell;
+use cells::CellAnswer;
+use cells::IndexAnswer;
+use cells::Letter;
+use days::Date;
+use days::DateAnswer;
+use days::DayAnswer;
+use heading::Verdict;
+use listing::ListAnswer;
+use normmerge::MergeAnswer;
+use normwrite::WriteAnswer;
+use refusal::Refusal;
+use taking::TakeAnswer;
+use units::DoubleAnswer;
+use units::UnitAnswer;
+ghost use mathlib.Core.Path.{_≡_};
+ghost use lib.ListN.{length};
+ghost use Rattle.rooms.specs.Result.{resultNumber, resultLeft, roomFor, bytesLeft};
+ghost use Prim.Native.Nat.{_≤_};
+ghost use Rattle.cells.specs.Cells.{toldIndex};
+ghost use Rattle.arcread.specs.Arc.{readArc};
+ghost use Rattle.normread.specs.Normal.{readNormal};
+ghost use Rattle.normroom.specs.Room.{headsOf};
+ghost use Rattle.normunpack.specs.Unpack.{unpackNormal, filled, matrixOf, rightsOf};
+ghost use Rattle.normwrite.specs.Write.{writeNormal, leftIn};
+ghost use Rattle.normmerge.specs.Files.{mergeAnswer, mergeLeft};
+ghost use Rattle.listing.specs.Listing.{listAnswer, listLeft};
+ghost use Rattle.wheloruka.specs.Numbers.{
+  dayValues,
+  dateValues,
+  letterNumber,
+  cellValues,
+  indexBy,
+  indexValues,
+  unitValues,
+  doubleValues,
+};
+ghost use Rattle.wheloruka.specs.Reading.{
+  placeOf,
+  roomyFor,
+  readNumber,
+  headingLeft,
+  placesLeft,
+  normalValues,
+};
+ghost use Rattle.wheloruka.specs.Taking.{
+  lent,
+  startNumber,
+  startLeft,
+  judgeNumber,
+  takeNumber,
+  takeLeft,
+  runCallNumber,
+  runLeft,
+  answersLeft,
+  seenNumber,
+};
+ghost use Rattle.wheloruka.specs.Writing.{sized, judgedNumber, stateFile, stateFileLeft, mergeNumber};
+
+// ---- days
+
+// The number of a date.
+#[no_mangle]
+pub extern "C" fn whl_day_of_date(year: u32, month: u32, day: u32, out: &mut [u32]) -> u32
+    ensures { λ r. ⌜ r ≡ resultNumber (dayValues year month day) (length (now (out .entry))) ⌝ }
+    ensures left { λ _. ⌜ now (out .exit) ≡ resultLeft (dayValues year month day) (now (out .entry)) ⌝ }
+{
+    match days::day_of_date(Date { year, month, day }) {
+        DayAnswer::Is(n) => rooms::give_one(out, n),
+        DayAnswer::Refused(e) => refusal::number(e),
+    }
+}
+
+// The year, the month and the day of a day number.
+#[no_mangle]
+pub extern "C" fn whl_date_of_day(day: u32, out: &mut [u32]) -> u32
+    ensures { λ r. ⌜ r ≡ resultNumber (dateValues day) (length (now (out .entry))) ⌝ }
+    ensures left { λ _. ⌜ now (out .exit) ≡ resultLeft (dateValues day) (now (out .entry)) ⌝ }
+{
+    match days::date_of_day(day) {
+        DateAnswer::Is(t) => rooms::give_three(out, t.year, t.month, t.day),
+        DateAnswer::Refused(e) => refusal::number(e),
+    }
+}
+
+// ---- cells
+
+fn letter_number(l: Letter) -> u32
+    ensures { λ r. ⌜ r ≡ letterNumber l ⌝ }
+{
+    match l {
+        Letter::C => 67,
+        Letter::S => 83,
+    }
+}
+
+// The letter, the degree and the order of the cell at an index.
+#[no_mangle]
+pub extern "C" fn whl_cell_at(index: u32, out: &mut [u32]) -> u32
+    ensures { λ r. ⌜ r ≡ resultNumber (cellValues index) (length (now (out .entry))) ⌝ }
+    ensures left { λ _. ⌜ now (out .exit) ≡ resultLeft (cellValues index) (now (out .entry)) ⌝ }
+{
+    match cells::cell_at(index) {
+        CellAnswer::Is(c) => {
+            let letter = c.letter;
+            rooms::give_three(out, letter_number(letter), c.degree, c.order)
+        }
+        CellAnswer::Refused(e) => refusal::number(e),
+    }
+}
+
+// The index of a cell by its letter's number.
+fn index_by(letter: u32, degree: u32, order: u32) -> IndexAnswer
+    ensures { λ r. ⌜ toldIndex r ≡ indexBy letter degree order ⌝ }
+{
+    match letter {
+        67 => cells::index_of(Cell {
+            letter: Letter::C,
+            degree,
+            order,
+        }),
+        83 => cells::index_of(Cell {
+            letter: Letter::S,
+            degree,
+            order,
+        }),
+        _ => IndexAnswer::Refused(Refusal::Limits),
+    }
+}
+
+#[no_mangle]
+pub extern "C" fn whl_index_of(letter: u32, degree: u32, order: u32, out: &mut [u32]) -> u32
+    ensures { λ r. ⌜ r ≡ resultNumber (indexValues letter degree order) (length (now (out .entry))) ⌝ }
+    ensures left { λ _. ⌜ now (out .exit) ≡ resultLeft (indexValues letter degree order) (now (out .entry)) ⌝ }
+{
+    match index_by(letter, degree, order) {
+        IndexAnswer::Is(n) => rooms::give_one(out, n),
+        IndexAnswer::Refused(e) => refusal::number(e),
+    }
+}
+
+// ---- units
+
+// The unit of a double of a type.
+#[no_mangle]
+pub extern "C" fn whl_unit_of(kind: u32, x: f64, out: &mut [i64]) -> u32
+    ensures { λ r. ⌜ r ≡ resultNumber (unitValues kind x) (length (now (out .entry))) ⌝ }
+    ensures left { λ _. ⌜ now (out .exit) ≡ resultLeft (unitValues kind x) (now (out .entry)) ⌝ }
+{
+    match units::unit_of(kind, x) {
+        UnitAnswer::Is(q) => rooms::give_unit(out, q),
+        UnitAnswer::Refused(e) => refusal::number(e),
+    }
+}
+
+// The double of a unit of a type.
+#[no_mangle]
+pub extern "C" fn whl_double_of(kind: u32, unit: i64, out: &mut [f64]) -> u32
+    ensures { λ r. ⌜ r ≡ resultNumber (doubleValues kind unit) (length (now (out .entry))) ⌝ }
+    ensures left { λ _. ⌜ now (out .exit) ≡ resultLeft (doubleValues kind unit) (now (out .entry)) ⌝ }
+{
+    match units::double_of_unit(kind, unit) {
+        DoubleAnswer::Is(x) => rooms::give_double(out, x),
+        DoubleAnswer::Refused(e) => refusal::number(e),
+    }
+}
+
+// ---- files
+
+// Whether there is room for a heading and for two numbers.
+fn is_roomy(parameters: usize, stations: usize, room: usize, out: usize) -> bool
+    requires { ⌜ (parameters ≤ 50) × (stations ≤ 16) ⌝ }
+    ensures { λ r. ⌜ r ≡ roomyFor parameters stations room out ⌝ }
+{
+    if 16 + 16 * parameters + 8 * stations <= room {
+        2 <= out
+    } else {
+        false
+    }
+}
+
+// An arc file's heading in one room; the number of its records and the first one's place in another.
+#[no_mangle]
+pub extern "C" fn whl_read(file: &[u8], heading: &mut [u8], out: &mut [u64]) -> u32
+    ensures { λ r. ⌜ r ≡ readNumber (readArc (now (file .entry))) (length (now (heading .entry))) (length (now (out .entry))) ⌝ }
+    ensures heading { λ _. ⌜ now (heading .exit) ≡ headingLeft (readArc (now (file .entry))) (now (heading .entry)) (length (now (out .entry))) ⌝ }
+    ensures places { λ _. ⌜ now (out .exit) ≡ placesLeft (readArc (now (file .entry))) (length (now (heading .entry))) (now (out .entry)) ⌝ }
+{
+    let r = arcread::read(file);
+    let answer = r.answer;
+    let h = r.heading;
+    match answer {
+        ReadAnswer::Refused(e, _) => refusal::number(e),
+        ReadAnswer::Read => {
+            if is_roomy(h.parameters, h.stations, heading.len(), out.len()) {
+                lent::put_heading(h, heading);
+                rooms::give_two(out, r.count as u64, r.start as u64)
+            } else {
+                20
+            }
+        }
+    }
+}
+
+// The place of an arc file's refusal; 0 where the file is accepted.
+#[no_mangle]
+pub extern "C" fn whl_read_place(file: &[u8]) -> u64
+    ensures { λ r. ⌜ r ≡ placeOf (readArc (now (file .entry))) ⌝ }
+{
+    let r = arcread::read(file);
+    let answer = r.answer;
+    match answer {
+        ReadAnswer::Refused(_, place) => place as u64,
+        ReadAnswer::Read => 0,
+    }
+}
+
+// A normal file's numbers of arcs and parameters, and the places of its matrix sums, right sides and totals.
+#[no_mangle]
+pub extern "C" fn whl_normal_read(file: &[u8], out: &mut [u64]) -> u32
+    ensures { λ r. ⌜ r ≡ resultNumber (normalValues (readNormal (now (file .entry)))) (length (now (out .entry))) ⌝ }
+    ensures left { λ _. ⌜ now (out .exit) ≡ resultLeft (normalValues (readNormal (now (file .entry)))) (now (out .entry)) ⌝ }
+{
+    let r = normread::read(file);
+    let answer = r.answer;
+    match answer {
+        normread::ReadAnswer::Refused(e, _) => refusal::number(e),
+        normread::ReadAnswer::Read => rooms::give_five(
+            out,
+            r.arcs as u64,
+            r.parameters as u64,
+            r.matrix as u64,
+            r.rights as u64,
+            r.totals as u64,
+        ),
+    }
+}
+
+// The place of a normal file's refusal; 0 where the file is accepted.
+#[no_mangle]
+pub extern "C" fn whl_normal_place(file: &[u8]) -> u64
+    ensures { λ r. ⌜ r ≡ placeOf (readNormal (now (file .entry))) ⌝ }
+{
+    let r = normread::read(file);
+    let answer = r.answer;
+    match answer {
+        normread::ReadAnswer::Refused(_, place) => place as u64,
+        normread::ReadAnswer::Read => 0,
+    }
+}
+
+// ---- taking
+
+// The empty state of a heading.
+#[no_mangle]
+pub extern "C" fn whl_start(
+    heading: &[u8],
+    tally: &mut [u8],
+    matrix: &mut [i64],
+    rights: &mut [i64],
+) -> u32
+    ensures { λ r. ⌜ r ≡ startNumber (now (heading .entry)) (lent (now (tally .entry)) (now (matrix .entry)) (now (rights .entry))) ⌝ }
+    ensures left { λ _. ⌜ lent (now (tally .exit)) (now (matrix .exit)) (now (rights .exit)) ≡ startLeft (now (heading .entry)) (lent (now (tally .entry)) (now (matrix .entry)) (now (rights .entry))) ⌝ }
+{
+    if lent::has_both(heading, tally) {
+        let started = state::start(lent::heading_in(heading), matrix, rights);
+        let answer = started.answer;
+        let t = started.tally;
+        match answer {
+            Verdict::Sound => {
+                lent::put_tally(t, tally);
+                0
+            }
+            Verdict::Refused(e) => refusal::number(e),
+        }
+    } else {
+        20
+    }
+}
+
+// A heading and a state judged.
+#[no_mangle]
+pub extern "C" fn whl_judge(heading: &[u8], tally: &[u8], matrix: &[i64], rights: &[i64]) -> u32
+    ensures { λ r. ⌜ r ≡ judgeNumber (now (heading .entry)) (lent (now (tally .entry)) (now (matrix .entry)) (now (rights .entry))) ⌝ }
+{
+    if lent::has_both(heading, tally) {
+        let h = lent::heading_in(heading);
+        let t = lent::tally_in(tally);
+        match state::judge_state(h, t, matrix, rights) {
+            Verdict::Sound => 0,
+            Verdict::Refused(e) => refusal::number(e),
+        }
+    } else {
+        20
+    }
+}
+
+// A record taken into a state.
+#[no_mangle]
+pub extern "C" fn whl_take(
+    heading: &[u8],
+    tally: &mut [u8],
+    matrix: &mut [i64],
+    rights: &mut [i64],
+    bytes: &[u8],
+) -> u32
+    ensures { λ r. ⌜ r ≡ takeNumber (now (heading .entry)) (now (bytes .entry)) (lent (now (tally .entry)) (now (matrix .entry)) (now (rights .entry))) ⌝ }
+    ensures left { λ _. ⌜ lent (now (tally .exit)) (now (matrix .exit)) (now (rights .exit)) ≡ takeLeft (now (heading .entry)) (now (bytes .entry)) (lent (now (tally .entry)) (now (matrix .entry)) (now (rights .entry))) ⌝ }
+{
+    if lent::has_both(heading, tally) {
+        let h = lent::heading_in(heading);
+        let t = lent::tally_in(tally);
+        let taken = taking::take(h, t, matrix, rights, bytes);
+        let answer = taken.answer;
+        let after = taken.tally;
+        match answer {
+            TakeAnswer::Accepted => {
+                lent::put_tally(after, tally);
+                0
+            }
+            TakeAnswer::Refused(e) => refusal::number(e),
+        }
+    } else {
+        20
+    }
+}
+
+// A run of whole records taken into a state, each with its answer.
+#[no_mangle]
+pub extern "C" fn whl_take_run(
+    heading: &[u8],
+    tally: &mut [u8],
+    matrix: &mut [i64],
+    rights: &mut [i64],
+    run: &[u8],
+    answers: &mut [u8],
+) -> u32
+    ensures { λ r. ⌜ r ≡ runCallNumber (now (heading .entry)) (now (run .entry)) (length (now (answers .entry))) (lent (now (tally .entry)) (now (matrix .entry)) (now (rights .entry))) ⌝ }
+    ensures left { λ _. ⌜ lent (now (tally .exit)) (now (matrix .exit)) (now (rights .exit)) ≡ runLeft (now (heading .entry)) (now (run .entry)) (length (now (answers .entry))) (lent (now (tally .entry)) (now (matrix .entry)) (now (rights .entry))) ⌝ }
+    ensures told { λ _. ⌜ now (answers .exit) ≡ answersLeft (now (heading .entry)) (now (run .entry)) (now (answers .entry)) (lent (now (tally .entry)) (now (matrix .entry)) (now (rights .entry))) ⌝ }
+{
+    if lent::has_both(heading, tally) {
+        let h = lent::heading_in(heading);
+        let t = lent::tally_in(tally);
+        let taken = taking::take_run(h, t, matrix, rights, run, answers);
+        let answer = taken.answer;
+        let after = taken.tally;
+        match answer {
+            TakeAnswer::Accepted => {
+                lent::put_tally(after, tally);
+                0
+            }
+            TakeAnswer::Refused(e) => refusal::number(e),
+        }
+    } else {
+        20
+    }
+}
+
+// 1 where a parameter is seen, else 0.
+#[no_mangle]
+pub extern "C" fn whl_seen(matrix: &[i64], parameter: usize) -> u32
+    ensures { λ r. ⌜ r ≡ seenNumber (now (matrix .entry)) parameter ⌝ }
+{
+    if state::seen(matrix, parameter) { 1 } else { 0 }
+}
+
+// ---- normal files, from and into lent room
+
+// A normal file's values put into three rooms.
+#[no_mangle]
+pub extern "C" fn whl_normal_unpack(
+    file: &[u8],
+    heads: &mut [u64],
+    matrix: &mut [i64],
+    rights: &mut [i64],
+) -> u32
+    ensures { λ r. ⌜ r ≡ judgedNumber (unpackNormal (now (file .entry)) (length (now (heads .entry))) (length (now (matrix .entry))) (length (now (rights .entry)))) ⌝ }
+    ensures heads { λ _. ⌜ now (heads .exit) ≡ filled headsOf (unpackNormal (now (file .entry)) (length (now (heads .entry))) (length (now (matrix .entry))) (length (now (rights .entry)))) (now (heads .entry)) ⌝ }
+    ensures matrix { λ _. ⌜ now (matrix .exit) ≡ filled matrixOf (unpackNormal (now (file .entry)) (length (now (heads .entry))) (length (now (matrix .entry))) (length (now (rights .entry)))) (now (matrix .entry)) ⌝ }
+    ensures rights { λ _. ⌜ now (rights .exit) ≡ filled rightsOf (unpackNormal (now (file .entry)) (length (now (heads .entry))) (length (now (matrix .entry))) (length (now (rights .entry)))) (now (rights .entry)) ⌝ }
+{
+    let r = normunpack::unpack(file, heads, matrix, rights);
+    let answer = r.answer;
+    match answer {
+        normread::ReadAnswer::Refused(e, _) => refusal::number(e),
+        normread::ReadAnswer::Read => 0,
+    }
+}
+
+// The normal file of a system in three rooms.
+#[no_mangle]
+pub extern "C" fn whl_normal_write(
+    arcs: usize,
+    parameters: usize,
+    heads: &[u64],
+    matrix: &[i64],
+    rights: &[i64],
+    out: &mut [u8],
+    size: &mut [u64],
+) -> u32
+    ensures { λ r. ⌜ r ≡ resultNumber (sized (writeNormal arcs parameters (now (heads .entry)) (now (matrix .entry)) (now (rights .entry)) (roomFor (length (now (size .entry))) (length (now (out .entry)))))) (length (now (size .entry))) ⌝ }
+    ensures size { λ _. ⌜ now (size .exit) ≡ resultLeft (sized (writeNormal arcs parameters (now (heads .entry)) (now (matrix .entry)) (now (rights .entry)) (roomFor (length (now (size .entry))) (length (now (out .entry)))))) (now (size .entry)) ⌝ }
+    ensures bytes { λ _. ⌜ now (out .exit) ≡ bytesLeft (length (now (size .entry))) (leftIn arcs parameters (now (heads .entry)) (now (matrix .entry)) (now (rights .entry))) (now (out .entry)) ⌝ }
+{
+    let room = rooms::room_for(size.len(), out.len());
+    match normwrite::write(arcs, parameters, heads, matrix, rights, &mut out[..room]) {
+        WriteAnswer::Is(n) => rooms::give_place(size, n as u64),
+        WriteAnswer::Refused(e) => refusal::number(e),
+    }
+}
+
+// The normal file of a state.
+#[no_mangle]
+pub extern "C" fn whl_of_state(
+    heading: &[u8],
+    tally: &[u8],
+    matrix: &[i64],
+    rights: &[i64],
+    out: &mut [u8],
+    size: &mut [u64],
+) -> u32
+    ensures { λ r. ⌜ r ≡ resultNumber (sized (stateFile (now (heading .entry)) (lent (now (tally .entry)) (now (matrix .entry)) (now (rights .entry))) (roomFor (length (now (size .entry))) (length (now (out .entry)))))) (length (now (size .entry))) ⌝ }
+    ensures size { λ _. ⌜ now (size .exit) ≡ resultLeft (sized (stateFile (now (heading .entry)) (lent (now (tally .entry)) (now (matrix .entry)) (now (rights .entry))) (roomFor (length (now (size .entry))) (length (now (out .entry)))))) (now (size .entry)) ⌝ }
+    ensures bytes { λ _. ⌜ now (out .exit) ≡ bytesLeft (length (now (size .entry))) (stateFileLeft (now (heading .entry)) (lent (now (tally .entry)) (now (matrix .entry)) (now (rights .entry)))) (now (out .entry)) ⌝ }
+{
+    if lent::has_both(heading, tally) {
+        let h = lent::heading_in(heading);
+        let t = lent::tally_in(tally);
+        let room = rooms::room_for(size.len(), out.len());
+        match normstate::of_state(h, t, matrix, rights, &mut out[..room]) {
+            WriteAnswer::Is(n) => rooms::give_place(size, n as u64),
+            WriteAnswer::Refused(e) => refusal::number(e),
+        }
+    } else {
+        20
+    }
+}
+
+// Two normal files merged: a file's own refusal plus 100 for the first, plus 200 for the second.
+#[no_mangle]
+pub extern "C" fn whl_merge(first: &[u8], second: &[u8], out: &mut [u8], size: &mut [u64]) -> u32
+    ensures { λ r. ⌜ r ≡ resultNumber (sized (mergeNumber (mergeAnswer (now (first .entry)) (now (second .entry)) (roomFor (length (now (size .entry))) (length (now (out .entry))))))) (length (now (size .entry))) ⌝ }
+    ensures size { λ _. ⌜ now (size .exit) ≡ resultLeft (sized (mergeNumber (mergeAnswer (now (first .entry)) (now (second .entry)) (roomFor (length (now (size .entry))) (length (now (out .entry))))))) (now (size .entry)) ⌝ }
+    ensures bytes { λ _. ⌜ now (out .exit) ≡ bytesLeft (length (now (size .entry))) (mergeLeft (now (first .entry)) (now (second .entry))) (now (out .entry)) ⌝ }
+{
+    let room = rooms::room_for(size.len(), out.len());
+    match normmerge::merge(first, second, &mut out[..room]) {
+        MergeAnswer::Is(n) => rooms::give_place(size, n as u64),
+        MergeAnswer::First(e, _) => 100 + refusal::number(e),
+        MergeAnswer::Second(e, _) => 200 + refusal::number(e),
+        MergeAnswer::Refused(e) => refusal::number(e),
+    }
+}
+
+// ---- the listing
+
+// The text that the arc program prints of a file of at most `limit` bytes.
+#[no_mangle]
+pub extern "C" fn whl_list(file: &[u8], limit: usize, out: &mut [u8], size: &mut [u64]) -> u32
+    ensures { λ r. ⌜ r ≡ resultNumber (sized (listAnswer limit (now (file .entry)) (roomFor (length (now (size .entry))) (length (now (out .entry)))))) (length (now (size .entry))) ⌝ }
+    ensures size { λ _. ⌜ now (size .exit) ≡ resultLeft (sized (listAnswer limit (now (file .entry)) (roomFor (length (now (size .entry))) (length (now (out .entry)))))) (now (size .entry)) ⌝ }
+    ensures bytes { λ _. ⌜ now (out .exit) ≡ bytesLeft (length (now (size .entry))) (listLeft limit (now (file .entry))) (now (out .entry)) ⌝ }
+{
+    let room = rooms::room_for(size.len(), out.len());
+    match listing::list(file, limit, &mut out[..room]) {
+        ListAnswer::Is(n) => rooms::give_place(size, n as u64),
+        ListAnswer::Refused(e) => refusal::number(e),
+    }
+}

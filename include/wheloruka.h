@@ -1,0 +1,125 @@
+/* Wheloruka: satellite tracking data reduced in exact whole numbers. Every function here is proved to meet its promise for every input
+   (crates/wheloruka, docs/CALLING.md).
+
+   What holds for all calls:
+   - A result of type uint32_t is 0 where the call is done, else the number of the refusal:
+       1  bytes end too early, or a run ends inside a record   2  a count that is not allowed      3  bytes left over
+       4  a field out of its limits                            5  not ascending                    6  sums or a state not sound
+       10 station not listed      11 type not 1 to 10          12 sigma not 1 to 256               13 day or milliseconds
+       14 outside the window      15 not finite                16 unit out of its limits           17 not later than the last
+       18 edit not passed         19 station has 256 already   20 a room too short
+       21 both files list one arc 22 more than 16 arcs         23 more than 500 parameters         24 a common label with unlike priors
+   - A room is a pointer and a number of elements. Results stand at its front; a longer room keeps its rest. A refusal changes nothing in any
+     room. 20 for a room of results comes last; for a room that holds an input (heading, tally, sums) it comes first.
+   - No pointer may be null, not even with 0 elements; a room that is written may not overlap any other. Nothing is kept between calls, and
+     nothing is allocated: calls in different threads on different rooms do not meet. */
+#ifndef WHELORUKA_H
+#define WHELORUKA_H
+#include <stddef.h>
+#include <stdint.h>
+#ifdef __cplusplus
+extern "C" {
+#endif
+
+/* ---- lengths of rooms, for P parameters, T stations, A arcs */
+
+/* A heading in bytes: arc u32, first day u32, days u16, edit level u16, P u16, T u16; then P labels of 16 bytes (kind u16, index u16, prior
+   weight u32, estimate i64) and T stations of 8 bytes (number u16, two bytes that are not looked at, clock correction i32). Little-endian. */
+#define WHL_HEADING_BYTES(P, T) (16 + 16 * (size_t)(P) + 8 * (size_t)(T))
+#define WHL_HEADING_MOST WHL_HEADING_BYTES(50, 16)
+/* A tally in bytes: the square sum u64; the accepted records of each station, sixteen u32; the last times, sixteen rows of ten u64 (a row a
+   station, a column a type). Little-endian. */
+#define WHL_TALLY_BYTES 1352
+/* The matrix sums: the packed upper triangle by columns; row i and column j, from 0 with i <= j, stand at j (j + 1) / 2 + i. */
+#define WHL_MATRIX_SUMS(P) ((size_t)(P) * ((size_t)(P) + 1) / 2)
+/* A tracking record in bytes. */
+#define WHL_RECORD_BYTES(P) (32 + 2 * (size_t)(P))
+/* A normal file in bytes; and the heads of what it holds, an element each: the A arcs; for each of the P labels kind, index, arc, prior weight and
+   estimate (in two's complement); accepted; the square sum. Its matrix sums and right sides have rooms as those of a state. */
+#define WHL_NORMAL_BYTES(A, P) (36 + 4 * (size_t)(A) + 32 * (size_t)(P) + 8 * WHL_MATRIX_SUMS(P))
+#define WHL_HEADS(A, P) ((size_t)(A) + 5 * (size_t)(P) + 2)
+/* A room that holds every listing. */
+#define WHL_LISTING_MOST 5596
+
+/* ---- days: 1950 January 1 is 1, 2099 December 31 is 54787 */
+
+/* The day number of a date, in out[0]. 4: no such date; 20: out_length < 1. */
+uint32_t whl_day_of_date(uint32_t year, uint32_t month, uint32_t day, uint32_t *out, size_t out_length);
+/* The year, month and day of a day number, in out[0] to out[2]. 4: not 1 to 54787; 20: out_length < 3. */
+uint32_t whl_date_of_day(uint32_t day, uint32_t *out, size_t out_length);
+
+/* ---- geopotential cells: a letter is 'C' (67) or 'S' (83) */
+
+/* The letter, degree and order of the cell at an index, in out[0] to out[2]. 4: not 0 to 989; 20: out_length < 3. */
+uint32_t whl_cell_at(uint32_t index, uint32_t *out, size_t out_length);
+/* The index of a cell, in out[0]. 4: no such letter, or degree not 1 to 30, or order above the degree; 20: out_length < 1. */
+uint32_t whl_index_of(uint32_t letter, uint32_t degree, uint32_t order, uint32_t *out, size_t out_length);
+
+/* ---- units: kind is the type of measurement, 1 to 10 */
+
+/* The unit nearest to a double, in out[0]. 11, 15, 16; 20: out_length < 1. */
+uint32_t whl_unit_of(uint32_t kind, double x, int64_t *out, size_t out_length);
+/* The double of a unit, exactly, in out[0]. 11, 16; 20: out_length < 1. */
+uint32_t whl_double_of(uint32_t kind, int64_t unit, double *out, size_t out_length);
+
+/* ---- arc files */
+
+/* The file's heading, in WHL_HEADING_BYTES of its own P and T (WHL_HEADING_MOST always suffices); the number of its records in out[0] and the
+   place of the first one's first byte in out[1]. 1, 2, 3, 4, 5; 20: heading or out (2) too short; the place of 20 is the file's length. */
+uint32_t whl_read(const uint8_t *file, size_t file_length, uint8_t *heading, size_t heading_length, uint64_t *out, size_t out_length);
+/* The place of the file's refusal; 0 where it is accepted. */
+uint64_t whl_read_place(const uint8_t *file, size_t file_length);
+
+/* ---- taking. A heading of bytes, and a state: a tally of WHL_TALLY_BYTES, matrix sums, right sides, P of them. All may hold any values: what is
+   wrong with them is refused. 20: the heading shorter than its own P and T want (a P above 50 stands as 50, a T above 16 as 16), the tally
+   shorter than 1352, the matrix sums fewer than WHL_MATRIX_SUMS(P) or the right sides fewer than P. */
+
+/* The empty state of a heading. 20, 2, 4, 5. */
+uint32_t whl_start(const uint8_t *heading, size_t heading_length, uint8_t *tally, size_t tally_length, int64_t *matrix, size_t matrix_length,
+                   int64_t *rights, size_t rights_length);
+/* A heading and a state judged; 0 where they are sound. 20, 2, 4, 5, 6. */
+uint32_t whl_judge(const uint8_t *heading, size_t heading_length, const uint8_t *tally, size_t tally_length, const int64_t *matrix,
+                   size_t matrix_length, const int64_t *rights, size_t rights_length);
+/* One record taken; 0 where it is accepted. 20, 2, 4, 5, 6, 1, 3, 10 to 19. The heading and the state are judged each time. */
+uint32_t whl_take(const uint8_t *heading, size_t heading_length, uint8_t *tally, size_t tally_length, int64_t *matrix, size_t matrix_length,
+                  int64_t *rights, size_t rights_length, const uint8_t *record, size_t record_length);
+/* A run of whole records taken, judged once; answers[i] is 0 or 10 to 19 for record i. 20 (also: fewer answers than records), 2, 4, 5, 6, and
+   1 where the run ends inside a record. */
+uint32_t whl_take_run(const uint8_t *heading, size_t heading_length, uint8_t *tally, size_t tally_length, int64_t *matrix, size_t matrix_length,
+                      int64_t *rights, size_t rights_length, const uint8_t *run, size_t run_length, uint8_t *answers, size_t answers_length);
+/* 1 where a parameter, counted from 0, is seen: its diagonal sum is not 0; else 0. */
+uint32_t whl_seen(const int64_t *matrix, size_t matrix_length, size_t parameter);
+
+/* ---- normal files */
+
+/* In out[0] to out[4]: the numbers of arcs and of parameters, and the places of the first matrix sum, the first right side and the totals.
+   1, 2, 3, 4, 5, 6; 20: out_length < 5. */
+uint32_t whl_normal_read(const uint8_t *file, size_t file_length, uint64_t *out, size_t out_length);
+/* The place of the file's refusal; 0 where it is accepted. */
+uint64_t whl_normal_place(const uint8_t *file, size_t file_length);
+/* What the file holds, in three rooms. 1, 2, 3, 4, 5, 6; 20: heads shorter than WHL_HEADS, matrix than WHL_MATRIX_SUMS or rights than P, for the
+   file's own A and P; the place of 20 is the file's length. */
+uint32_t whl_normal_unpack(const uint8_t *file, size_t file_length, uint64_t *heads, size_t heads_length, int64_t *matrix, size_t matrix_length,
+                           int64_t *rights, size_t rights_length);
+
+/* ---- calls that write bytes: these in out, their number in size[0]. 20 comes last where out is too short or size_length is 0. */
+
+/* The normal file of what stands in three rooms, of any values: WHL_NORMAL_BYTES. 20 first for the three rooms (an A above 16 stands as 16, a P
+   above 500 as 500), then 2, 4, 5, 6, 20. */
+uint32_t whl_normal_write(size_t arcs, size_t parameters, const uint64_t *heads, size_t heads_length, const int64_t *matrix, size_t matrix_length,
+                          const int64_t *rights, size_t rights_length, uint8_t *out, size_t out_length, uint64_t *size, size_t size_length);
+/* The normal file of a state, of its one arc: WHL_NORMAL_BYTES(1, P). 20 first for heading and state as in taking, then 2, 4, 5, 6, 20. */
+uint32_t whl_of_state(const uint8_t *heading, size_t heading_length, const uint8_t *tally, size_t tally_length, const int64_t *matrix,
+                      size_t matrix_length, const int64_t *rights, size_t rights_length, uint8_t *out, size_t out_length, uint64_t *size,
+                      size_t size_length);
+/* Two normal files merged; in either order the same bytes. A file's own refusal plus 100 for the first, plus 200 for the second (its place is
+   whl_normal_place's of that file); then 21, 22, 23, 24, 20. */
+uint32_t whl_merge(const uint8_t *first, size_t first_length, const uint8_t *second, size_t second_length, uint8_t *out, size_t out_length,
+                   uint64_t *size, size_t size_length);
+/* The text that the arc program prints of an arc file of at most limit bytes: a listing, or `refused N at PLACE`. 20. */
+uint32_t whl_list(const uint8_t *file, size_t file_length, size_t limit, uint8_t *out, size_t out_length, uint64_t *size, size_t size_length);
+
+#ifdef __cplusplus
+}
+#endif
+#endif
