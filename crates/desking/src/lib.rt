@@ -25,8 +25,8 @@ fn fetch(path: &[u8], room: &mut [u8]) -> Fetched {
     if got.is_whole {
         if n < room.len() {
             is_here = true;
-        } else {
-            telling::tell_long(path, n);
+        } else if n > 0 {
+            telling::tell_long(path, n - 1);
         }
     }
     Fetched { is_here, length: n }
