@@ -3,7 +3,7 @@
 use borrow.Author.Needs.{needs}
 use native.Mathlib.Omega.{arith}
 use Prim.Native.Nat.{zero-le}
-use mathlib.Core.Path.{refl}
+use mathlib.Core.Path.{refl, sym, _∙_}
 use Rattle.whole.proofs.Cases.{yes, no, is-less, not-less, is-upTo}
 use Rattle.section.specs.Section.{judgedAt}
 use Rattle.arcread.proofs.judge_settings.Statement.{statement}
@@ -24,11 +24,11 @@ settings-ok-requires c κs = search needs
 
 returns-2 : tie.Need-returns-2
 unfolding judgedAt
-returns-2 c = rw (← c .before .before .load-settings .ensures) (no _ _ _ (not-less _ _ (omega arith)) (yes _ _ _ (cc) (yes _ _ _ (is-upTo _ _ zero-le) refl)))
+returns-2 c = rw (← c .before .before .load-settings .ensures) (no _ _ _ (not-less _ _ (omega arith)) (yes _ _ _ (sym (c .before .settings-ok .ensures) ∙ c .if2 .taken) (yes _ _ _ (is-upTo _ _ zero-le) refl)))
 
 returns-3 : tie.Need-returns-3
 unfolding judgedAt
-returns-3 c = rw (← c .before .before .load-settings .ensures) (no _ _ _ (not-less _ _ (omega arith)) (no _ _ _ (cc) refl))
+returns-3 c = rw (← c .before .before .load-settings .ensures) (no _ _ _ (not-less _ _ (omega arith)) (no _ _ _ (sym (c .before .settings-ok .ensures) ∙ c .if2 .left) refl))
 
 pub judge-settings-spec : {M : Type 1} → statement M
 judge-settings-spec =

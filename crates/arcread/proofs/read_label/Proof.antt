@@ -2,7 +2,7 @@
 -- Assumes nothing.
 use borrow.Author.Needs.{needs}
 use native.Mathlib.Omega.{arith}
-use mathlib.Core.Path.{refl}
+use mathlib.Core.Path.{refl, sym, _∙_}
 use Rattle.whole.proofs.Cases.{yes, no, is-less, not-less, is-upTo, not-upTo}
 use Rattle.section.specs.Section.{judgedAt}
 use Rattle.arcread.proofs.read_label.Statement.{statement}
@@ -26,15 +26,15 @@ label-key-requires c κs = search needs
 
 returns-2 : tie.Need-returns-2
 unfolding judgedAt
-returns-2 c = rw (← c .before .before .before .before .load-label .ensures) (no _ _ _ (not-less _ _ (omega arith)) (yes _ _ _ (cc) (yes _ _ _ (is-upTo _ _ (omega arith)) refl)))
+returns-2 c = rw (← c .before .before .before .before .load-label .ensures) (no _ _ _ (not-less _ _ (omega arith)) (yes _ _ _ (sym (c .before .before .before .label-ok .ensures) ∙ c .before .before .if2 .taken) (yes _ _ _ (is-upTo _ _ (omega arith)) refl)))
 
 returns-3 : tie.Need-returns-3
 unfolding judgedAt
-returns-3 c = rw (← c .before .before .before .before .load-label .ensures) (no _ _ _ (not-less _ _ (omega arith)) (yes _ _ _ (cc) (no _ _ _ (not-upTo _ _ (omega arith)) refl)))
+returns-3 c = rw (← c .before .before .before .before .load-label .ensures) (no _ _ _ (not-less _ _ (omega arith)) (yes _ _ _ (sym (c .before .before .before .label-ok .ensures) ∙ c .before .before .if2 .taken) (no _ _ _ (not-upTo _ _ (omega arith)) refl)))
 
 returns-4 : tie.Need-returns-4
 unfolding judgedAt
-returns-4 c = rw (← c .before .before .load-label .ensures) (no _ _ _ (not-less _ _ (omega arith)) (no _ _ _ (cc) refl))
+returns-4 c = rw (← c .before .before .load-label .ensures) (no _ _ _ (not-less _ _ (omega arith)) (no _ _ _ (sym (c .before .label-ok .ensures) ∙ c .if2 .left) refl))
 
 pub read-label-spec : {M : Type 1} → statement M
 read-label-spec =

@@ -39,19 +39,19 @@ returns-3 : tie.Need-returns-3
 unfolding judgedAt stationAtOk
 returns-3 c =
     rw (← c .before .before .before .before .load-station .ensures)
-    (no _ _ _ (not-less _ _ (omega arith)) (yes _ _ _ (sym (holds _ _ (is-same _ _ (sym (c .before .before .before .before .before .before .read-u16 .ensures) ∙ c .before .before .before .before .before .if2 .left)) (sym (cc)))) (yes _ _ _ (is-upTo _ _ (omega arith)) refl)))
+    (no _ _ _ (not-less _ _ (omega arith)) (yes _ _ _ (sym (holds _ _ (is-same _ _ (sym (c .before .before .before .before .before .before .read-u16 .ensures) ∙ c .before .before .before .before .before .if2 .left)) (sym (sym (c .before .before .before .station-ok .ensures) ∙ c .before .before .if3 .taken)))) (yes _ _ _ (is-upTo _ _ (omega arith)) refl)))
 
 returns-4 : tie.Need-returns-4
 unfolding judgedAt stationAtOk
 returns-4 c =
     rw (← c .before .before .before .before .load-station .ensures)
-    (no _ _ _ (not-less _ _ (omega arith)) (yes _ _ _ (sym (holds _ _ (is-same _ _ (sym (c .before .before .before .before .before .before .read-u16 .ensures) ∙ c .before .before .before .before .before .if2 .left)) (sym (cc)))) (no _ _ _ (not-upTo _ _ (omega arith)) refl)))
+    (no _ _ _ (not-less _ _ (omega arith)) (yes _ _ _ (sym (holds _ _ (is-same _ _ (sym (c .before .before .before .before .before .before .read-u16 .ensures) ∙ c .before .before .before .before .before .if2 .left)) (sym (sym (c .before .before .before .station-ok .ensures) ∙ c .before .before .if3 .taken)))) (no _ _ _ (not-upTo _ _ (omega arith)) refl)))
 
 returns-5 : tie.Need-returns-5
 unfolding judgedAt stationAtOk
 returns-5 c =
     rw (← c .before .before .load-station .ensures)
-    (no _ _ _ (not-less _ _ (omega arith)) (no _ _ _ (sym (holds _ _ (is-same _ _ (sym (c .before .before .before .before .read-u16 .ensures) ∙ c .before .before .before .if2 .left)) (sym (cc)))) refl))
+    (no _ _ _ (not-less _ _ (omega arith)) (no _ _ _ (sym (holds _ _ (is-same _ _ (sym (c .before .before .before .before .read-u16 .ensures) ∙ c .before .before .before .if2 .left)) (sym (sym (c .before .station-ok .ensures) ∙ c .if3 .left)))) refl))
 
 pub read-station-spec : {M : Type 1} → statement M
 read-station-spec =

@@ -35,20 +35,20 @@ returns c =
     let start = c .before .before .before .before .before .before .before .before .before in
     let labels = simp length-map at (start .good .0 .1 .1 .1 .1 .1 .0 .1 .0 .1) in
     let listed = simp length-map at (start .good .0 .1 .1 .1 .1 .1 .1 .0 .1 .0 .1) in
-    on-refused _ _ _ labels listed (cc) (omega arith) (sym (c .before .before .before .judge .ensures) ∙ ap toldVerdict (c .before .refusal .given .1))
+    on-refused _ _ _ labels listed (sym (c .before .before .before .before .before .before .before .counts-ok .ensures) ∙ c .before .before .before .before .before .before .if1 .taken) (omega arith) (sym (c .before .before .before .judge .ensures) ∙ ap toldVerdict (c .before .refusal .given .1))
 
 returns-2 : tie.Need-returns-2
 returns-2 c =
     let start = c .before .before .before .before .before .before .before .before .before in
     let labels = simp length-map at (start .good .0 .1 .1 .1 .1 .1 .0 .1 .0 .1) in
     let listed = simp length-map at (start .good .0 .1 .1 .1 .1 .1 .1 .0 .1 .0 .1) in
-    c .judge-room .ensures ∙ on-sound _ _ _ labels listed (cc) (omega arith) (sym (c .before .before .before .judge .ensures) ∙ ap toldVerdict (c .before .enum-told .given .1))
+    c .judge-room .ensures ∙ on-sound _ _ _ labels listed (sym (c .before .before .before .before .before .before .before .counts-ok .ensures) ∙ c .before .before .before .before .before .before .if1 .taken) (omega arith) (sym (c .before .before .before .judge .ensures) ∙ ap toldVerdict (c .before .enum-told .given .1))
 
 returns-3 : tie.Need-returns-3
-returns-3 c = on-many _ _ _ (cc) (omega arith)
+returns-3 c = on-many _ _ _ (sym (c .before .before .before .counts-ok .ensures) ∙ c .before .before .if1 .taken) (omega arith)
 
 returns-4 : tie.Need-returns-4
-returns-4 c = on-counts _ _ _ (cc)
+returns-4 c = on-counts _ _ _ (sym (c .before .counts-ok .ensures) ∙ c .if1 .left)
 
 pub judge-spec : {M : Type 1} → statement M
 judge-spec =

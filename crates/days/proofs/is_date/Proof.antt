@@ -1,6 +1,8 @@
 -- `days::is_date` meets its contract: its three tests are the definition's.
 -- Assumes nothing.
+use mathlib.Core.Path.{ap, sym, _∙_}
 use borrow.Author.Needs.{needs}
+use Rattle.whole.specs.Tests.{between}
 use Rattle.whole.proofs.Cases.{holds, fails}
 use Rattle.days.specs.Calendar.{isDate}
 use Rattle.days.proofs.is_date.Statement.{statement}
@@ -32,15 +34,15 @@ within-requires-3 c κs = search needs
 
 returns : tie.Need-returns
 unfolding isDate
-returns c = holds _ _ (cc) (holds _ _ (cc) (cc))
+returns c = holds _ _ (sym (c .before .before .before .before .before .within .ensures) ∙ c .before .before .before .before .if1 .taken) (holds _ _ (sym (c .before .before .before .within2 .ensures) ∙ c .before .before .if2 .taken) (c .within3 .ensures ∙ ap (between 1 _) (c .before .month-length .ensures)))
 
 returns-2 : tie.Need-returns-2
 unfolding isDate
-returns-2 c = holds _ _ (cc) (fails _ _ (cc))
+returns-2 c = holds _ _ (sym (c .before .before .before .within .ensures) ∙ c .before .before .if1 .taken) (fails _ _ (sym (c .before .within2 .ensures) ∙ c .if2 .left))
 
 returns-3 : tie.Need-returns-3
 unfolding isDate
-returns-3 c = fails _ _ (cc)
+returns-3 c = fails _ _ (sym (c .before .within .ensures) ∙ c .if1 .left)
 
 pub is-date-spec : {M : Type 1} → statement M
 is-date-spec =

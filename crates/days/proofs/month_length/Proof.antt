@@ -1,6 +1,6 @@
 -- `days::month_length` meets its contract: in each arm the month is known, and its length by the definition's tests.
 -- Assumes nothing.
-use mathlib.Core.Path.{refl, sym}
+use mathlib.Core.Path.{refl, sym, _∙_}
 use mathlib.Core.Logic.{⊎-elim, inl, inr}
 use native.Mathlib.Omega.{arith}
 use borrow.Author.Needs.{needs}
@@ -15,11 +15,11 @@ is-leap-requires c κs = search needs
 
 returns : tie.Need-returns
 unfolding monthLength
-returns c = yes _ _ _ (is-same _ _ (omega arith)) (yes _ _ _ (cc) refl)
+returns c = yes _ _ _ (is-same _ _ (omega arith)) (yes _ _ _ (sym (c .before .is-leap .ensures) ∙ c .if1 .taken) refl)
 
 returns-2 : tie.Need-returns-2
 unfolding monthLength
-returns-2 c = yes _ _ _ (is-same _ _ (omega arith)) (no _ _ _ (cc) refl)
+returns-2 c = yes _ _ _ (is-same _ _ (omega arith)) (no _ _ _ (sym (c .before .is-leap .ensures) ∙ c .if1 .left) refl)
 
 returns-3 : tie.Need-returns-3
 unfolding monthLength same either pick

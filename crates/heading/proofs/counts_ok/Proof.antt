@@ -1,6 +1,7 @@
 -- `heading::counts_ok` meets its contract.
 -- Assumes nothing.
 use borrow.Author.Needs.{needs}
+use mathlib.Core.Path.{sym, _∙_}
 use Rattle.whole.proofs.Cases.{holds, fails, by-upTo}
 use Rattle.heading.specs.Judge.{countsOk}
 use Rattle.heading.proofs.counts_ok.Statement.{statement}
@@ -11,11 +12,11 @@ within-requires c κs = search needs
 
 returns : tie.Need-returns
 unfolding countsOk
-returns c = holds _ _ (cc) (by-upTo _ _)
+returns c = holds _ _ (sym (c .before .before .within .ensures) ∙ c .before .if1 .taken) (by-upTo _ _)
 
 returns-2 : tie.Need-returns-2
 unfolding countsOk
-returns-2 c = fails _ _ (cc)
+returns-2 c = fails _ _ (sym (c .before .within .ensures) ∙ c .if1 .left)
 
 pub counts-ok-spec : {M : Type 1} → statement M
 counts-ok-spec = tie.close (tie.spec within-requires returns returns-2)

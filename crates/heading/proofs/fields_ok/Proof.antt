@@ -1,6 +1,7 @@
 -- `heading::fields_ok` meets its contract: its tests are the definition's.
 -- Assumes nothing.
 use borrow.Author.Needs.{needs}
+use mathlib.Core.Path.{sym, _∙_}
 use Rattle.whole.proofs.Cases.{holds, fails}
 use Rattle.heading.specs.Judge.{fieldsOk}
 use Rattle.heading.proofs.fields_ok.Statement.{statement}
@@ -17,15 +18,15 @@ stations-ok-requires c κs = search needs
 
 returns : tie.Need-returns
 unfolding fieldsOk
-returns c = holds _ _ (cc) (holds _ _ (cc) (cc))
+returns c = holds _ _ (sym (c .before .before .before .before .settings-ok .ensures) ∙ c .before .before .before .if1 .taken) (holds _ _ (sym (c .before .before .labels-ok .ensures) ∙ c .before .if2 .taken) (c .stations-ok .ensures))
 
 returns-2 : tie.Need-returns-2
 unfolding fieldsOk
-returns-2 c = holds _ _ (cc) (fails _ _ (cc))
+returns-2 c = holds _ _ (sym (c .before .before .before .settings-ok .ensures) ∙ c .before .before .if1 .taken) (fails _ _ (sym (c .before .labels-ok .ensures) ∙ c .if2 .left))
 
 returns-3 : tie.Need-returns-3
 unfolding fieldsOk
-returns-3 c = fails _ _ (cc)
+returns-3 c = fails _ _ (sym (c .before .settings-ok .ensures) ∙ c .if1 .left)
 
 pub fields-ok-spec : {M : Type 1} → statement M
 fields-ok-spec =

@@ -19,19 +19,19 @@ orders-ok-requires c κs = counts-fit _ (sym (c .before .before .before .counts-
 
 returns : tie.Need-returns
 unfolding judged
-returns c = yes _ _ _ (cc) (yes _ _ _ (cc) (yes _ _ _ (cc) refl))
+returns c = yes _ _ _ (sym (c .before .before .before .before .before .counts-ok .ensures) ∙ c .before .before .before .before .if1 .taken) (yes _ _ _ (sym (c .before .before .before .fields-ok .ensures) ∙ c .before .before .if2 .taken) (yes _ _ _ (sym (c .before .orders-ok .ensures) ∙ c .if3 .taken) refl))
 
 returns-2 : tie.Need-returns-2
 unfolding judged
-returns-2 c = yes _ _ _ (cc) (yes _ _ _ (cc) (no _ _ _ (cc) refl))
+returns-2 c = yes _ _ _ (sym (c .before .before .before .before .before .counts-ok .ensures) ∙ c .before .before .before .before .if1 .taken) (yes _ _ _ (sym (c .before .before .before .fields-ok .ensures) ∙ c .before .before .if2 .taken) (no _ _ _ (sym (c .before .orders-ok .ensures) ∙ c .if3 .left) refl))
 
 returns-3 : tie.Need-returns-3
 unfolding judged
-returns-3 c = yes _ _ _ (cc) (no _ _ _ (cc) refl)
+returns-3 c = yes _ _ _ (sym (c .before .before .before .counts-ok .ensures) ∙ c .before .before .if1 .taken) (no _ _ _ (sym (c .before .fields-ok .ensures) ∙ c .if2 .left) refl)
 
 returns-4 : tie.Need-returns-4
 unfolding judged
-returns-4 c = no _ _ _ (cc) refl
+returns-4 c = no _ _ _ (sym (c .before .counts-ok .ensures) ∙ c .if1 .left) refl
 
 pub judge-spec : {M : Type 1} → statement M
 judge-spec =

@@ -1,6 +1,7 @@
 -- `heading::orders_ok` meets its contract: its tests are the definition's.
 -- Assumes nothing.
 use borrow.Author.Needs.{needs}
+use mathlib.Core.Path.{sym, _∙_}
 use Rattle.whole.proofs.Cases.{holds, fails}
 use Rattle.heading.specs.Judge.{ordersOk}
 use Rattle.heading.proofs.orders_ok.Statement.{statement}
@@ -14,11 +15,11 @@ stations-ascend-requires c κs = search needs
 
 returns : tie.Need-returns
 unfolding ordersOk
-returns c = holds _ _ (cc) (cc)
+returns c = holds _ _ (sym (c .before .before .labels-ascend .ensures) ∙ c .before .if1 .taken) (c .stations-ascend .ensures)
 
 returns-2 : tie.Need-returns-2
 unfolding ordersOk
-returns-2 c = fails _ _ (cc)
+returns-2 c = fails _ _ (sym (c .before .labels-ascend .ensures) ∙ c .if1 .left)
 
 pub orders-ok-spec : {M : Type 1} → statement M
 orders-ok-spec =

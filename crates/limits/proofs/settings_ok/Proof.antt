@@ -1,5 +1,6 @@
 -- `limits::settings_ok` meets its contract: its tests are the definition's.
 -- Assumes nothing.
+use mathlib.Core.Path.{sym, _∙_}
 use borrow.Author.Needs.{needs}
 use Rattle.whole.proofs.Cases.{holds, fails}
 use Rattle.limits.specs.Limits.{settingsOk}
@@ -23,15 +24,15 @@ window-ok-requires c κs = search needs
 
 returns : tie.Need-returns
 unfolding settingsOk
-returns c = holds _ _ (cc) (holds _ _ (cc) (c .window-ok .ensures))
+returns c = holds _ _ (sym (c .before .before .before .before .before .within .ensures) ∙ c .before .before .before .before .if1 .taken) (holds _ _ (sym (c .before .before .within2 .ensures) ∙ c .before .if2 .taken) (c .window-ok .ensures))
 
 returns-2 : tie.Need-returns-2
 unfolding settingsOk
-returns-2 c = holds _ _ (cc) (fails _ _ (cc))
+returns-2 c = holds _ _ (sym (c .before .before .before .before .within .ensures) ∙ c .before .before .before .if1 .taken) (fails _ _ (sym (c .before .within2 .ensures) ∙ c .if2 .left))
 
 returns-3 : tie.Need-returns-3
 unfolding settingsOk
-returns-3 c = fails _ _ (cc)
+returns-3 c = fails _ _ (sym (c .before .within .ensures) ∙ c .if1 .left)
 
 pub settings-ok-spec : {M : Type 1} → statement M
 settings-ok-spec =

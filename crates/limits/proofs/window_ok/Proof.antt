@@ -1,5 +1,6 @@
 -- `limits::window_ok` meets its contract: its tests are the definition's.
 -- Assumes nothing.
+use mathlib.Core.Path.{sym, _∙_}
 use borrow.Author.Needs.{needs}
 use native.Mathlib.Omega.{arith}
 use Rattle.whole.proofs.Cases.{holds, fails, is-upTo, not-upTo, by-upTo}
@@ -15,15 +16,15 @@ add-result c = search needs
 
 returns : tie.Need-returns
 unfolding windowOk
-returns c = holds _ _ (cc) (fails _ _ (not-upTo _ _ (omega arith)))
+returns c = holds _ _ (sym (c .before .before .within .ensures) ∙ c .before .if1 .taken) (fails _ _ (not-upTo _ _ (omega arith)))
 
 returns-2 : tie.Need-returns-2
 unfolding windowOk
-returns-2 c = holds _ _ (cc) (holds _ _ (is-upTo _ _ (omega arith)) (by-upTo _ _))
+returns-2 c = holds _ _ (sym (c .before .before .within .ensures) ∙ c .before .if1 .taken) (holds _ _ (is-upTo _ _ (omega arith)) (by-upTo _ _))
 
 returns-3 : tie.Need-returns-3
 unfolding windowOk
-returns-3 c = fails _ _ (cc)
+returns-3 c = fails _ _ (sym (c .before .within .ensures) ∙ c .if1 .left)
 
 pub window-ok-spec : {M : Type 1} → statement M
 window-ok-spec = tie.close (tie.spec within-requires add-result returns returns-2 returns-3)

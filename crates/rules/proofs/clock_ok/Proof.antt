@@ -1,5 +1,6 @@
 -- `rules::clock_ok` meets its contract: its tests are the definition's.
 -- Assumes nothing.
+use mathlib.Core.Path.{sym, _∙_}
 use borrow.Author.Needs.{needs}
 use Rattle.whole.proofs.Cases.{holds, fails, by-upTo}
 use Rattle.rules.specs.Rules.{clockOk}
@@ -11,11 +12,11 @@ within-requires c κs = search needs
 
 returns : tie.Need-returns
 unfolding clockOk
-returns c = holds _ _ (cc) (by-upTo _ _)
+returns c = holds _ _ (sym (c .before .within .ensures) ∙ c .if1 .taken) (by-upTo _ _)
 
 returns-2 : tie.Need-returns-2
 unfolding clockOk
-returns-2 c = fails _ _ (cc)
+returns-2 c = fails _ _ (sym (c .before .within .ensures) ∙ c .if1 .left)
 
 pub clock-ok-spec : {M : Type 1} → statement M
 clock-ok-spec = tie.close (tie.spec within-requires returns returns-2)

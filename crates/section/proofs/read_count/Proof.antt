@@ -2,8 +2,10 @@
 -- Assumes nothing.
 use borrow.Author.Needs.{needs}
 use native.Mathlib.Omega.{arith}
-use mathlib.Core.Path.{refl, ap}
+use mathlib.Core.Path.{refl, ap, sym, _∙_}
+use Prim.Native.Nat.{ℕ}
 use Rattle.whole.specs.Answer.{good}
+use Rattle.whole.specs.Tests.{between}
 use Rattle.whole.proofs.Cases.{yes, no, is-less, not-less}
 use Rattle.section.specs.Section.{countAt}
 use Rattle.section.proofs.read_count.Statement.{statement}
@@ -30,11 +32,17 @@ cast-t16 c = search needs
 
 returns-2 : tie.Need-returns-2
 unfolding countAt
-returns-2 c = no _ _ _ (not-less _ _ (omega arith)) (yes _ _ _ (cc) (ap good (c .before .before .read-u32 .ensures)))
+returns-2 c =
+    let low = c .before .before .before .before .before .before .args .low in
+    let high = c .before .before .before .before .before .before .args .high in
+    no _ _ _ (not-less _ _ (omega arith)) (yes _ _ _ (sym (c .before .within .ensures ∙ ap (λ (n : ℕ). between low n high) (c .before .before .read-u32 .ensures)) ∙ c .if2 .taken) (ap good (c .before .before .read-u32 .ensures)))
 
 returns-3 : tie.Need-returns-3
 unfolding countAt
-returns-3 c = no _ _ _ (not-less _ _ (omega arith)) (no _ _ _ (cc) refl)
+returns-3 c =
+    let low = c .before .before .before .before .before .before .args .low in
+    let high = c .before .before .before .before .before .before .args .high in
+    no _ _ _ (not-less _ _ (omega arith)) (no _ _ _ (sym (c .before .within .ensures ∙ ap (λ (n : ℕ). between low n high) (c .before .before .read-u32 .ensures)) ∙ c .if2 .left) refl)
 
 pub read-count-spec : {M : Type 1} → statement M
 read-count-spec =

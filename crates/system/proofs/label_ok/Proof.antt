@@ -1,5 +1,6 @@
 -- `system::label_ok` meets its contract.
 -- Assumes nothing.
+use mathlib.Core.Path.{sym, _∙_}
 use native.Mathlib.Omega.{arith}
 use Rattle.whole.proofs.Cases.{holds, fails, is-upTo, not-upTo}
 use Rattle.system.specs.System.{normalLabelOk}
@@ -19,11 +20,11 @@ arc-fits-requires c κs = search needs
 
 returns-2 : tie.Need-returns-2
 unfolding normalLabelOk
-returns-2 c = holds _ _ (is-upTo _ _ (omega arith)) (holds _ _ (cc) (c .arc-fits .ensures))
+returns-2 c = holds _ _ (is-upTo _ _ (omega arith)) (holds _ _ (sym (c .before .before .index-ok .ensures) ∙ c .before .if2 .taken) (c .arc-fits .ensures))
 
 returns-3 : tie.Need-returns-3
 unfolding normalLabelOk
-returns-3 c = holds _ _ (is-upTo _ _ (omega arith)) (fails _ _ (cc))
+returns-3 c = holds _ _ (is-upTo _ _ (omega arith)) (fails _ _ (sym (c .before .index-ok .ensures) ∙ c .if2 .left))
 
 pub label-ok-spec : {M : Type 1} → statement M
 label-ok-spec =

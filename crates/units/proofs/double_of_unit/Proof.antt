@@ -1,6 +1,6 @@
 -- `units::double_of_unit` meets its contract.
 -- Assumes nothing.
-use mathlib.Core.Path.{refl, ap₂, _∙_}
+use mathlib.Core.Path.{refl, ap₂, _∙_, sym}
 use lib.IntN.{ℤ}
 use mir.Facts.{toZ-ofZ}
 use borrow.Author.Needs.{needs}
@@ -27,12 +27,12 @@ returns : tie.Need-returns
 unfolding doubleOf
 returns c =
     let s = c .before .before .before .before in
-    yes _ _ _ (cc) (c .double-by .ensures
+    yes _ _ _ (sym (c .before .before .before .is-type .ensures) ∙ c .before .before .if1 .taken) (c .double-by .ensures
     ∙ ap₂ (λ (r : Row) (z : ℤ). pick (fitsIn (r .low) (topOf r) z) (given (quotient (r .k) z)) (refused 16)) (c .before .table-row .ensures) (toZ-ofZ (s .fits .q)))
 
 returns-2 : tie.Need-returns-2
 unfolding doubleOf
-returns-2 c = no _ _ _ (cc) refl
+returns-2 c = no _ _ _ (sym (c .before .is-type .ensures) ∙ c .if1 .left) refl
 
 pub double-of-unit-spec : {M : Type 1} → statement M
 double-of-unit-spec =

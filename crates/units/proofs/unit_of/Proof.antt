@@ -1,6 +1,6 @@
 -- `units::unit_of` meets its contract.
 -- Assumes nothing.
-use mathlib.Core.Path.{refl, ap, _∙_}
+use mathlib.Core.Path.{refl, ap, _∙_, sym}
 use borrow.Author.Needs.{needs}
 use Rattle.whole.proofs.Cases.{yes, no}
 use Rattle.nearest.specs.Doubles.{unitWithin}
@@ -23,11 +23,11 @@ returns : tie.Need-returns
 unfolding unitOf
 returns c =
     let x = c .before .before .before .before .args .x in
-    yes _ _ _ (cc) (c .unit-by .ensures ∙ ap (λ (r : Row). turned r (unitWithin (r .k) (r .low) (r .high) x)) (c .before .table-row .ensures))
+    yes _ _ _ (sym (c .before .before .before .is-type .ensures) ∙ c .before .before .if1 .taken) (c .unit-by .ensures ∙ ap (λ (r : Row). turned r (unitWithin (r .k) (r .low) (r .high) x)) (c .before .table-row .ensures))
 
 returns-2 : tie.Need-returns-2
 unfolding unitOf
-returns-2 c = no _ _ _ (cc) refl
+returns-2 c = no _ _ _ (sym (c .before .is-type .ensures) ∙ c .if1 .left) refl
 
 pub unit-of-spec : {M : Type 1} → statement M
 unit-of-spec =
