@@ -91,10 +91,10 @@ fn load_settings(s: &[u8]) -> Settings
     ensures { λ r. ⌜ r ≡ settingsAt (now (s .entry)) 4 ⌝ }
 {
     Settings {
-        arc: words::read_u32(s, 4),
-        first: words::read_u32(s, 8),
-        days: words::read_u16(s, 12),
-        level: words::read_u16(s, 14),
+        arc: wordread::read_u32(s, 4),
+        first: wordread::read_u32(s, 8),
+        days: wordread::read_u16(s, 12),
+        level: wordread::read_u16(s, 14),
     }
 }
 
@@ -130,10 +130,10 @@ fn load_label(s: &[u8], at: usize) -> Label
     ensures { λ r. ⌜ r ≡ labelAt (now (s .entry)) at ⌝ }
 {
     Label {
-        kind: words::read_u16(s, at),
-        index: words::read_u16(s, at + 2),
-        weight: words::read_u32(s, at + 4),
-        estimate: words::read_i64(s, at + 8),
+        kind: wordread::read_u16(s, at),
+        index: wordread::read_u16(s, at + 2),
+        weight: wordread::read_u32(s, at + 4),
+        estimate: wordread::read_i64(s, at + 8),
     }
 }
 
@@ -225,8 +225,8 @@ fn load_station(s: &[u8], at: usize) -> Station
     ensures { λ r. ⌜ r ≡ stationAt (now (s .entry)) at ⌝ }
 {
     Station {
-        number: words::read_u16(s, at),
-        correction: words::read_i32(s, at + 4),
+        number: wordread::read_u16(s, at),
+        correction: wordread::read_i32(s, at + 4),
     }
 }
 
@@ -237,7 +237,7 @@ fn read_station(s: &[u8], at: usize, floor: u64) -> StationAnswer
     if words::left(s.len(), at) < 8 {
         return StationAnswer::Refused(Refusal::Short, s.len());
     }
-    if words::read_u16(s, at + 2) != 0 {
+    if wordread::read_u16(s, at + 2) != 0 {
         return StationAnswer::Refused(Refusal::Limits, at);
     }
     let t = load_station(s, at);

@@ -10,23 +10,11 @@ fn room() -> [u8; 65537]
     [0; 65537]
 }
 
-// The file of a path, as far as the buffer holds it.
-fn load(path: &[u8], buf: &mut [u8]) -> usize {
-    let fd = os::open_read(path);
-    if fd < 0 {
-        os::fail(path);
-        return 0;
-    }
-    let n = io::read_full(fd, buf);
-    libc::close(fd);
-    n
-}
-
 // One file: its name and what came of it. A file of more than 65,536 bytes is refused with 20.
 fn run_file(path: &[u8], buf: &mut [u8], out: &mut [u8]) {
     io::write_all(STDOUT_FILENO, path);
     lines::put(b" ");
-    let n = load(path, buf);
+    let n = files::load_path(path, buf).length;
     if n > 65536 {
         lines::put(b"refused 20 at 65536\n");
         return;

@@ -52,30 +52,30 @@ fn needed(parameters: usize, stations: usize, bytes: usize) -> usize
 fn put_settings(out: &mut [u8], s: Settings)
     ensures { λ _. ⌜ now (out .exit) ≡ lay (now (out .entry)) 0 (bytesOf 4 1 ++ settingsBytes s) ⌝ }
 {
-    words::write_u32(out, 0, 1);
-    words::write_u32(out, 4, s.arc);
-    words::write_u32(out, 8, s.first);
-    words::write_u16(out, 12, s.days);
-    words::write_u16(out, 14, s.level);
+    wordwrite::write_u32(out, 0, 1);
+    wordwrite::write_u32(out, 4, s.arc);
+    wordwrite::write_u32(out, 8, s.first);
+    wordwrite::write_u16(out, 12, s.days);
+    wordwrite::write_u16(out, 14, s.level);
 }
 
 fn put_label(out: &mut [u8], at: usize, l: Label)
     requires { ⌜ at + 16 ≤ length (now out) ⌝ }
     ensures { λ _. ⌜ now (out .exit) ≡ lay (now (out .entry)) at (labelBytes l) ⌝ }
 {
-    words::write_u16(out, at, l.kind);
-    words::write_u16(out, at + 2, l.index);
-    words::write_u32(out, at + 4, l.weight);
-    words::write_i64(out, at + 8, l.estimate);
+    wordwrite::write_u16(out, at, l.kind);
+    wordwrite::write_u16(out, at + 2, l.index);
+    wordwrite::write_u32(out, at + 4, l.weight);
+    wordwrite::write_i64(out, at + 8, l.estimate);
 }
 
 fn put_station(out: &mut [u8], at: usize, t: Station)
     requires { ⌜ at + 8 ≤ length (now out) ⌝ }
     ensures { λ _. ⌜ now (out .exit) ≡ lay (now (out .entry)) at (stationBytes t) ⌝ }
 {
-    words::write_u16(out, at, t.number);
-    words::write_u16(out, at + 2, 0);
-    words::write_i32(out, at + 4, t.correction);
+    wordwrite::write_u16(out, at, t.number);
+    wordwrite::write_u16(out, at + 2, 0);
+    wordwrite::write_i32(out, at + 4, t.correction);
 }
 
 // The labels that count, one after the other.
@@ -133,11 +133,11 @@ fn put_arc(h: Heading, run: &[u8], out: &mut [u8])
     let stations_at = 20 + 16 * p;
     let records_at = stations_at + 4 + 8 * t;
     put_settings(out, s);
-    words::write_u32(out, 16, p as u32);
+    wordwrite::write_u32(out, 16, p as u32);
     put_labels(h, out, 20);
-    words::write_u32(out, stations_at, t as u32);
+    wordwrite::write_u32(out, stations_at, t as u32);
     put_stations(h, out, stations_at + 4);
-    words::write_u32(out, records_at, records_in(p, run.len()) as u32);
+    wordwrite::write_u32(out, records_at, records_in(p, run.len()) as u32);
     put_run(run, out, records_at + 4);
 }
 

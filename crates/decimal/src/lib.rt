@@ -1,7 +1,6 @@
 // Numbers and texts in ASCII, written into lent room one after another: each entry gives the place after what it wrote, where the next begins.
 ghost use mathlib.Core.Path.{_≡_};
 ghost use Prim.Native.Nat.{_+_, _≤_, _<_, min};
-ghost use lib.IntN.{natAbs};
 ghost use lib.ListN.{length, drop};
 ghost use Rattle.decimal.specs.Decimal.{decimal, signedDecimal};
 ghost use Rattle.decimal.specs.Laid.{laid};
@@ -71,18 +70,11 @@ pub fn put_decimal(room: &mut [u8], at: usize, n: u64) -> usize
     put_digits(room, at, n, &mut last)
 }
 
-// The size of a number.
-fn size(z: i64) -> u64
-    ensures { λ r. ⌜ r ≡ natAbs z ⌝ }
-{
-    if z < 0 { !z as u64 + 1 } else { z as u64 }
-}
-
 // The digits of a number, behind a minus where it is below 0.
 pub fn put_signed(room: &mut [u8], at: usize, z: i64) -> usize
     ensures { λ r. ⌜ (now (room .exit), r) ≡ laid (now (room .entry)) at (signedDecimal z) ⌝ }
 {
-    let n = size(z);
+    let n = signs::magnitude(z);
     if z < 0 {
         let next = put_text(room, at, b"-");
         put_decimal(room, next, n)

@@ -66,7 +66,7 @@ fn tell_normal(path: &[u8], file: &[u8], r: NormalRead) {
     telling::begin(path, b"accepted: arcs ");
     lines::put_number(r.arcs as u64, b", parameters ");
     lines::put_number(r.parameters as u64, b", records accepted ");
-    lines::put_number(words::read_u64(file, r.totals), b"\n");
+    lines::put_number(wordread::read_u64(file, r.totals), b"\n");
 }
 
 // A normal file accepted with its counts, or refused with number and place.

@@ -168,7 +168,7 @@ fn terms_of(sigma: u16, residual: i64, factor: u64) -> Terms
 {
     let w = rules::weight(sigma);
     let scaled = residual * factor as i64;
-    let size = rules::magnitude(scaled);
+    let size = signs::magnitude(scaled);
     Terms {
         weight: w as u32,
         side: w as i64 * scaled,

@@ -128,12 +128,12 @@ fn label(p: Plan, l: usize) -> NormalLabel
 fn put_label(out: &mut [u8], at: usize, l: NormalLabel)
     requires { ⌜ at < 2000000 ⌝ }
 {
-    words::write_u16(out, at, l.kind);
-    words::write_u16(out, at + 2, l.index);
-    words::write_u32(out, at + 4, l.arc);
-    words::write_u32(out, at + 8, l.weight);
-    words::write_u32(out, at + 12, 0);
-    words::write_i64(out, at + 16, l.estimate);
+    wordwrite::write_u16(out, at, l.kind);
+    wordwrite::write_u16(out, at + 2, l.index);
+    wordwrite::write_u32(out, at + 4, l.arc);
+    wordwrite::write_u32(out, at + 8, l.weight);
+    wordwrite::write_u32(out, at + 12, 0);
+    wordwrite::write_i64(out, at + 16, l.estimate);
 }
 
 fn put_labels(out: &mut [u8], at: usize, p: Plan, n: usize)
@@ -152,7 +152,7 @@ fn put_arcs(out: &mut [u8], first: u32, n: usize)
 {
     let mut i: usize = 0;
     while i < n {
-        words::write_u32(out, 4 + 4 * i, first % 1000 + i as u32);
+        wordwrite::write_u32(out, 4 + 4 * i, first % 1000 + i as u32);
         i += 1;
     }
 }
@@ -165,7 +165,7 @@ fn put_column(out: &mut [u8], at: usize, j: usize, seed: u64) -> u64
     let mut i: usize = 0;
     while i <= j {
         n = next(n);
-        words::write_i64(out, at + 8 * i, entry(i, j, n));
+        wordwrite::write_i64(out, at + 8 * i, entry(i, j, n));
         i += 1;
     }
     n
@@ -192,7 +192,7 @@ fn put_rights(out: &mut [u8], at: usize, p: usize, seed: u64)
     let mut i: usize = 0;
     while i < p {
         n = next(n);
-        words::write_i64(out, at + 8 * i, side(i, n));
+        wordwrite::write_i64(out, at + 8 * i, side(i, n));
         i += 1;
     }
 }
@@ -201,9 +201,9 @@ fn put_rights(out: &mut [u8], at: usize, p: usize, seed: u64)
 fn put_totals(out: &mut [u8], at: usize, arcs: usize)
     requires { ⌜ (at < 3000000) × (arcs ≤ 16) ⌝ }
 {
-    words::write_u32(out, at, 1);
-    words::write_u64(out, at + 4, 4000 * arcs as u64);
-    words::write_u64(out, at + 12, 1_000_003 * arcs as u64);
+    wordwrite::write_u32(out, at, 1);
+    wordwrite::write_u64(out, at + 4, 4000 * arcs as u64);
+    wordwrite::write_u64(out, at + 12, 1_000_003 * arcs as u64);
 }
 
 // Arcs and labels, each after its count: the place after them.
@@ -212,9 +212,9 @@ fn put_heads(out: &mut [u8], p: Plan, arcs: usize, n: usize) -> usize
     ensures { λ r. ⌜ r ≤ 12072 ⌝ }
 {
     let labels = 4 + 4 * arcs;
-    words::write_u32(out, 0, arcs as u32);
+    wordwrite::write_u32(out, 0, arcs as u32);
     put_arcs(out, p.first, arcs);
-    words::write_u32(out, labels, n as u32);
+    wordwrite::write_u32(out, labels, n as u32);
     put_labels(out, labels + 4, p, n);
     labels + 4 + 24 * n
 }
@@ -234,9 +234,9 @@ fn put_sums(out: &mut [u8], matrix: usize, n: usize, seed: u64) -> usize
 {
     let sums = triangle(n);
     let rights = matrix + 4 + 8 * sums;
-    words::write_u32(out, matrix, sums as u32);
+    wordwrite::write_u32(out, matrix, sums as u32);
     let last = put_matrix(out, matrix + 4, n, seed);
-    words::write_u32(out, rights, n as u32);
+    wordwrite::write_u32(out, rights, n as u32);
     put_rights(out, rights + 4, n, last);
     rights + 4 + 8 * n
 }

@@ -5,7 +5,7 @@ use Prim.Native.Nat.{ℕ, _+_, _*_, min}
 use mathlib.Core.List.{List, _++_}
 use mathlib.Core.Bool.{Bool}
 use lib.ListN.{length}
-use Rattle.whole.specs.Tests.{upTo}
+use Rattle.whole.specs.Tests.{upTo, both}
 use Rattle.words.specs.Words.{word, bytesOf}
 use Rattle.section.specs.Section.{encoded}
 use Rattle.limits.specs.Limits.{noLabel, noStation}
@@ -69,3 +69,7 @@ tallyLong = 1352
 
 unfoldable pub hasTally : List ℕ → Bool
 hasTally b = upTo tallyLong (length b)
+
+-- whether a heading and a tally are there whole
+abbrev pub hasBoth : List ℕ → List ℕ → Bool
+hasBoth b t = both (hasHeading b) (hasTally t)

@@ -8,7 +8,6 @@ use state::Tally;
 ghost use mathlib.Core.Path.{_≡_};
 ghost use Prim.Native.Nat.{_+_, _*_, _≤_, min};
 ghost use lib.ListN.{length};
-ghost use Rattle.whole.specs.Tests.{both};
 ghost use Rattle.words.specs.Words.{word, bytesOf, lay};
 ghost use Rattle.section.specs.Section.{encoded};
 ghost use Rattle.limits.specs.Limits.{noLabel, noStation};
@@ -32,6 +31,7 @@ ghost use Rattle.lent.specs.Lent.{
   rowBytes,
   tallyBytes,
   hasTally,
+  hasBoth,
 };
 
 // ---- a heading, read
@@ -40,7 +40,7 @@ ghost use Rattle.lent.specs.Lent.{
 fn held(b: &[u8], at: usize, most: usize) -> usize
     ensures { λ r. ⌜ r ≡ min (word 2 (now (b .entry)) at) most ⌝ }
 {
-    whole::least(words::read_u16(b, at) as usize, most)
+    whole::least(wordread::read_u16(b, at) as usize, most)
 }
 
 // Whether the bytes are as many as their own numbers want.
@@ -54,10 +54,10 @@ fn settings_in(b: &[u8]) -> Settings
     ensures { λ r. ⌜ r ≡ settingsAt (now (b .entry)) 0 ⌝ }
 {
     Settings {
-        arc: words::read_u32(b, 0),
-        first: words::read_u32(b, 4),
-        days: words::read_u16(b, 8),
-        level: words::read_u16(b, 10),
+        arc: wordread::read_u32(b, 0),
+        first: wordread::read_u32(b, 4),
+        days: wordread::read_u16(b, 8),
+        level: wordread::read_u16(b, 10),
     }
 }
 
@@ -66,10 +66,10 @@ fn label_in(b: &[u8], at: usize) -> Label
     ensures { λ r. ⌜ r ≡ labelAt (now (b .entry)) at ⌝ }
 {
     Label {
-        kind: words::read_u16(b, at),
-        index: words::read_u16(b, at + 2),
-        weight: words::read_u32(b, at + 4),
-        estimate: words::read_i64(b, at + 8),
+        kind: wordread::read_u16(b, at),
+        index: wordread::read_u16(b, at + 2),
+        weight: wordread::read_u32(b, at + 4),
+        estimate: wordread::read_i64(b, at + 8),
     }
 }
 
@@ -78,8 +78,8 @@ fn station_in(b: &[u8], at: usize) -> Station
     ensures { λ r. ⌜ r ≡ stationAt (now (b .entry)) at ⌝ }
 {
     Station {
-        number: words::read_u16(b, at),
-        correction: words::read_i32(b, at + 4),
+        number: wordread::read_u16(b, at),
+        correction: wordread::read_i32(b, at + 4),
     }
 }
 
@@ -133,8 +133,8 @@ pub fn heading_in(b: &[u8]) -> Heading
     let listed = stations_in(b, 16 + 16 * n, m);
     Heading {
         settings: settings_in(b),
-        parameters: words::read_u16(b, 12) as usize,
-        stations: words::read_u16(b, 14) as usize,
+        parameters: wordread::read_u16(b, 12) as usize,
+        stations: wordread::read_u16(b, 14) as usize,
         labels,
         listed,
     }
@@ -145,29 +145,29 @@ pub fn heading_in(b: &[u8]) -> Heading
 fn put_settings(s: Settings, out: &mut [u8])
     ensures { λ _. ⌜ now (out .exit) ≡ lay (now (out .entry)) 0 (settingsBytes s) ⌝ }
 {
-    words::write_u32(out, 0, s.arc);
-    words::write_u32(out, 4, s.first);
-    words::write_u16(out, 8, s.days);
-    words::write_u16(out, 10, s.level);
+    wordwrite::write_u32(out, 0, s.arc);
+    wordwrite::write_u32(out, 4, s.first);
+    wordwrite::write_u16(out, 8, s.days);
+    wordwrite::write_u16(out, 10, s.level);
 }
 
 fn put_label(l: Label, out: &mut [u8], at: usize)
     requires { ⌜ at ≤ 1000 ⌝ }
     ensures { λ _. ⌜ now (out .exit) ≡ lay (now (out .entry)) at (labelBytes l) ⌝ }
 {
-    words::write_u16(out, at, l.kind);
-    words::write_u16(out, at + 2, l.index);
-    words::write_u32(out, at + 4, l.weight);
-    words::write_i64(out, at + 8, l.estimate);
+    wordwrite::write_u16(out, at, l.kind);
+    wordwrite::write_u16(out, at + 2, l.index);
+    wordwrite::write_u32(out, at + 4, l.weight);
+    wordwrite::write_i64(out, at + 8, l.estimate);
 }
 
 fn put_station(t: Station, out: &mut [u8], at: usize)
     requires { ⌜ at ≤ 1000 ⌝ }
     ensures { λ _. ⌜ now (out .exit) ≡ lay (now (out .entry)) at (stationBytes t) ⌝ }
 {
-    words::write_u16(out, at, t.number);
-    words::write_u16(out, at + 2, 0);
-    words::write_i32(out, at + 4, t.correction);
+    wordwrite::write_u16(out, at, t.number);
+    wordwrite::write_u16(out, at + 2, 0);
+    wordwrite::write_i32(out, at + 4, t.correction);
 }
 
 // The labels that count, one after the other.
@@ -211,8 +211,8 @@ pub fn put_heading(h: Heading, out: &mut [u8])
     let p = h.parameters;
     let t = h.stations;
     put_settings(s, out);
-    words::write_u16(out, 12, p as u16);
-    words::write_u16(out, 14, t as u16);
+    wordwrite::write_u16(out, 12, p as u16);
+    wordwrite::write_u16(out, 14, t as u16);
     put_labels(h, out);
     put_stations(h, out, 16 + 16 * p);
 }
@@ -227,7 +227,7 @@ fn has_tally(b: &[u8]) -> bool
 
 // Whether a heading and a tally are there whole.
 pub fn has_both(heading: &[u8], tally: &[u8]) -> bool
-    ensures { λ r. ⌜ r ≡ both (hasHeading (now (heading .entry))) (hasTally (now (tally .entry))) ⌝ }
+    ensures { λ r. ⌜ r ≡ hasBoth (now (heading .entry)) (now (tally .entry)) ⌝ }
 {
     if has_heading(heading) {
         has_tally(tally)
@@ -243,7 +243,7 @@ fn counts_in(b: &[u8]) -> [u32; 16]
     let mut at: usize = 8;
     let mut i: usize = 0;
     while i < 16 {
-        counts[i] = words::read_u32(b, at);
+        counts[i] = wordread::read_u32(b, at);
         at += 4;
         i += 1;
     }
@@ -259,7 +259,7 @@ fn row_in(b: &[u8], start: usize) -> Row
     let mut at = start;
     let mut i: usize = 0;
     while i < 10 {
-        times[i] = words::read_u64(b, at);
+        times[i] = wordread::read_u64(b, at);
         at += 8;
         i += 1;
     }
@@ -287,7 +287,7 @@ pub fn tally_in(b: &[u8]) -> Tally
     let counts = counts_in(b);
     let rows = rows_in(b);
     Tally {
-        square: words::read_u64(b, 0),
+        square: wordread::read_u64(b, 0),
         counts,
         rows,
     }
@@ -301,7 +301,7 @@ fn put_counts(counts: [u32; 16], out: &mut [u8])
     let mut at: usize = 8;
     let mut i: usize = 0;
     while i < 16 {
-        words::write_u32(out, at, counts[i]);
+        wordwrite::write_u32(out, at, counts[i]);
         at += 4;
         i += 1;
     }
@@ -314,7 +314,7 @@ fn put_row(row: Row, out: &mut [u8], start: usize)
     let mut at = start;
     let mut i: usize = 0;
     while i < 10 {
-        words::write_u64(out, at, row.times[i]);
+        wordwrite::write_u64(out, at, row.times[i]);
         at += 8;
         i += 1;
     }
@@ -338,7 +338,7 @@ pub fn put_tally(t: Tally, out: &mut [u8])
     ensures { λ _. ⌜ now (out .exit) ≡ lay (now (out .entry)) 0 (tallyBytes t) ⌝ }
 {
     let counts = t.counts;
-    words::write_u64(out, 0, t.square);
+    wordwrite::write_u64(out, 0, t.square);
     put_counts(counts, out);
     put_rows(t, out);
 }

@@ -237,10 +237,8 @@ pub fn put_number(value: u64, after: &[u8]) {
 pub fn put_signed(value: i64, after: &[u8]) {
     if value < 0 {
         put(b"-");
-        put_number((-1 - value) as u64 + 1, after);
-    } else {
-        put_number(value as u64, after);
     }
+    put_number(signs::magnitude(value), after);
 }
 
 // Writes a number as 16 hexadecimal digits, and what stands after it.

@@ -85,7 +85,7 @@ fn put_in(
     ensures { λ r. ⌜ (now (room .exit), r) ≡ laid (now (room .entry)) 0 (runLines h (now (run .entry)) count) ⌝ }
 {
     let p = h.parameters;
-    let k = sums::place(0, p);
+    let k = sums::triangle(p);
     put_run(
         room,
         h,

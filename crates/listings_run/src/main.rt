@@ -1,24 +1,9 @@
 // Prints the listings of the arc files that the arguments name, one after another.
-ghost use Rattle.io.specs.Counts.{Counts};
-
-// The file of a path, as far as the buffer holds it.
-fn load(path: &[u8], buf: &mut [u8]) -> usize
-    ensures { λ r. ⌜ Counts r (now (buf .exit)) ⌝ }
-{
-    let fd = os::open_read(path);
-    if fd < 0 {
-        os::fail(path);
-        return 0;
-    }
-    let n = io::read_full(fd, buf);
-    libc::close(fd);
-    n
-}
 
 // The listing of the file of argument i.
 fn run_arg(i: usize, path: &mut [u8], buf: &mut [u8], out: &mut [u8]) {
     let n = os::arg(i, path);
-    let k = load(&path[..n], buf);
+    let k = files::load_path(&path[..n], buf).length;
     prints::print(&buf[..k], out);
 }
 

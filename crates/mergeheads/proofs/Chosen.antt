@@ -18,8 +18,8 @@ use Rattle.words.specs.Words.{word, signedWord, lay}
 use Rattle.words.proofs.Parts.{word-part, signed-part}
 use Rattle.system.specs.declared.NormalLabel.{NormalLabel}
 use Rattle.normwalk.specs.Walk.{stands}
-use Rattle.normread.specs.Kinds.{normalLabelAt}
-use Rattle.normread.proofs.Loops.{put-end, put-turn}
+use Rattle.normheads.specs.Kinds.{normalLabelAt}
+use Rattle.normheads.proofs.Loops.{put-end, put-turn}
 use Rattle.joining.specs.Alike.{equal, alike}
 use Rattle.joining.proofs.Alike.{equal-bits}
 use Rattle.mergeheads.specs.Heads.{numberIn, labelIn, agreeIn, Short}

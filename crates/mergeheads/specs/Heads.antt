@@ -7,7 +7,7 @@ use Rattle.whole.specs.Tests.{less, pick, both, either}
 use Rattle.system.specs.System.{keyOf}
 use Rattle.system.specs.declared.NormalLabel.{NormalLabel}
 use Rattle.normwalk.specs.Walk.{stands}
-use Rattle.normread.specs.Kinds.{normalLabelAt}
+use Rattle.normheads.specs.Kinds.{normalLabelAt}
 use Rattle.joining.specs.Alike.{alike}
 
 -- the keys of n labels that stand at a place

@@ -6,8 +6,8 @@ ghost use lib.ListN.{length};
 ghost use Rattle.whole.specs.Tests.{below};
 ghost use Rattle.words.specs.Words.{lay};
 ghost use Rattle.section.specs.Section.{encoded};
-ghost use Rattle.normread.specs.Kinds.{arcBytes, normalLabelAt, normalLabelBytes};
-ghost use Rattle.normread.specs.Parts.{arcsAt};
+ghost use Rattle.normheads.specs.Kinds.{arcBytes, normalLabelAt, normalLabelBytes};
+ghost use Rattle.normheads.specs.Heads.{arcsAt};
 ghost use Rattle.joining.specs.Alike.{alike};
 ghost use Rattle.mergesums.specs.Table.{rowsOf};
 ghost use Rattle.mergeheads.specs.Heads.{keysAt, numberIn, numberAt, labelIn, labelOf, agreeIn, agreeAt, Somewhere, Short};
@@ -20,11 +20,11 @@ fn label_fields(s: &[u8], at: usize) -> NormalLabel
     ensures { λ r. ⌜ r ≡ normalLabelAt (now (s .entry)) at ⌝ }
 {
     NormalLabel {
-        kind: words::read_u16(s, at),
-        index: words::read_u16(s, at + 2),
-        arc: words::read_u32(s, at + 4),
-        weight: words::read_u32(s, at + 8),
-        estimate: words::read_i64(s, at + 16),
+        kind: wordread::read_u16(s, at),
+        index: wordread::read_u16(s, at + 2),
+        arc: wordread::read_u32(s, at + 4),
+        weight: wordread::read_u32(s, at + 8),
+        estimate: wordread::read_i64(s, at + 16),
     }
 }
 
@@ -61,7 +61,7 @@ pub fn load_arcs(s: &[u8], n: usize, arcs: &mut [u64])
     let mut at: usize = 4;
     let mut i: usize = 0;
     while i < n {
-        let a = words::read_u32(s, at);
+        let a = wordread::read_u32(s, at);
         arcs[i] = a as u64;
         at += 4;
         i += 1;
@@ -74,8 +74,8 @@ fn alike_at(a: &[u8], p: usize, b: &[u8], q: usize) -> bool
     requires { ⌜ (p + 24 ≤ length (now a)) × (q + 24 ≤ length (now b)) ⌝ }
     ensures { λ r. ⌜ r ≡ alike (normalLabelAt (now (a .entry)) p) (normalLabelAt (now (b .entry)) q) ⌝ }
 {
-    if words::read_u32(a, p + 8) == words::read_u32(b, q + 8) {
-        return words::read_i64(a, p + 16) == words::read_i64(b, q + 16);
+    if wordread::read_u32(a, p + 8) == wordread::read_u32(b, q + 8) {
+        return wordread::read_i64(a, p + 16) == wordread::read_i64(b, q + 16);
     }
     false
 }
@@ -146,7 +146,7 @@ fn put_arc(out: &mut [u8], at: usize, a: u64)
     requires { ⌜ a < 256 ^ 4 ⌝ }
     ensures { λ _. ⌜ now (out .exit) ≡ lay (now (out .entry)) at (arcBytes a) ⌝ }
 {
-    words::write_u32(out, at, a as u32);
+    wordwrite::write_u32(out, at, a as u32);
 }
 
 // The first `count` arcs of two lists united.
@@ -198,12 +198,12 @@ fn put_fields(out: &mut [u8], at: usize, l: NormalLabel)
     requires { ⌜ at + 24 ≤ length (now out) ⌝ }
     ensures { λ _. ⌜ now (out .exit) ≡ lay (now (out .entry)) at (normalLabelBytes l) ⌝ }
 {
-    words::write_u16(out, at, l.kind);
-    words::write_u16(out, at + 2, l.index);
-    words::write_u32(out, at + 4, l.arc);
-    words::write_u32(out, at + 8, l.weight);
-    words::write_u32(out, at + 12, 0);
-    words::write_i64(out, at + 16, l.estimate);
+    wordwrite::write_u16(out, at, l.kind);
+    wordwrite::write_u16(out, at + 2, l.index);
+    wordwrite::write_u32(out, at + 4, l.arc);
+    wordwrite::write_u32(out, at + 8, l.weight);
+    wordwrite::write_u32(out, at + 12, 0);
+    wordwrite::write_i64(out, at + 16, l.estimate);
 }
 
 // The same into a part of just the label's bytes, so that nothing is tested.

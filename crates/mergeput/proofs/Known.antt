@@ -10,7 +10,7 @@ use Rattle.words.specs.Words.{word}
 use Rattle.section.proofs.Walk.{not-bad, by-judged}
 use Rattle.sums.specs.Triangle.{tri}
 use Rattle.normread.specs.Normal.{Normal, readNormal, shown, toldAnswer, toldRead}
-use Rattle.normread.specs.Parts.{arcsAt}
+use Rattle.normheads.specs.Heads.{arcsAt}
 use Rattle.normread.specs.declared.NormalRead.{NormalRead}
 use Rattle.normread.specs.declared.ReadAnswer.the-variants.{Read}
 use Rattle.normread.proofs.Accepted.{accepted-sound, accepted-standing}

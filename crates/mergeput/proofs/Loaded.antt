@@ -15,8 +15,8 @@ use Rattle.section.specs.Section.{encoded}
 use Rattle.system.specs.System.{arcOk}
 use Rattle.system.proofs.Labels.{arc-small}
 use Rattle.normwalk.proofs.Entries.{length-stands}
-use Rattle.normread.specs.Kinds.{arcBytes}
-use Rattle.normread.specs.Parts.{arcsAt}
+use Rattle.normheads.specs.Kinds.{arcBytes}
+use Rattle.normheads.specs.Heads.{arcsAt}
 use Rattle.normread.specs.declared.NormalRead.{NormalRead}
 use Rattle.mergeheads.specs.Heads.{keysAt, numberAt, Somewhere, Short}
 use Rattle.mergeheads.proofs.United.{united, somewhere}

@@ -7,7 +7,7 @@ ghost use lib.ListN.{length};
 ghost use Rattle.words.specs.Words.{lay};
 ghost use Rattle.section.specs.Section.{encoded};
 ghost use Rattle.sums.specs.Triangle.{tri};
-ghost use Rattle.normread.specs.Kinds.{arcBytes};
+ghost use Rattle.normheads.specs.Kinds.{arcBytes};
 ghost use Rattle.normread.specs.Normal.{normalBytes};
 ghost use Rattle.joining.specs.Join.{union};
 ghost use Rattle.merging.specs.Merge.{mergedOf, mergeNumber};
@@ -90,10 +90,10 @@ fn put_heads(
     requires { ⌜ (n ≤ 500) × (8 + 4 * m + 24 * n ≤ length (now out)) ⌝ }
     ensures { λ _. ⌜ now (out .exit) ≡ lay (now (out .entry)) 0 (headBytes (mergedOf (systemIn (now (a .entry))) (systemIn (now (b .entry))))) ⌝ }
 {
-    words::write_u32(out, 0, m as u32);
+    wordwrite::write_u32(out, 0, m as u32);
     put_arcs(out, 4, a, x, b, y);
     let at = 4 + 4 * m;
-    words::write_u32(out, at, n as u32);
+    wordwrite::write_u32(out, at, n as u32);
     mergeheads::put_labels(
         out,
         at + 4,
@@ -127,7 +127,7 @@ fn put_middle(
     ensures { λ _. ⌜ now (out .exit) ≡ lay (now (out .entry)) at (middleBytes (mergedOf (systemIn (now (a .entry))) (systemIn (now (b .entry))))) ⌝ }
 {
     let sums = sums::triangle(n);
-    words::write_u32(out, at, sums as u32);
+    wordwrite::write_u32(out, at, sums as u32);
     mergesums::put_columns(
         out,
         at + 4,
@@ -142,7 +142,7 @@ fn put_middle(
         right,
     );
     let next = at + 4 + 8 * sums;
-    words::write_u32(out, next, n as u32);
+    wordwrite::write_u32(out, next, n as u32);
     let c = Column {
         base: x.rights,
         rows: x.parameters,
@@ -160,11 +160,11 @@ fn put_last(out: &mut [u8], at: usize, a: &[u8], x: NormalRead, b: &[u8], y: Nor
     requires { ⌜ at + 20 ≤ length (now out) ⌝ }
     ensures { λ _. ⌜ now (out .exit) ≡ lay (now (out .entry)) at (lastBytes (mergedOf (systemIn (now (a .entry))) (systemIn (now (b .entry))))) ⌝ }
 {
-    let accepted = words::read_u64(a, x.totals) + words::read_u64(b, y.totals);
-    let square = words::read_u64(a, x.totals + 8) + words::read_u64(b, y.totals + 8);
-    words::write_u32(out, at, 1);
-    words::write_u64(out, at + 4, accepted);
-    words::write_u64(out, at + 12, square);
+    let accepted = wordread::read_u64(a, x.totals) + wordread::read_u64(b, y.totals);
+    let square = wordread::read_u64(a, x.totals + 8) + wordread::read_u64(b, y.totals + 8);
+    wordwrite::write_u32(out, at, 1);
+    wordwrite::write_u64(out, at + 4, accepted);
+    wordwrite::write_u64(out, at + 12, square);
 }
 
 // The whole file.

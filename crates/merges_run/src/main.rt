@@ -4,27 +4,6 @@
 use libc::STDOUT_FILENO;
 use normmerge::MergeAnswer;
 use refusal::Refusal;
-ghost use mathlib.Core.Path.{_≡_};
-ghost use lib.ListN.{length};
-
-// 1,018,101 zeros: the longest normal file, and one byte more, by which a longer one is found out.
-fn room() -> [u8; 1018101]
-    ensures { λ r. ⌜ 1018101 ≡ length r ⌝ }
-{
-    [0; 1018101]
-}
-
-// The file of a path, as far as the buffer holds it.
-fn load(path: &[u8], buf: &mut [u8]) -> usize {
-    let fd = os::open_read(path);
-    if fd < 0 {
-        os::fail(path);
-        return 0;
-    }
-    let n = io::read_full(fd, buf);
-    libc::close(fd);
-    n
-}
 
 fn tell_place(why: Refusal, file: &[u8], place: usize) {
     lines::put_refusal(why, file);
@@ -52,7 +31,7 @@ fn load_arg(i: usize, path: &mut [u8], buf: &mut [u8]) -> usize {
     let k = whole::least(n, path.len());
     lines::put(&path[..k]);
     lines::put(b" ");
-    load(&path[..k], buf)
+    files::load_path(&path[..k], buf).length
 }
 
 // The files of arguments i and j.
@@ -77,9 +56,9 @@ fn run(count: usize, path: &mut [u8], a: &mut [u8], b: &mut [u8], out: &mut [u8]
 }
 
 fn main() {
-    let mut a = room();
-    let mut b = room();
-    let mut out = room();
+    let mut a = files::normal_room();
+    let mut b = files::normal_room();
+    let mut out = files::normal_room();
     let mut path = io::buffer();
     run(os::arg_count(), &mut path, &mut a, &mut b, &mut out);
 }

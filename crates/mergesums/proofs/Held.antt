@@ -4,7 +4,6 @@ use mathlib.Core.Path.{_≡_, refl, sym, ap, ap₂, _∙_, subst}
 use mathlib.Core.List.{List}
 use mathlib.Core.Bool.{true}
 use Prim.Native.Nat.{ℕ, suc, _+_, _*_, _^_, _≤_, _<_}
-use native.Mathlib.Nat.{add-zero}
 use native.Mathlib.Numerals.{add-one}
 use native.Mathlib.Omega.{arith}
 use lib.IntN.{ℤ, pos, _+ℤ_, natAbs}
@@ -44,11 +43,8 @@ module _ (start n j : ℕ) where
   column-there h = sym (yes _ _ _ (is-less j n h) refl)
 
   -- as the code works it out
-  pub column-is : (k : ℕ) → k ≡ tri j + 0 → j < n → record { base = start + 8 * k; rows = j + 1 } ≡ columnOf start n j
-  column-is k e h = (λ i. record { base = start + 8 * same i; rows = add-one j i }) ∙ sym (column-there h)
-    where
-      same : k ≡ tri j
-      same = e ∙ add-zero (tri j)
+  pub column-is : (k : ℕ) → k ≡ tri j → j < n → record { base = start + 8 * k; rows = j + 1 } ≡ columnOf start n j
+  column-is k e h = (λ i. record { base = start + 8 * e i; rows = add-one j i }) ∙ sym (column-there h)
 
   pub column-none : n ≤ j → columnOf start n j ≡ record { base = start; rows = 0 }
   unfolding columnOf

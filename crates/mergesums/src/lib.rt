@@ -34,7 +34,7 @@ fn column_at(start: usize, n: usize, j: usize) -> Column
 {
     if j < n {
         return Column {
-            base: start + 8 * sums::place(0, j),
+            base: start + 8 * sums::triangle(j),
             rows: j + 1,
         };
     }
@@ -57,7 +57,7 @@ fn put_sum(out: &mut [u8], at: usize, x: i64)
     ensures { λ _. ⌜ now (out .exit) ≡ lay (now (out .entry)) at (signedBytes w64 x) ⌝ }
 {
     let e = at + 8;
-    words::write_i64(&mut out[at..e], 0, x);
+    wordwrite::write_i64(&mut out[at..e], 0, x);
 }
 
 // The sums of both at the first `count` united labels.

@@ -21,7 +21,7 @@ use Rattle.system.specs.System.{System, has, keyOf, boundOf}
 use Rattle.system.proofs.Sound.{bound-most, entry-of}
 use Rattle.normwalk.specs.Walk.{stands, sumsAt}
 use Rattle.normwalk.proofs.Entries.{length-stands, stands-at}
-use Rattle.normread.specs.Kinds.{normalLabelAt}
+use Rattle.normheads.specs.Kinds.{normalLabelAt}
 use Rattle.joining.specs.Join.{union, seat, Placed}
 use Rattle.joining.specs.Alike.{alike}
 use Rattle.joining.proofs.Union.{has-union, either-none}

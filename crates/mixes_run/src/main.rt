@@ -108,15 +108,15 @@ fn put_record(out: &mut [u8], s: usize, k: usize) {
     let a = s % 4;
     let b = k % 4;
     let at = (a * 4 + b) * 36;
-    words::write_u16(out, at, (a * 10 + 2) as u16);
-    words::write_u16(out, at + 2, 2);
-    words::write_u32(out, at + 4, 1);
-    words::write_u32(out, at + 8, 8036);
-    words::write_u32(out, at + 12, clock(a, b));
-    words::write_u64(out, at + 16, observed(b));
-    words::write_u64(out, at + 24, 0x408f_4200_0000_0000);
-    words::write_u16(out, at + 32, (a * 3 + b) as u16);
-    words::write_i16(out, at + 34, -7);
+    wordwrite::write_u16(out, at, (a * 10 + 2) as u16);
+    wordwrite::write_u16(out, at + 2, 2);
+    wordwrite::write_u32(out, at + 4, 1);
+    wordwrite::write_u32(out, at + 8, 8036);
+    wordwrite::write_u32(out, at + 12, clock(a, b));
+    wordwrite::write_u64(out, at + 16, observed(b));
+    wordwrite::write_u64(out, at + 24, 0x408f_4200_0000_0000);
+    wordwrite::write_u16(out, at + 32, (a * 3 + b) as u16);
+    wordwrite::write_i16(out, at + 34, -7);
 }
 
 fn no_label() -> Label {

@@ -1,27 +1,6 @@
 // Runs the normal files that the arguments name: each is read, and what came of it is told.
 use libc::STDOUT_FILENO;
 use normread::ReadAnswer;
-ghost use mathlib.Core.Path.{_≡_};
-ghost use lib.ListN.{length};
-
-// 1,018,101 zeros: the longest normal file, and one byte more, by which a longer one is found out.
-fn room() -> [u8; 1018101]
-    ensures { λ r. ⌜ 1018101 ≡ length r ⌝ }
-{
-    [0; 1018101]
-}
-
-// The file of a path, as far as the buffer holds it.
-fn load(path: &[u8], buf: &mut [u8]) -> usize {
-    let fd = os::open_read(path);
-    if fd < 0 {
-        os::fail(path);
-        return 0;
-    }
-    let n = io::read_full(fd, buf);
-    libc::close(fd);
-    n
-}
 
 // `ok`, or `refused N at PLACE`.
 fn tell(file: &[u8]) {
@@ -40,7 +19,7 @@ fn tell(file: &[u8]) {
 fn run_file(path: &[u8], buf: &mut [u8]) {
     io::write_all(STDOUT_FILENO, path);
     lines::put(b" ");
-    let n = load(path, buf);
+    let n = files::load_path(path, buf).length;
     let k = whole::least(n, buf.len());
     tell(&buf[..k]);
 }
@@ -62,7 +41,7 @@ fn run(count: usize, path: &mut [u8], buf: &mut [u8]) {
 }
 
 fn main() {
-    let mut buf = room();
+    let mut buf = files::normal_room();
     let mut path = io::buffer();
     run(os::arg_count(), &mut path, &mut buf);
 }

@@ -15,36 +15,10 @@ ghost use Rattle.heading.specs.Judge.{toldVerdict};
 ghost use Rattle.sums.specs.Triangle.{tri};
 ghost use Rattle.system.specs.System.{arcOk, normalLabelOk, keyOf, boundOf, totalsWhere, sumsWhere};
 ghost use Rattle.normwalk.specs.Walk.{stands};
-ghost use Rattle.normroom.specs.Room.{
-  headsLong,
-  labelIn,
-  systemIn,
-  roomyFor,
-  countsFit,
-  isNowhere,
-  sumsFit,
-  systemNumber,
-};
+ghost use Rattle.normroom.specs.Room.{headsLong, labelIn, systemIn, countsFit, isNowhere, sumsFit, systemNumber};
 ghost use Rattle.normjudge.specs.Judge.{bareLabel, isSmall, Small, allFit, allAscend, sidesWhere, valuesNumber, Roomed};
 
 // ---- 20 and 2
-
-// Whether rooms of these lengths hold so many arcs and parameters, each number past its capacity standing as the capacity.
-fn is_roomy(arcs: usize, parameters: usize, heads: usize, matrix: usize, rights: usize) -> bool
-    ensures { λ r. ⌜ r ≡ roomyFor arcs parameters heads matrix rights ⌝ }
-{
-    let a = whole::least(arcs, 16);
-    let p = whole::least(parameters, 500);
-    if a + 5 * p + 2 <= heads {
-        if sums::triangle(p) <= matrix {
-            p <= rights
-        } else {
-            false
-        }
-    } else {
-        false
-    }
-}
 
 fn counts_fit(arcs: usize, parameters: usize) -> bool
     ensures { λ r. ⌜ r ≡ countsFit arcs parameters ⌝ }
@@ -334,7 +308,7 @@ pub fn judge(
 ) -> Verdict
     ensures { λ r. ⌜ toldVerdict r ≡ answered (systemNumber arcs parameters (now (heads .entry)) (now (matrix .entry)) (now (rights .entry))) tt ⌝ }
 {
-    if is_roomy(arcs, parameters, heads.len(), matrix.len(), rights.len()) {
+    if normroom::is_roomy(arcs, parameters, heads.len(), matrix.len(), rights.len()) {
         if counts_fit(arcs, parameters) {
             judge_values(arcs, parameters, heads, matrix, rights)
         } else {

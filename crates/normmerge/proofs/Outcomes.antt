@@ -36,7 +36,7 @@ module _ (x y : System) where
 
   -- nothing is written, and the room is as it was
   refused-by : (out : List ℕ) (k : ℕ) → pairNumber x y (length out) ≡ k → (k ≡ 0 → ⊥) → (refusing k ≡ pairAnswer x y (length out)) × (out ≡ pairLeft x y out)
-  unfolding pairAnswer pairLeft
+  unfolding pairAnswer pairLeft pairNumber
   refused-by out k e h = (
     no _ _ _ (not-same _ 0 (λ z. h (sym e ∙ z))) (ap refusing (sym e)),
     no _ _ _ (not-same _ 0 (λ z. h (sym e ∙ z))) refl,
@@ -55,7 +55,7 @@ module _ (x y : System) where
 
     pub pair-written : (n : ℕ) (left : List ℕ) → length (mergedBytes x y) ≤ length out → n ≡ length (mergedBytes x y) → left ≡ lay out 0 (mergedBytes x y)
         → (written n ≡ pairAnswer x y (length out)) × (left ≡ pairLeft x y out)
-    unfolding pairAnswer pairLeft
+    unfolding pairAnswer pairLeft pairNumber
     pair-written n left h e f =
         let z : pairNumber x y (length out) ≡ 0 = passes (length out) 0 accepted refl ∙ when-false 20 _ (not-less (length out) (length (mergedBytes x y)) h) in
         (yes _ _ _ (is-same _ 0 z) (ap written e), yes _ _ _ (is-same _ 0 z) f)

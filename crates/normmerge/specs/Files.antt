@@ -1,13 +1,12 @@
 -- Document 01, 'Normal file' and 'Refusal numbers': "Merging: first file, second file (the answer names which), 21 to 24, 20." Two normal files
 -- as bytes: what merging answers, and what it leaves in the lent room. "A longer buffer keeps its rest. A refusal changes nothing lent."
-use mathlib.Core.List.{List, [], _∷_}
+use mathlib.Core.List.{List}
 use Prim.Native.Nat.{ℕ}
 use lib.ListN.{length}
-use Rattle.whole.specs.Tests.{less, same, pick}
+use Rattle.whole.specs.Tests.{same, pick}
 use Rattle.whole.specs.Answer.{Judged, good, bad}
-use Rattle.words.specs.Words.{lay}
 use Rattle.refusal.specs.Number.{numberOf}
-use Rattle.refusal.specs.First.{when, first}
+use Rattle.section.specs.Writing.{writingNumber, writtenIn}
 use Rattle.system.specs.System.{System}
 use Rattle.normread.specs.Normal.{Normal, readNormal, normalBytes}
 use Rattle.merging.specs.Merge.{mergedOf, mergeNumber}
@@ -27,13 +26,13 @@ mergedBytes x y = normalBytes (mergedOf x y)
 
 -- 21 to 24, then 20 for a room that is shorter
 unfoldable pub pairNumber : System → System → ℕ → ℕ
-pairNumber x y room = first (mergeNumber x y ∷ when 20 (less room (length (mergedBytes x y))) ∷ [])
+pairNumber x y room = writingNumber (mergeNumber x y) (mergedBytes x y) room
 
 unfoldable pub pairAnswer : System → System → ℕ → Merging
 pairAnswer x y room = pick (same (pairNumber x y room) 0) (written (length (mergedBytes x y))) (refusing (pairNumber x y room))
 
 unfoldable pub pairLeft : System → System → List ℕ → List ℕ
-pairLeft x y out = pick (same (pairNumber x y (length out)) 0) (lay out 0 (mergedBytes x y)) out
+pairLeft x y out = writtenIn (mergeNumber x y) (mergedBytes x y) out
 
 -- ---- two files
 -- what follows from the system that a file holds, or from its refusal

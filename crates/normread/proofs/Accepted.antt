@@ -22,10 +22,11 @@ use Rattle.system.specs.System.{arcOk, normalLabelOk, Where, nowhere, inMatrix,
 use Rattle.system.specs.declared.NormalLabel.{NormalLabel}
 use Rattle.system.proofs.Sound.{SoundSystem}
 use Rattle.normwalk.specs.Walk.{stands, sumsAt}
-use Rattle.normread.specs.Kinds.{arcKind, normalLabelAt, normalLabelAtOk, normalLabelKind, sumKind, Totals, noTotals, totalsAt, totalsKind}
+use Rattle.normheads.specs.Kinds.{arcKind, normalLabelAt, normalLabelAtOk, normalLabelKind, sumKind, Totals, noTotals, totalsAt, totalsKind}
 use Rattle.normread.specs.Normal.{Normal, systemOf, exactly, atWhere, soundly, readNormal}
-use Rattle.normread.specs.Parts.{arcsAt}
-use Rattle.normread.proofs.Parts.{section-items, exactly-items}
+use Rattle.normheads.specs.Heads.{arcsAt}
+use Rattle.normheads.proofs.Heads.{section-items}
+use Rattle.normread.proofs.Parts.{exactly-items}
 
 -- ---- its five sections
 pub record Sections (s : List ℕ) (x : Normal) : Type 0 where

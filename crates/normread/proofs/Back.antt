@@ -24,9 +24,9 @@ use Rattle.sums.proofs.Entries.{tri-twice}
 use Rattle.system.specs.System.{System, arcOk, normalLabelOk}
 use Rattle.system.specs.declared.NormalLabel.{NormalLabel}
 use Rattle.system.proofs.Sound.{SoundSystem, matrix-fits, rights-fit, accepted-fits, square-fits}
-use Rattle.normread.specs.Kinds.{arcBytes, arcKind, normalLabelBytes, normalLabelKind, sumBytes, sumKind, Totals, totalsBytes, totalsKind}
+use Rattle.normheads.specs.Kinds.{arcBytes, arcKind, normalLabelBytes, normalLabelKind, sumBytes, sumKind, Totals, totalsBytes, totalsKind}
 use Rattle.normread.specs.Normal.{Normal, atWhere, soundly, readNormal, sectioned, normalBytes}
-use Rattle.normread.proofs.Records.{length-arc, length-label, length-sum, length-totals, arc-back, Labelled, label-back, sum-back, totals-back}
+use Rattle.normheads.proofs.Records.{length-arc, length-label, length-sum, length-totals, arc-back, Labelled, label-back, sum-back, totals-back}
 
 -- ---- lists of records that may stand in a section
 -- what holds at each place holds of each element

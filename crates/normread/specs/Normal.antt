@@ -11,7 +11,7 @@ use Rattle.section.specs.Section.{Kind, Run, andThen, sectionAt, closed, encode
 use Rattle.sums.specs.Triangle.{tri}
 use Rattle.system.specs.System.{System, Where, nowhere, inMatrix, inRights, inAccepted, inSquare, unsoundIn}
 use Rattle.system.specs.declared.NormalLabel.{NormalLabel}
-use Rattle.normread.specs.Kinds.{arcBytes, arcKind, normalLabelBytes, normalLabelKind, sumBytes, sumKind, Totals, noTotals, totalsBytes, totalsKind}
+use Rattle.normheads.specs.Kinds.{arcBytes, arcKind, normalLabelBytes, normalLabelKind, sumBytes, sumKind, Totals, noTotals, totalsBytes, totalsKind}
 use Rattle.normread.specs.declared.ReadAnswer.{ReadAnswer}
 use Rattle.normread.specs.declared.ReadAnswer.the-variants as Answers
 use Rattle.normread.specs.declared.NormalRead.{NormalRead}

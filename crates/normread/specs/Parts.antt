@@ -1,69 +1,20 @@
--- The normal file's reading in the parts that the code has: the arcs and the labels, the sections of sums by their length, and what is told
+-- The normal file's reading after its arcs and labels in the parts that the code has: the sections of sums by their length, and what is told
 -- in the end, all in numbers.
 use Prim.Native.Nat.{ℕ, _+_, _*_, _-_, _≤_}
 use mathlib.Core.List.{List}
 use lib.ListN.{length}
 use Rattle.whole.specs.Tests.{less, pick}
 use Rattle.whole.specs.Answer.{Judged, good, bad}
-use Rattle.words.specs.Words.{word}
 use Rattle.refusal.specs.Number.{numberOf}
-use Rattle.section.specs.Section.{Kind, Run, andThen, countAt, judgedAt, sectionAt, closed}
+use Rattle.section.specs.Section.{andThen, countAt, closed}
 use Rattle.sums.specs.Triangle.{tri}
 use Rattle.system.specs.System.{Where, nowhere, inMatrix, inRights, inAccepted, inSquare}
-use Rattle.system.specs.declared.NormalLabel.{NormalLabel}
-use Rattle.normwalk.specs.Walk.{stands, unsoundAt}
-use Rattle.normread.specs.Kinds.{arcKind, normalLabelKind}
+use Rattle.normwalk.specs.Walk.{unsoundAt}
 use Rattle.normread.specs.Normal.{Shown}
-use Rattle.normread.specs.declared.FloorAnswer.{FloorAnswer}
-use Rattle.normread.specs.declared.FloorAnswer.the-variants as FloorAnswers
-use Rattle.normread.specs.declared.SectionAnswer.{SectionAnswer}
-use Rattle.normread.specs.declared.SectionAnswer.the-variants as SectionAnswers
-use Rattle.normread.specs.declared.HeadsAnswer.{HeadsAnswer}
-use Rattle.normread.specs.declared.HeadsAnswer.the-variants as HeadsAnswers
 use Rattle.normread.specs.declared.PlaceAnswer.{PlaceAnswer}
 use Rattle.normread.specs.declared.PlaceAnswer.the-variants as PlaceAnswers
 use Rattle.normread.specs.declared.SumsAnswer.{SumsAnswer}
 use Rattle.normread.specs.declared.SumsAnswer.the-variants as SumsAnswers
-
--- ---- records that no one keeps
--- how many, and the place after the section
-pub record Span : Type 0 where
-  pub count : ℕ
-  pub next : ℕ
-
-unfoldable pub spanOf : {A : Type 0} → Judged (Run A) → Judged Span
-spanOf j = andThen j (λ r. good (record { count = length (r .items); next = r .next }))
-
--- one record: the least key that may follow it
-unfoldable pub floorAt : {A : Type 0} → Kind A → List ℕ → ℕ → ℕ → Judged ℕ
-floorAt K s at floor = andThen (judgedAt K s at floor) (λ a. good (K .after a))
-
--- ---- the arcs and the labels
-pub record Heads : Type 0 where
-  pub arcs : Run ℕ
-  pub labels : Run NormalLabel
-
-unfoldable pub headsPart : List ℕ → Judged Heads
-headsPart s =
-    andThen (sectionAt arcKind s 1 16 0) λ a.
-    andThen (sectionAt (normalLabelKind (a .items)) s 1 500 (a .next)) λ b.
-    good (record { arcs = a; labels = b })
-
--- how many of each, and the place after them
-pub record Counts : Type 0 where
-  pub arcs : ℕ
-  pub parameters : ℕ
-  pub next : ℕ
-
-abbrev pub countsOf : Heads → Counts
-countsOf h = record { arcs = length (h .arcs .items); parameters = length (h .labels .items); next = h .labels .next }
-
-unfoldable pub countsPart : List ℕ → Judged Counts
-countsPart s = andThen (headsPart s) (λ h. good (countsOf h))
-
--- n arcs, after their count of four bytes
-abbrev pub arcsAt : List ℕ → ℕ → List ℕ
-arcsAt s n = stands (word 4 s) 4 n 4
 
 -- ---- sections of n records of one size, with no limits and no order: the place after one
 unfoldable pub plainPart : List ℕ → ℕ → ℕ → ℕ → Judged ℕ
@@ -116,18 +67,6 @@ shownRest s arcs p (good x) = shownSums s arcs p x
 shownRest s arcs p (bad number place) = shownBad number place
 
 -- ---- what the answers say
-abbrev pub toldFloor : FloorAnswer → Judged ℕ
-toldFloor (FloorAnswers.Next n) = good n
-toldFloor (FloorAnswers.Refused r place) = bad (numberOf r) place
-
-abbrev pub toldSection : SectionAnswer → Judged Span
-toldSection (SectionAnswers.Read n next) = good (record { count = n; next = next })
-toldSection (SectionAnswers.Refused r place) = bad (numberOf r) place
-
-abbrev pub toldHeads : HeadsAnswer → Judged Counts
-toldHeads (HeadsAnswers.Read arcs parameters next) = good (record { arcs = arcs; parameters = parameters; next = next })
-toldHeads (HeadsAnswers.Refused r place) = bad (numberOf r) place
-
 abbrev pub toldPlace : PlaceAnswer → Judged ℕ
 toldPlace (PlaceAnswers.After n) = good n
 toldPlace (PlaceAnswers.Refused r place) = bad (numberOf r) place

@@ -16,9 +16,9 @@ use Rattle.section.proofs.Trips.{length-encoded}
 use Rattle.sums.specs.Triangle.{tri}
 use Rattle.system.specs.System.{System}
 use Rattle.normwalk.proofs.Entries.{length-stands}
-use Rattle.normread.specs.Kinds.{arcBytes, normalLabelBytes, sumBytes, totalsBytes}
+use Rattle.normheads.specs.Kinds.{arcBytes, normalLabelBytes, sumBytes, totalsBytes}
 use Rattle.normread.specs.Normal.{normalBytes}
-use Rattle.normread.proofs.Records.{length-arc, length-label, length-sum}
+use Rattle.normheads.proofs.Records.{length-arc, length-label, length-sum}
 use Rattle.normroom.specs.Room.{labelIn, systemIn}
 use Rattle.normroom.specs.Bytes.{fileLong, nameBytes, counted, tailBytes}
 

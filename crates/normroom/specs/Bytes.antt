@@ -6,7 +6,7 @@ use lib.ListN.{length}
 use Rattle.words.specs.Words.{bytesOf}
 use Rattle.section.specs.Section.{encoded}
 use Rattle.sums.specs.Triangle.{tri}
-use Rattle.normread.specs.Kinds.{sumBytes}
+use Rattle.normheads.specs.Kinds.{sumBytes}
 
 -- five counts of 4 bytes, 4 an arc, 24 a label, 8 a matrix sum and a right side, and the totals' 16
 abbrev pub fileLong : ℕ → ℕ → ℕ

@@ -6,9 +6,9 @@ ghost use lib.ListN.{length, take};
 ghost use Rattle.words.specs.Words.{bytesOf, lay};
 ghost use Rattle.sums.specs.Triangle.{tri};
 ghost use Rattle.normwalk.specs.Walk.{stands};
-ghost use Rattle.normread.specs.Kinds.{arcBytes, normalLabelBytes, sumBytes};
+ghost use Rattle.normheads.specs.Kinds.{arcBytes, normalLabelBytes, sumBytes};
 ghost use Rattle.normread.specs.Normal.{normalBytes};
-ghost use Rattle.normroom.specs.Room.{headsLong, labelIn, systemIn};
+ghost use Rattle.normroom.specs.Room.{headsLong, labelIn, systemIn, roomyFor};
 ghost use Rattle.normroom.specs.Bytes.{fileLong, nameBytes, counted, tailBytes};
 
 // ---- sizes
@@ -19,6 +19,23 @@ pub fn needed(arcs: usize, parameters: usize) -> usize
     ensures { λ r. ⌜ r ≡ fileLong arcs parameters ⌝ }
 {
     36 + 4 * arcs + 32 * parameters + 8 * sums::triangle(parameters)
+}
+
+// Whether rooms of these lengths hold so many arcs and parameters, each number past its capacity standing as the capacity.
+pub fn is_roomy(arcs: usize, parameters: usize, heads: usize, matrix: usize, rights: usize) -> bool
+    ensures { λ r. ⌜ r ≡ roomyFor arcs parameters heads matrix rights ⌝ }
+{
+    let a = whole::least(arcs, 16);
+    let p = whole::least(parameters, 500);
+    if a + 5 * p + 2 <= heads {
+        if sums::triangle(p) <= matrix {
+            p <= rights
+        } else {
+            false
+        }
+    } else {
+        false
+    }
 }
 
 // ---- labels
@@ -41,11 +58,11 @@ pub fn put_name(out: &mut [u8], at: usize, kind: u64, index: u64, arc: u64, weig
     requires { ⌜ at + 16 ≤ length (now out) ⌝ }
     ensures { λ _. ⌜ now (out .exit) ≡ lay (now (out .entry)) at (nameBytes kind index arc weight) ⌝ }
 {
-    words::write_u16(out, at, low16(kind));
-    words::write_u16(out, at + 2, low16(index));
-    words::write_u32(out, at + 4, low32(arc));
-    words::write_u32(out, at + 8, low32(weight));
-    words::write_u32(out, at + 12, 0);
+    wordwrite::write_u16(out, at, low16(kind));
+    wordwrite::write_u16(out, at + 2, low16(index));
+    wordwrite::write_u32(out, at + 4, low32(arc));
+    wordwrite::write_u32(out, at + 8, low32(weight));
+    wordwrite::write_u32(out, at + 12, 0);
 }
 
 // The label whose first number stands at k of the heads.
@@ -54,7 +71,7 @@ fn put_label(heads: &[u64], k: usize, out: &mut [u8], at: usize)
     ensures { λ _. ⌜ now (out .exit) ≡ lay (now (out .entry)) at (normalLabelBytes (labelIn (now (heads .entry)) k)) ⌝ }
 {
     put_name(out, at, heads[k], heads[k + 1], heads[k + 2], heads[k + 3]);
-    words::write_u64(out, at + 16, heads[k + 4]);
+    wordwrite::write_u64(out, at + 16, heads[k + 4]);
 }
 
 // The parameters section: its count and n labels, of which the first stands at `from` of the heads.
@@ -62,7 +79,7 @@ fn put_labels(heads: &[u64], from: usize, n: usize, out: &mut [u8], start: usize
     requires { ⌜ (n ≤ 500) × (from + 5 * n ≤ length (now heads)) × (start + 4 + 24 * n ≤ length (now out)) ⌝ }
     ensures { λ _. ⌜ now (out .exit) ≡ lay (now (out .entry)) start (counted normalLabelBytes (stands (labelIn (now (heads .entry))) 5 n from)) ⌝ }
 {
-    words::write_u32(out, start, n as u32);
+    wordwrite::write_u32(out, start, n as u32);
     let mut k = from;
     let mut at = start + 4;
     let mut i: usize = 0;
@@ -81,11 +98,11 @@ fn put_arcs(heads: &[u64], n: usize, out: &mut [u8])
     requires { ⌜ (n ≤ 16) × (n ≤ length (now heads)) × (4 + 4 * n ≤ length (now out)) ⌝ }
     ensures { λ _. ⌜ now (out .exit) ≡ lay (now (out .entry)) 0 (counted arcBytes (take n (now (heads .entry)))) ⌝ }
 {
-    words::write_u32(out, 0, n as u32);
+    wordwrite::write_u32(out, 0, n as u32);
     let mut at: usize = 4;
     let mut i: usize = 0;
     while i < n {
-        words::write_u32(out, at, low32(heads[i]));
+        wordwrite::write_u32(out, at, low32(heads[i]));
         at += 4;
         i += 1;
     }
@@ -98,11 +115,11 @@ fn put_sums(sums: &[i64], n: usize, out: &mut [u8], start: usize)
     requires { ⌜ (n ≤ 125250) × (n ≤ length (now sums)) × (start + 4 + 8 * n ≤ length (now out)) ⌝ }
     ensures { λ _. ⌜ now (out .exit) ≡ lay (now (out .entry)) start (counted sumBytes (take n (now (sums .entry)))) ⌝ }
 {
-    words::write_u32(out, start, n as u32);
+    wordwrite::write_u32(out, start, n as u32);
     let mut at = start + 4;
     let mut i: usize = 0;
     while i < n {
-        words::write_i64(out, at, sums[i]);
+        wordwrite::write_i64(out, at, sums[i]);
         at += 8;
         i += 1;
     }
@@ -113,9 +130,9 @@ fn put_totals(out: &mut [u8], at: usize, accepted: u64, square: u64)
     requires { ⌜ at + 20 ≤ length (now out) ⌝ }
     ensures { λ _. ⌜ now (out .exit) ≡ lay (now (out .entry)) at (bytesOf 4 1 ++ (bytesOf 8 accepted ++ bytesOf 8 square)) ⌝ }
 {
-    words::write_u32(out, at, 1);
-    words::write_u64(out, at + 4, accepted);
-    words::write_u64(out, at + 12, square);
+    wordwrite::write_u32(out, at, 1);
+    wordwrite::write_u64(out, at + 4, accepted);
+    wordwrite::write_u64(out, at + 12, square);
 }
 
 // What follows the labels of p parameters: the matrix sums, the right sides and the totals.

@@ -14,7 +14,7 @@ use Rattle.heading.specs.Judge.{labelsOf}
 use Rattle.heading.specs.declared.Heading.{Heading}
 use Rattle.sums.specs.Triangle.{tri}
 use Rattle.state.specs.State.{State, accepted}
-use Rattle.normread.specs.Kinds.{arcBytes, normalLabelBytes}
+use Rattle.normheads.specs.Kinds.{arcBytes, normalLabelBytes}
 use Rattle.normroom.specs.Bytes.{fileLong, nameBytes, counted, tailBytes}
 use Rattle.normroom.proofs.Laid.{length-name, file-laid, file-long}
 use Rattle.normstate.specs.OfState.{arcFor, labelOf, systemOf, stateBytes}

@@ -2,11 +2,10 @@
 -- state's room, 2, 4, 5, 6, then 20 for the bytes. "A longer buffer keeps its rest. A refusal changes nothing lent."
 use Prim.Native.Nat.{ℕ}
 use mathlib.Core.List.{List, [], _∷_, map}
-use lib.ListN.{length, take}
-use Rattle.whole.specs.Tests.{less, upTo, same, pick}
+use lib.ListN.{take}
+use Rattle.whole.specs.Tests.{upTo, pick}
 use Rattle.whole.specs.Answer.{Answered}
-use Rattle.words.specs.Words.{lay}
-use Rattle.refusal.specs.First.{when, first, answered}
+use Rattle.section.specs.Writing.{writingNumber, written, writtenIn}
 use Rattle.limits.specs.declared.Label.{Label}
 use Rattle.heading.specs.Judge.{labelsOf}
 use Rattle.heading.specs.declared.Heading.{Heading}
@@ -41,12 +40,12 @@ stateBytes h s = normalBytes (systemOf h s)
 
 -- 20, 2, 4, 5, 6 for the heading and its state, then 20 for the bytes; 0 where nothing is wrong
 unfoldable pub fileNumber : Heading → State → ℕ → ℕ
-fileNumber h s room = first (stateNumber h s ∷ when 20 (less room (length (stateBytes h s))) ∷ [])
+fileNumber h s room = writingNumber (stateNumber h s) (stateBytes h s) room
 
 -- the length of the file, or the refusal
 unfoldable pub fileOf : Heading → State → ℕ → Answered ℕ
-fileOf h s room = answered (fileNumber h s room) (length (stateBytes h s))
+fileOf h s room = written (stateNumber h s) (stateBytes h s) room
 
 -- what is left in the buffer
 unfoldable pub leftIn : Heading → State → List ℕ → List ℕ
-leftIn h s out = pick (same (fileNumber h s (length out)) 0) (lay out 0 (stateBytes h s)) out
+leftIn h s out = writtenIn (stateNumber h s) (stateBytes h s) out

@@ -13,7 +13,7 @@ ghost use Rattle.words.specs.Words.{lay};
 ghost use Rattle.heading.specs.Judge.{labelsOf};
 ghost use Rattle.sums.specs.Triangle.{tri};
 ghost use Rattle.state.specs.State.{stateOf};
-ghost use Rattle.normread.specs.Kinds.{normalLabelBytes};
+ghost use Rattle.normheads.specs.Kinds.{normalLabelBytes};
 ghost use Rattle.normroom.specs.Bytes.{fileLong, counted};
 ghost use Rattle.normwrite.specs.Write.{toldWrite};
 ghost use Rattle.normstate.specs.OfState.{arcFor, labelOf, stateBytes, fileOf, leftIn};
@@ -38,7 +38,7 @@ fn put_label(out: &mut [u8], at: usize, arc: u32, l: Label)
         of as u64,
         l.weight as u64,
     );
-    words::write_i64(out, at + 16, l.estimate);
+    wordwrite::write_i64(out, at + 16, l.estimate);
 }
 
 // The parameters section: its count and the labels that count.
@@ -48,7 +48,7 @@ fn put_labels(h: Heading, out: &mut [u8], start: usize)
 {
     let n = h.parameters;
     let s = h.settings;
-    words::write_u32(out, start, n as u32);
+    wordwrite::write_u32(out, start, n as u32);
     let mut at = start + 4;
     let mut i: usize = 0;
     while i < n {
@@ -69,8 +69,8 @@ fn put_file(h: Heading, t: Tally, matrix: &[i64], rights: &[i64], out: &mut [u8]
     let p = h.parameters;
     let counts = t.counts;
     let n = state::accepted(counts);
-    words::write_u32(out, 0, 1);
-    words::write_u32(out, 4, s.arc);
+    wordwrite::write_u32(out, 0, 1);
+    wordwrite::write_u32(out, 4, s.arc);
     put_labels(h, out, 8);
     normroom::put_tail(p, matrix, rights, n, t.square, out, 12 + 24 * p);
 }

@@ -3,15 +3,14 @@
 use Prim.Native.Nat.{ℕ, suc, _+_, _-_, _*_, _≤_, _<_, min}
 use mathlib.Core.Path.{_≡_, refl, sym, ap, _∙_}
 use mathlib.Core.List.{List, [], _∷_, _++_}
-use mathlib.Core.Bool.{true, false}
+use mathlib.Core.Bool.{true}
 use native.Mathlib.Omega.{arith}
-use lib.Dec.{leb}
 use lib.ListN.{length, set, length-append}
 use mir.Syntax.{w64}
 use mir.Val.{Fits, toZ, ofZ}
 use mir.ValLaws.{ofZ-toZ}
 use Rattle.whole.specs.Tests.{upTo, both}
-use Rattle.whole.proofs.Cases.{holds, fails, is-upTo, not-upTo, by-upTo, upTo-true, both-first, both-second}
+use Rattle.whole.proofs.Cases.{upTo-true, both-first, both-second}
 use Rattle.words.specs.Words.{word, signedWord, lay}
 use Rattle.words.proofs.Words.{lay-append}
 use Rattle.section.specs.Section.{encoded}
@@ -19,8 +18,8 @@ use Rattle.section.proofs.Trips.{length-encoded}
 use Rattle.sums.specs.Triangle.{tri}
 use Rattle.normwalk.specs.Walk.{stands}
 use Rattle.normwalk.proofs.Entries.{length-stands}
-use Rattle.normread.specs.Kinds.{normalLabelAt}
-use Rattle.normread.specs.Parts.{arcsAt}
+use Rattle.normheads.specs.Kinds.{normalLabelAt}
+use Rattle.normheads.specs.Heads.{arcsAt}
 use Rattle.normroom.specs.Room.{headsLong, labelNumbers, roomyFor}
 use Rattle.normunpack.specs.Parts.{labelsFrom, headsAt}
 
@@ -85,16 +84,6 @@ module _ (a p heads matrix rights : ℕ) (few-arcs : a ≤ 16) (few : p ≤ 500)
       let one : min a 16 ≡ a = omega arith in
       let two : min p 500 ≡ p = omega arith in
       rw (one, two)
-
-  pub roomy-heads : heads < headsLong a p → false ≡ roomyFor a p heads matrix rights
-  roomy-heads h = fails _ _ (not-upTo _ _ h) ∙ sym plain
-
-  module _ (h : headsLong a p ≤ heads) where
-    pub roomy-matrix : matrix < tri p → false ≡ roomyFor a p heads matrix rights
-    roomy-matrix m = holds _ _ (is-upTo _ _ h) (fails _ _ (not-upTo _ _ m)) ∙ sym plain
-
-    pub roomy-rights : tri p ≤ matrix → leb p rights ≡ roomyFor a p heads matrix rights
-    roomy-rights m = holds _ _ (is-upTo _ _ h) (holds _ _ (is-upTo _ _ m) (by-upTo p rights)) ∙ sym plain
 
   -- what room long enough is
   pub record Roomy : Type 0 where

@@ -5,7 +5,6 @@ use mathlib.Core.Path.{_≡_, refl, sym, ap, ap₂, _∙_}
 use mathlib.Core.List.{List, _++_}
 use mathlib.Core.Bool.{true, false}
 use native.Mathlib.Omega.{arith}
-use native.Mathlib.Nat.{add-zero}
 use lib.IntN.{ℤ}
 use lib.ListN.{length, drop}
 use lib.Seq.{sets, sets-eq}
@@ -21,7 +20,7 @@ use Rattle.sums.specs.Triangle.{tri}
 use Rattle.system.specs.System.{System}
 use Rattle.normwalk.specs.Walk.{stands, sumsAt}
 use Rattle.normwalk.proofs.Entries.{length-stands}
-use Rattle.normread.specs.Kinds.{normalLabelAt}
+use Rattle.normheads.specs.Kinds.{normalLabelAt}
 use Rattle.normread.specs.Normal.{Normal, readNormal, shown, toldAnswer, toldRead}
 use Rattle.normread.specs.declared.NormalRead.{NormalRead}
 use Rattle.normread.specs.declared.ReadAnswer.the-variants.{Read, Refused}
@@ -135,11 +134,11 @@ module _ (s : List ℕ) (a p m r t : ℕ) (e : readNormal s ≡ good (normalAt s
   unfolding filled headsOf over headsAt labelsFrom
   heads-left h f = lay-front h (headsAt s a p t) (omega (arith, long-heads s a p t))
 
-  pub matrix-left : (n : ℕ) → n ≡ tri p + 0 → (room : List ℤ) → tri p ≤ length room → sets room 0 (sumsAt s m n) ≡ filled matrixOf (good (normalAt s a p m r t)) room
+  pub matrix-left : (n : ℕ) → n ≡ tri p → (room : List ℤ) → tri p ≤ length room → sets room 0 (sumsAt s m n) ≡ filled matrixOf (good (normalAt s a p m r t)) room
   unfolding filled
   matrix-left n f room h =
       let long : length (sumsAt s m (tri p)) ≡ tri p = length-stands (signedWord w64 s) 8 (tri p) m in
-      ap (λ k. sets room 0 (sumsAt s m k)) (f ∙ add-zero (tri p)) ∙ sums-left (sumsAt s m (tri p)) room (omega arith)
+      ap (λ k. sets room 0 (sumsAt s m k)) f ∙ sums-left (sumsAt s m (tri p)) room (omega arith)
 
   pub rights-left : (room : List ℤ) → p ≤ length room → sets room 0 (sumsAt s r p) ≡ filled rightsOf (good (normalAt s a p m r t)) room
   unfolding filled

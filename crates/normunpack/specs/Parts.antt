@@ -6,9 +6,9 @@ use Rattle.section.specs.Section.{encoded}
 use Rattle.sums.specs.Triangle.{tri}
 use Rattle.system.specs.System.{System}
 use Rattle.normwalk.specs.Walk.{stands, sumsAt}
-use Rattle.normread.specs.Kinds.{normalLabelAt}
+use Rattle.normheads.specs.Kinds.{normalLabelAt}
 use Rattle.normread.specs.Normal.{Normal}
-use Rattle.normread.specs.Parts.{arcsAt}
+use Rattle.normheads.specs.Heads.{arcsAt}
 use Rattle.normroom.specs.Room.{labelNumbers}
 
 -- what a file of a arcs and p parameters holds whose sums and totals begin at these places

@@ -10,9 +10,9 @@ ghost use lib.Seq.{sets};
 ghost use Rattle.whole.specs.Answer.{good};
 ghost use Rattle.words.specs.Words.{lay};
 ghost use Rattle.normwalk.specs.Walk.{sumsAt};
-ghost use Rattle.normread.specs.Kinds.{normalLabelAt};
+ghost use Rattle.normheads.specs.Kinds.{normalLabelAt};
 ghost use Rattle.normread.specs.Normal.{readNormal, shown, toldRead};
-ghost use Rattle.normroom.specs.Room.{headsLong, labelNumbers, headsOf, roomyFor};
+ghost use Rattle.normroom.specs.Room.{headsLong, labelNumbers, headsOf};
 ghost use Rattle.normunpack.specs.Parts.{normalAt, labelsFrom, headsAt};
 ghost use Rattle.normunpack.specs.Unpack.{unpackNormal, filled, matrixOf, rightsOf};
 
@@ -23,11 +23,11 @@ fn fill_label(s: &[u8], at: usize, heads: &mut [u64], k: usize)
     requires { ⌜ (at + 24 ≤ length (now s)) × (k + 5 ≤ length (now heads)) ⌝ }
     ensures { λ _. ⌜ now (heads .exit) ≡ lay (now (heads .entry)) k (labelNumbers (normalLabelAt (now (s .entry)) at)) ⌝ }
 {
-    heads[k] = words::read_u16(s, at) as u64;
-    heads[k + 1] = words::read_u16(s, at + 2) as u64;
-    heads[k + 2] = words::read_u32(s, at + 4) as u64;
-    heads[k + 3] = words::read_u32(s, at + 8) as u64;
-    heads[k + 4] = words::read_u64(s, at + 16);
+    heads[k] = wordread::read_u16(s, at) as u64;
+    heads[k + 1] = wordread::read_u16(s, at + 2) as u64;
+    heads[k + 2] = wordread::read_u32(s, at + 4) as u64;
+    heads[k + 3] = wordread::read_u32(s, at + 8) as u64;
+    heads[k + 4] = wordread::read_u64(s, at + 16);
 }
 
 // The n labels that stand at a place of the file.
@@ -55,8 +55,8 @@ fn fill_heads(s: &[u8], arcs: usize, parameters: usize, totals: usize, heads: &m
     mergeheads::load_arcs(s, arcs, heads);
     fill_labels(s, 8 + 4 * arcs, parameters, heads, arcs);
     let k = arcs + 5 * parameters;
-    heads[k] = words::read_u64(s, totals);
-    heads[k + 1] = words::read_u64(s, totals + 8);
+    heads[k] = wordread::read_u64(s, totals);
+    heads[k + 1] = wordread::read_u64(s, totals + 8);
 }
 
 // ---- the sums
@@ -77,20 +77,6 @@ fn fill_sums(s: &[u8], start: usize, n: usize, out: &mut [i64])
 
 // ---- the file
 
-// Whether the rooms are long enough for a file of so many arcs and parameters.
-fn is_roomy(arcs: usize, parameters: usize, heads: usize, matrix: usize, rights: usize) -> bool
-    requires { ⌜ (arcs ≤ 16) × (parameters ≤ 500) ⌝ }
-    ensures { λ r. ⌜ r ≡ roomyFor arcs parameters heads matrix rights ⌝ }
-{
-    if arcs + 5 * parameters + 2 <= heads {
-        if sums::place(0, parameters) <= matrix {
-            return parameters <= rights;
-        }
-        return false;
-    }
-    false
-}
-
 // A file that was read, unpacked where the rooms are long enough.
 fn unpack_read(
     file: &[u8],
@@ -109,9 +95,9 @@ fn unpack_read(
     ensures { λ _. ⌜ now (matrix .exit) ≡ filled matrixOf (unpackNormal (now (file .entry)) (length (now (heads .entry))) (length (now (matrix .entry))) (length (now (rights .entry)))) (now (matrix .entry)) ⌝ }
     ensures { λ _. ⌜ now (rights .exit) ≡ filled rightsOf (unpackNormal (now (file .entry)) (length (now (heads .entry))) (length (now (matrix .entry))) (length (now (rights .entry)))) (now (rights .entry)) ⌝ }
 {
-    if is_roomy(arcs, parameters, heads.len(), matrix.len(), rights.len()) {
+    if normroom::is_roomy(arcs, parameters, heads.len(), matrix.len(), rights.len()) {
         fill_heads(file, arcs, parameters, totals, heads);
-        fill_sums(file, entries, sums::place(0, parameters), matrix);
+        fill_sums(file, entries, sums::triangle(parameters), matrix);
         fill_sums(file, sides, parameters, rights);
         NormalRead {
             answer: ReadAnswer::Read,

@@ -34,7 +34,7 @@ pub fn sum_from(s: &[u8], at: usize) -> i64
     ensures { λ r. ⌜ r ≡ signedWord w64 (now (s .entry)) at ⌝ }
 {
     let e = at + 8;
-    words::read_i64(&s[at..e], 0)
+    wordread::read_i64(&s[at..e], 0)
 }
 
 // Sum k of those that begin at a place.
@@ -212,8 +212,8 @@ pub fn first_unsound(
     requires { ⌜ (matrix + 8 * tri p ≤ length (now s)) × (rights + 8 * p ≤ length (now s)) × (totals + 16 ≤ length (now s)) ⌝ }
     ensures { λ r. ⌜ toldWhere r ≡ unsoundAt (now (s .entry)) arcs p matrix rights totals ⌝ }
 {
-    let accepted = words::read_u64(s, totals);
-    let square = words::read_u64(s, totals + 8);
+    let accepted = wordread::read_u64(s, totals);
+    let square = wordread::read_u64(s, totals + 8);
     let bound = bound_of(arcs, accepted, 288230376151711744);
     match first_entry(s, matrix, p, bound) {
         Search::At(k) => Unsound::Matrix(k),

@@ -24,7 +24,7 @@ use Rattle.normread.proofs.Accepted.{accepted-sound}
 use Rattle.normroom.specs.Room.{labelIn, systemIn, systemNumber}
 use Rattle.normjudge.specs.Judge.{Roomed}
 use Rattle.normwrite.specs.Write.{roomBytes, writeNumber, writeNormal, leftIn}
-use Rattle.normwrite.proofs.Answers.{on-written}
+use Rattle.section.proofs.Writing.{on-written}
 use Rattle.normwrite.proofs.Sound.{number-sound, sound-number}
 
 -- every element is a word of 64 bits

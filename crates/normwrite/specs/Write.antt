@@ -2,14 +2,11 @@
 -- first, since nothing can be judged of what is not there. "For 20, needed is the length of the bytes written". "A longer buffer keeps its rest.
 -- A refusal changes nothing lent."
 use Prim.Native.Nat.{ℕ}
-use mathlib.Core.List.{List, [], _∷_}
+use mathlib.Core.List.{List}
 use lib.IntN.{ℤ}
-use lib.ListN.{length}
-use Rattle.whole.specs.Tests.{less, same, pick}
 use Rattle.whole.specs.Answer.{Answered, given, refused}
-use Rattle.words.specs.Words.{lay}
 use Rattle.refusal.specs.Number.{numberOf}
-use Rattle.refusal.specs.First.{when, first, answered}
+use Rattle.section.specs.Writing.{writingNumber, written, writtenIn}
 use Rattle.normread.specs.Normal.{normalBytes}
 use Rattle.normroom.specs.Room.{systemIn, systemNumber}
 use Rattle.normwrite.specs.declared.WriteAnswer.{WriteAnswer}
@@ -21,15 +18,15 @@ roomBytes a p h m r = normalBytes (systemIn a p h m r)
 
 -- 20 for the system's room, 2, 4, 5, 6, then 20 for the bytes; 0 where nothing is wrong
 unfoldable pub writeNumber : ℕ → ℕ → List ℕ → List ℤ → List ℤ → ℕ → ℕ
-writeNumber a p h m r room = first (systemNumber a p h m r ∷ when 20 (less room (length (roomBytes a p h m r))) ∷ [])
+writeNumber a p h m r room = writingNumber (systemNumber a p h m r) (roomBytes a p h m r) room
 
 -- the length of the file, or the refusal
 unfoldable pub writeNormal : ℕ → ℕ → List ℕ → List ℤ → List ℤ → ℕ → Answered ℕ
-writeNormal a p h m r room = answered (writeNumber a p h m r room) (length (roomBytes a p h m r))
+writeNormal a p h m r room = written (systemNumber a p h m r) (roomBytes a p h m r) room
 
 -- what is left in the buffer
 unfoldable pub leftIn : ℕ → ℕ → List ℕ → List ℤ → List ℤ → List ℕ → List ℕ
-leftIn a p h m r out = pick (same (writeNumber a p h m r (length out)) 0) (lay out 0 (roomBytes a p h m r)) out
+leftIn a p h m r out = writtenIn (systemNumber a p h m r) (roomBytes a p h m r) out
 
 -- what the answer says
 abbrev pub toldWrite : WriteAnswer → Answered ℕ

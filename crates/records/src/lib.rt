@@ -21,13 +21,13 @@ pub fn decode(bytes: &[u8]) -> Record
     ensures { λ r. ⌜ r ≡ recordIn (now (bytes .entry)) ⌝ }
 {
     Record {
-        station: words::read_u16(bytes, 0),
-        sigma: words::read_u16(bytes, 2),
-        kind: words::read_u32(bytes, 4),
-        day: words::read_u32(bytes, 8),
-        ms: words::read_u32(bytes, 12),
-        observed: units::double_of_bits(words::read_u64(bytes, 16)),
-        computed: units::double_of_bits(words::read_u64(bytes, 24)),
+        station: wordread::read_u16(bytes, 0),
+        sigma: wordread::read_u16(bytes, 2),
+        kind: wordread::read_u32(bytes, 4),
+        day: wordread::read_u32(bytes, 8),
+        ms: wordread::read_u32(bytes, 12),
+        observed: units::double_of_bits(wordread::read_u64(bytes, 16)),
+        computed: units::double_of_bits(wordread::read_u64(bytes, 24)),
     }
 }
 
@@ -37,7 +37,7 @@ fn partial_at(bytes: &[u8], at: usize) -> i16
     ensures { λ r. ⌜ r ≡ signedWord w16 (now (bytes .entry)) at ⌝ }
 {
     let e = at + 2;
-    words::read_i16(&bytes[at..e], 0)
+    wordread::read_i16(&bytes[at..e], 0)
 }
 
 // Fills the room with partials that are all there: a loop that becomes one copy.
@@ -63,7 +63,7 @@ fn read_partials(bytes: &[u8], out: &mut [i16])
     let mut i: usize = 0;
     let mut at: usize = 32;
     while i < n {
-        out[i] = words::read_i16(bytes, at);
+        out[i] = wordread::read_i16(bytes, at);
         at += 2;
         i += 1;
     }

@@ -49,16 +49,9 @@ pub fn in_window(first: u32, days: u16, t: i64) -> bool
     }
 }
 
-// The size of a number.
-pub fn magnitude(x: i64) -> u64
-    ensures { λ r. ⌜ r ≡ natAbs x ⌝ }
-{
-    if x < 0 { (-1 - x) as u64 + 1 } else { x as u64 }
-}
-
 pub fn passes_edit(level: u16, s: u16, step: u64, r: i64) -> bool
     requires { ⌜ (step ≤ 256) × (natAbs r ≤ 2 ^ 41) ⌝ }
     ensures { λ t. ⌜ t ≡ passesEdit level s step r ⌝ }
 {
-    10 * magnitude(r) <= level as u64 * s as u64 * step
+    10 * signs::magnitude(r) <= level as u64 * s as u64 * step
 }

@@ -5,3 +5,4 @@ pub mod Prefix
 pub mod Chains
 pub mod Written
 pub mod Laid
+pub mod Writing

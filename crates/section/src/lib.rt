@@ -15,7 +15,7 @@ pub fn read_count(s: &[u8], at: usize, low: u32, high: u32) -> CountAnswer
     if words::left(s.len(), at) < 4 {
         return CountAnswer::Refused(Refusal::Short, s.len());
     }
-    let n = words::read_u32(s, at);
+    let n = wordread::read_u32(s, at);
     if whole::within(low as u64, n as u64, high as u64) {
         CountAnswer::Is(n as usize)
     } else {

@@ -73,20 +73,20 @@ pub fn add_matrix(sums: &mut [i64], a: &[i16], w: u32)
     }
 }
 
-// The place of row i and column j in the packed triangle.
-pub fn place(i: usize, j: usize) -> usize
-    requires { ⌜ (i ≤ j) × (j ≤ 500) ⌝ }
-    ensures { λ r. ⌜ r ≡ tri j + i ⌝ }
-{
-    j * (j + 1) / 2 + i
-}
-
 // How many matrix sums p parameters have.
 pub fn triangle(p: usize) -> usize
     requires { ⌜ p ≤ 500 ⌝ }
     ensures { λ r. ⌜ (r ≡ tri p) × (r ≤ 125250) ⌝ }
 {
     p * (p + 1) / 2
+}
+
+// The place of row i and column j in the packed triangle.
+pub fn place(i: usize, j: usize) -> usize
+    requires { ⌜ (i ≤ j) × (j ≤ 500) ⌝ }
+    ensures { λ r. ⌜ r ≡ tri j + i ⌝ }
+{
+    triangle(j) + i
 }
 
 // Whether the entry of row i and column j is one that sums cannot have.

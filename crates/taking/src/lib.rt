@@ -221,14 +221,6 @@ fn corrections_of(h: Heading) -> [i32; 16]
     a
 }
 
-// The number of matrix sums of p parameters.
-fn sums_of(p: usize) -> usize
-    requires { ⌜ p ≤ 50 ⌝ }
-    ensures { λ r. ⌜ r ≡ tri p ⌝ }
-{
-    sums::place(0, p)
-}
-
 // A record taken, the heading and the state found sound.
 fn take_sound(h: Heading, t: Tally, matrix: &mut [i64], rights: &mut [i64], bytes: &[u8]) -> Taken
     requires { ⌜ stateNumber h (stateOf (now matrix) (now rights) t) ≡ 0 ⌝ }
@@ -237,7 +229,7 @@ fn take_sound(h: Heading, t: Tally, matrix: &mut [i64], rights: &mut [i64], byte
 {
     let p = h.parameters;
     let n = h.stations;
-    let k = sums_of(p);
+    let k = sums::triangle(p);
     let numbers = numbers_of(h);
     let corrections = corrections_of(h);
     let mut room: [i16; 50] = [0; 50];
@@ -309,7 +301,7 @@ fn run_sound(
 {
     let p = h.parameters;
     let n = h.stations;
-    let k = sums_of(p);
+    let k = sums::triangle(p);
     let numbers = numbers_of(h);
     let corrections = corrections_of(h);
     let mut room: [i16; 50] = [0; 50];

@@ -6,7 +6,6 @@ use mathlib.Core.List.{List, [], _∷_}
 use mathlib.Core.Bool.{true, false}
 use native.Mathlib.Omega.{arith}
 use lib.IntN.{ℤ}
-use Rattle.whole.specs.Tests.{both}
 use Rattle.whole.specs.Answer.{given, refused}
 use Rattle.whole.proofs.Cases.{yes, no, is-same, not-same}
 use Rattle.words.specs.Words.{lay}
@@ -21,18 +20,18 @@ use Rattle.state.specs.declared.Tally.{Tally}
 use Rattle.state.proofs.Rooms.{by-given, by-refused}
 use Rattle.account.specs.Taking.{takeAnswer, takeStep, runNumber, runState, runAnswers}
 use Rattle.taking.proofs.Answers.{state-left}
-use Rattle.lent.specs.Lent.{headingIn, hasHeading, tallyBytes, hasTally}
+use Rattle.lent.specs.Lent.{headingIn, tallyBytes, hasBoth}
 use Rattle.wheloruka.specs.Taking.{Lent, lent, stateIn, lentNumber, callNumber, callLeft, answersLeft}
 
 -- ---- any call: k is the number that follows
 module _ (b : List ℕ) (x : Lent) (k : ℕ) where
-  pub number-short : both (hasHeading b) (hasTally (x .tally)) ≡ false → 20 ≡ callNumber b x k
+  pub number-short : hasBoth b (x .tally) ≡ false → 20 ≡ callNumber b x k
   unfolding callNumber lentNumber
   number-short e =
       let is : lentNumber b x ≡ 20 = unless-false 20 _ e in
       sym (first-stop _ (k ∷ []) (λ z. let w = sym is ∙ z in omega arith) ∙ is)
 
-  module _ (whole : both (hasHeading b) (hasTally (x .tally)) ≡ true) where
+  module _ (whole : hasBoth b (x .tally) ≡ true) where
     number-is : callNumber b x k ≡ k
     unfolding callNumber lentNumber
     number-is = first-pass _ (k ∷ []) (unless-true 20 _ whole) ∙ first-one k
@@ -49,10 +48,10 @@ module _ (b : List ℕ) (x : Lent) (k : ℕ) where
     unfolding callLeft
     left-kept some = no _ _ _ (not-same _ _ some) refl
 
-    pub short : both (hasHeading b) (hasTally (x .tally)) ≡ false → (20 ≡ callNumber b x k) × (x ≡ callLeft b x k s)
+    pub short : hasBoth b (x .tally) ≡ false → (20 ≡ callNumber b x k) × (x ≡ callLeft b x k s)
     short e = let is = number-short e in (is, left-kept (λ z. let w = is ∙ z in omega arith))
 
-    module _ (whole : both (hasHeading b) (hasTally (x .tally)) ≡ true) (m r : List ℤ) where
+    module _ (whole : hasBoth b (x .tally) ≡ true) (m r : List ℤ) where
       pub done : (t : List ℕ) (u : Tally) → t ≡ lay (x .tally) 0 (tallyBytes u) → given (tt {0}) ≡ answered k (tt {0}) → stateOf m r u ≡ s
           → (0 ≡ callNumber b x k) × (lent t m r ≡ callLeft b x k s)
       unfolding callLeft
@@ -85,10 +84,10 @@ module _ (h : Heading) (l : List ℕ) (room : ℕ) (s : State) (e : Refusal) (is
 
 -- ---- the answers of a run
 module _ (b l out : List ℕ) (x : Lent) where
-  pub answers-short : both (hasHeading b) (hasTally (x .tally)) ≡ false → out ≡ answersLeft b l out x
+  pub answers-short : hasBoth b (x .tally) ≡ false → out ≡ answersLeft b l out x
   unfolding answersLeft lentNumber
   answers-short e = no _ _ _ (not-same _ _ (λ z. let w = sym (unless-false 20 _ e) ∙ z in omega arith)) refl
 
-  pub answers-whole : both (hasHeading b) (hasTally (x .tally)) ≡ true → (left : List ℕ) → left ≡ runAnswers (headingIn b) l out (stateIn x) → left ≡ answersLeft b l out x
+  pub answers-whole : hasBoth b (x .tally) ≡ true → (left : List ℕ) → left ≡ runAnswers (headingIn b) l out (stateIn x) → left ≡ answersLeft b l out x
   unfolding answersLeft lentNumber
   answers-whole e left h = yes _ _ _ (is-same _ _ (unless-true 20 _ e)) h

@@ -19,7 +19,7 @@ use Rattle.normread.specs.Normal.{Normal}
 use Rattle.rooms.specs.Result.{resultNumber, resultLeft}
 use Rattle.rooms.proofs.Rooms.{roomy}
 use Rattle.lent.specs.Lent.{headingBytes}
-use Rattle.wheloruka.specs.Reading.{placeOf, roomyFor, arcRoomy, readNumber, headingLeft, placesLeft, normalValues}
+use Rattle.wheloruka.specs.Reading.{placeOf, readRoomy, arcRoomy, readNumber, headingLeft, placesLeft, normalValues}
 
 -- no file is both read and refused
 apart : {A : Type 0} {a : A} {number place : ℕ} → bad number place ≡ good a → ⊥
@@ -58,7 +58,7 @@ module _ (j : Judged Arc) (room out : List ℕ) where
     pub read-done : arcRoomy a (length room) (length out) ≡ true → {n : ℕ} {h left : List ℕ} → h ≡ lay room 0 (headingBytes (a .heading))
         → (n ≡ resultNumber (given (a .count ∷ a .start ∷ [])) (length out)) × (left ≡ resultLeft (given (a .count ∷ a .start ∷ [])) out)
         → (n ≡ readNumber j (length room) (length out)) × ((h ≡ headingLeft j room (length out)) × (left ≡ placesLeft j (length room) out))
-    unfolding readNumber headingLeft placesLeft roomyFor
+    unfolding readNumber headingLeft placesLeft readRoomy
     read-done t e put =
         let fits = roomy (a .count ∷ a .start ∷ []) out (upTo-true 2 (length out) (both-second _ _ t)) in
         rw is (put .0 ∙ sym (fits .0) ∙ sym (unless-true 20 _ t), (yes _ _ _ t e, yes _ _ _ t (put .1 ∙ sym (fits .1))))

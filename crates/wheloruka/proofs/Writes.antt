@@ -7,7 +7,7 @@ use mathlib.Core.Bool.{true, false}
 use native.Mathlib.Omega.{arith}
 use lib.IntN.{ℤ}
 use lib.ListN.{length, take, drop}
-use Rattle.whole.specs.Tests.{less, pick, both}
+use Rattle.whole.specs.Tests.{less, pick}
 use Rattle.whole.specs.Answer.{Answered, given, refused, Judged, good, bad}
 use Rattle.whole.proofs.Cases.{yes, no, by-cases}
 use Rattle.words.proofs.Words.{lay-out}
@@ -16,7 +16,7 @@ use Rattle.normread.specs.Normal as normals
 use Rattle.normread.specs.Normal.{Normal, readNormal}
 use Rattle.rooms.specs.Result.{resultNumber, resultLeft, one, roomFor, bytesLeft}
 use Rattle.rooms.proofs.Rooms.{on-given, on-refused, part-long, part-left, none-laid}
-use Rattle.lent.specs.Lent.{headingIn, hasHeading, hasTally}
+use Rattle.lent.specs.Lent.{headingIn, hasBoth}
 use Rattle.normwrite.specs.Write as write
 use Rattle.normstate.specs.OfState as state
 use Rattle.normmerge.specs.Files.{fromFile, pairLeft, mergeLeft}
@@ -84,7 +84,7 @@ list-none limit file = by-cases (less 0 _) (λ t. sym (yes _ _ _ t refl)) (λ t.
 
 -- ---- a state in lent room
 module _ (b : List ℕ) (x : Lent) where
-  module _ (whole : both (hasHeading b) (hasTally (x .tally)) ≡ true) where
+  module _ (whole : hasBoth b (x .tally) ≡ true) where
     pub file-whole : (room : ℕ) → state.fileOf (headingIn b) (stateIn x) room ≡ stateFile b x room
     unfolding stateFile
     file-whole room = yes _ _ _ whole refl
@@ -93,7 +93,7 @@ module _ (b : List ℕ) (x : Lent) where
     unfolding stateFileLeft
     left-whole out = yes _ _ _ whole refl
 
-  module _ (short : both (hasHeading b) (hasTally (x .tally)) ≡ false) where
+  module _ (short : hasBoth b (x .tally) ≡ false) where
     pub file-short : (room : ℕ) → refused 20 ≡ stateFile b x room
     unfolding stateFile
     file-short room = no _ _ _ short refl
@@ -104,4 +104,4 @@ module _ (b : List ℕ) (x : Lent) where
 
   pub state-none : stateFileLeft b x [] ≡ []
   unfolding stateFileLeft state.leftIn
-  state-none = by-cases (both (hasHeading b) (hasTally (x .tally))) (λ t. sym (yes _ _ _ t (sym (none-laid _ _)))) (λ t. sym (no _ _ _ t refl))
+  state-none = by-cases (hasBoth b (x .tally)) (λ t. sym (yes _ _ _ t (sym (none-laid _ _)))) (λ t. sym (no _ _ _ t refl))

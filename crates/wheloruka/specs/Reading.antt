@@ -19,11 +19,11 @@ placeOf (good a) = 0
 placeOf (bad number place) = place
 
 -- ---- an arc file: its heading in one room, the number of records and the first one's place in another
-unfoldable pub roomyFor : ℕ → ℕ → ℕ → ℕ → Bool
-roomyFor p t room out = both (upTo (headingLong p t) room) (upTo 2 out)
+unfoldable pub readRoomy : ℕ → ℕ → ℕ → ℕ → Bool
+readRoomy p t room out = both (upTo (headingLong p t) room) (upTo 2 out)
 
 abbrev pub arcRoomy : Arc → ℕ → ℕ → Bool
-arcRoomy a room out = roomyFor (a .heading .parameters) (a .heading .stations) room out
+arcRoomy a room out = readRoomy (a .heading .parameters) (a .heading .stations) room out
 
 -- the file's own refusal, then 20
 unfoldable pub readNumber : Judged Arc → ℕ → ℕ → ℕ

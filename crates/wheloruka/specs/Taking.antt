@@ -3,12 +3,12 @@
 use Prim.Native.Nat.{ℕ}
 use mathlib.Core.List.{List, [], _∷_}
 use lib.IntN.{ℤ}
-use Rattle.whole.specs.Tests.{same, pick, both}
+use Rattle.whole.specs.Tests.{same, pick}
 use Rattle.words.specs.Words.{lay}
 use Rattle.refusal.specs.First.{unless, first}
 use Rattle.state.specs.State.{State, stateOf, roomNumber, stateNumber, started, seenIn}
 use Rattle.account.specs.Taking.{takeAnswer, takeStep, runNumber, runState, runAnswers}
-use Rattle.lent.specs.Lent.{headingIn, hasHeading, tallyIn, tallyBytes, hasTally}
+use Rattle.lent.specs.Lent.{headingIn, tallyIn, tallyBytes, hasBoth}
 
 -- a state in lent room: the tally's bytes, the matrix sums, the right sides
 pub record Lent : Type 0 where
@@ -24,7 +24,7 @@ stateIn x = stateOf (x .matrix) (x .rights) (tallyIn (x .tally))
 
 -- 20 where the heading b or the tally is short
 unfoldable pub lentNumber : List ℕ → Lent → ℕ
-lentNumber b x = unless 20 (both (hasHeading b) (hasTally (x .tally)))
+lentNumber b x = unless 20 (hasBoth b (x .tally))
 
 -- that 20, then the number that follows
 unfoldable pub callNumber : List ℕ → Lent → ℕ → ℕ

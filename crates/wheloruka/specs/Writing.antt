@@ -2,10 +2,10 @@
 -- bytes stand in one room and their number in another, of which there must be one element.
 use Prim.Native.Nat.{ℕ, _+_, _*_}
 use mathlib.Core.List.{List}
-use Rattle.whole.specs.Tests.{pick, both}
+use Rattle.whole.specs.Tests.{pick}
 use Rattle.whole.specs.Answer.{Answered, given, refused, Judged, good, bad}
 use Rattle.rooms.specs.Result.{told, one}
-use Rattle.lent.specs.Lent.{headingIn, hasHeading, hasTally}
+use Rattle.lent.specs.Lent.{headingIn, hasBoth}
 use Rattle.normstate.specs.OfState as state
 use Rattle.normmerge.specs.Files.{Merging, written, inFile, refusing}
 use Rattle.wheloruka.specs.Taking.{Lent, stateIn}
@@ -21,10 +21,10 @@ judgedNumber (bad number place) = number
 
 -- ---- the normal file of a state in lent room: 20 where the heading or the tally is not there whole, else as for the state by value
 unfoldable pub stateFile : List ℕ → Lent → ℕ → Answered ℕ
-stateFile b x room = pick (both (hasHeading b) (hasTally (x .tally))) (state.fileOf (headingIn b) (stateIn x) room) (refused 20)
+stateFile b x room = pick (hasBoth b (x .tally)) (state.fileOf (headingIn b) (stateIn x) room) (refused 20)
 
 unfoldable pub stateFileLeft : List ℕ → Lent → List ℕ → List ℕ
-stateFileLeft b x out = pick (both (hasHeading b) (hasTally (x .tally))) (state.leftIn (headingIn b) (stateIn x) out) out
+stateFileLeft b x out = pick (hasBoth b (x .tally)) (state.leftIn (headingIn b) (stateIn x) out) out
 
 -- ---- merging: a file's own refusal plus 100 for the first and 200 for the second ("the answer names which")
 unfoldable pub mergeNumber : Merging → Answered ℕ

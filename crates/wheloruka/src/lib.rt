@@ -40,7 +40,7 @@ ghost use Rattle.wheloruka.specs.Numbers.{
 };
 ghost use Rattle.wheloruka.specs.Reading.{
   placeOf,
-  roomyFor,
+  readRoomy,
   readNumber,
   headingLeft,
   placesLeft,
@@ -173,7 +173,7 @@ pub extern "C" fn whl_double_of(kind: u32, unit: i64, out: &mut [f64]) -> u32
 // Whether there is room for a heading and for two numbers.
 fn is_roomy(parameters: usize, stations: usize, room: usize, out: usize) -> bool
     requires { ⌜ (parameters ≤ 50) × (stations ≤ 16) ⌝ }
-    ensures { λ r. ⌜ r ≡ roomyFor parameters stations room out ⌝ }
+    ensures { λ r. ⌜ r ≡ readRoomy parameters stations room out ⌝ }
 {
     if 16 + 16 * parameters + 8 * stations <= room {
         2 <= out

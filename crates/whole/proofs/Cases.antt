@@ -1,5 +1,6 @@
--- How an answer meets a definition that goes by tests: one step for each test on the way. A test's fact is (cc) where a call gave it,
--- and `is-less _ _ (omega arith)` and its like where the code compared numbers.
+-- How an answer meets a definition that goes by tests: one step for each test on the way. Where a call gave the test, its fact is the call's
+-- promise turned round and then the branch (`cc` finds it too, slowly where a large struct is in scope); where the code compared numbers, it is
+-- `is-less _ _ (omega arith)` and its like.
 -- Assumes nothing.
 use Prim.Native.Nat.{ℕ, _≤_, _<_}
 use mathlib.Core.Path.{_≡_, refl, sym, subst}

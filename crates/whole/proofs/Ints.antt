@@ -3,12 +3,11 @@
 use mathlib.Core.Path.{_≡_, refl, sym, ap, _∙_, subst}
 use mathlib.Core.Bool.{Bool, true, false, not, cond}
 use Prim.Native.Nat.{ℕ, zero, suc, _+_, _*_, _-_, _^_, _<_, _≤_, zero-le}
-use native.Mathlib.Nat.{mul-zero, mul-assoc, le-refl, mul-le-mul, lt-of-le-of-lt, le-suc, not-suc-le-zero}
+use native.Mathlib.Nat.{mul-zero, mul-assoc, le-refl, mul-le-mul, lt-of-le-of-lt, le-suc}
 use native.Mathlib.Omega.{arith}
 use lib.Dec.{T, ltb, ltb→lt, le→leb}
 use lib.IntN.{ℤ, pos, negsuc, negℤ, natAbs, subℕ, predℤ, _+ℤ_, _-ℤ_, _*ℤ_, negℤ-negℤ, sucℤ-+ℤ, predℤ-+ℤ, sucℤ-*ℤ, predℤ-*ℤ, +ℤ-assoc, +ℤ-comm, +ℤ-idl, +ℤ-invl, zero-*ℤ, *ℤ-comm}
-use lib.Signed.{mag, ltZ, nonNeg, _≤ℤ_, leZ-yes}
-use borrow.Author.Tests.{ltb-true}
+use lib.Signed.{mag, _≤ℤ_, leZ-yes}
 use mir.Syntax.{Width}
 use mir.Val.{SFits, hbits}
 
@@ -130,21 +129,3 @@ square (negsuc n) = refl
 pub square-nonneg : (z : ℤ) → pos 0 ≤ℤ (z *ℤ z)
 square-nonneg (pos n) = leZ-yes (le→leb 0 (n * n) zero-le)
 square-nonneg (negsuc n) = leZ-yes (le→leb 0 (suc n * suc n) zero-le)
-
-one-less : (n : ℕ) → negsuc 0 -ℤ negsuc n ≡ pos n
-one-less n = by-test (ltb (suc n) 1) (negsuc (1 - suc (suc n))) (pos (suc n - 1)) (λ z. z ≡ pos n) (λ t. absurd (never n (ltb→lt (suc n) 1 t))) (λ t. ap pos (less n))
-  where
-    never : (n : ℕ) → suc n < 1 → ⊥
-    never n h = omega arith
-
-    less : (n : ℕ) → suc n - 1 ≡ n
-    less n = omega arith
-
--- the bits of a negative number, and of one that is not negative, as the machine works them out
-pub flip : (z : ℤ) → ltZ z (pos 0) ≡ true → negsuc 0 -ℤ z ≡ pos (mag z)
-flip (pos n) t = absurd (not-suc-le-zero (ltb-true n 0 t))
-flip (negsuc n) t = one-less n
-
-pub above : (z : ℤ) → ltZ z (pos 0) ≡ false → T (nonNeg z)
-above (pos n) t = tt
-above (negsuc n) t = absurd (subst T t tt)

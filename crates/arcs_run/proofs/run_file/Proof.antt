@@ -15,8 +15,8 @@ slice-aggregate-put c = search needs
 put-requires : tie.Need-put-requires
 put-requires c κs = search needs
 
-load-requires : tie.Need-load-requires
-load-requires c κs = search needs
+load-path-requires : tie.Need-load-path-requires
+load-path-requires c κs = search needs
 
 slice-aggregate-put-2 : tie.Need-slice-aggregate-put-2
 slice-aggregate-put-2 c = search needs
@@ -58,7 +58,7 @@ run-file-spec =
     write-all-requires
     slice-aggregate-put
     put-requires
-    load-requires
+    load-path-requires
     slice-aggregate-put-2
     put-requires-2
     same-length

@@ -23,8 +23,8 @@ module _ (s : List ℕ) (at n : ℕ) (z : ℤ) (is : n ≡ natAbs z) where
   plain : {u : List ℕ} {m : ℕ} → ltZ z (pos 0) ≡ false → (u, m) ≡ laid s at (decimal n) → (u, m) ≡ laid s at (signedDecimal z)
   plain above f = f ∙ ap (λ x. laid s at (decimal x)) is ∙ ap (laid s at) (signed-above z above)
 
-size-requires : tie.Need-size-requires
-size-requires c κs = search needs
+magnitude-requires : tie.Need-magnitude-requires
+magnitude-requires c κs = search needs
 
 slice-aggregate-put-text : tie.Need-slice-aggregate-put-text
 slice-aggregate-put-text c = search needs
@@ -47,7 +47,7 @@ returns c =
     let a = i .before .before .before .args in
     let word = toZ-ofZ w64 (a .z) (i .before .before .before .fits .z) in
     let below : ltZ (a .z) (pos 0) ≡ true = rw word at (i .if1 .taken) in
-    negative _ (a .at) _ (a .z) (i .before .size .ensures ∙ ap natAbs word) below (c .before .before .before .before .before .before .put-text .ensures) (c .before .before .put-decimal .ensures)
+    negative _ (a .at) _ (a .z) (i .before .magnitude .ensures ∙ ap natAbs word) below (c .before .before .before .before .before .before .put-text .ensures) (c .before .before .put-decimal .ensures)
 
 same-length-2 : tie.Need-same-length-2
 same-length-2 c = search needs
@@ -58,13 +58,13 @@ returns-2 c =
     let a = i .before .before .before .args in
     let word = toZ-ofZ w64 (a .z) (i .before .before .before .fits .z) in
     let above : ltZ (a .z) (pos 0) ≡ false = rw word at (i .if1 .left) in
-    plain _ (a .at) _ (a .z) (i .before .size .ensures ∙ ap natAbs word) above (c .before .before .put-decimal2 .ensures)
+    plain _ (a .at) _ (a .z) (i .before .magnitude .ensures ∙ ap natAbs word) above (c .before .before .put-decimal2 .ensures)
 
 pub put-signed-spec : {M : Type 1} → statement M
 put-signed-spec =
     tie.close
     (tie.spec
-    size-requires
+    magnitude-requires
     slice-aggregate-put-text
     put-text-requires
     put-decimal-requires

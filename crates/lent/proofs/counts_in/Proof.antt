@@ -6,7 +6,7 @@ use mathlib.Core.Path.{_≡_, sym, _∙_}
 use lib.Seq.{sets}
 use Rattle.words.specs.Words.{word}
 use Rattle.normwalk.specs.Walk.{stands}
-use Rattle.normread.proofs.Loops.{put-end, put-turn}
+use Rattle.normheads.proofs.Loops.{put-end, put-turn}
 use Rattle.lent.proofs.Loops.{fill-whole}
 use borrow.Author.Needs.{needs}
 use Rattle.lent.proofs.counts_in.Statement.{statement}

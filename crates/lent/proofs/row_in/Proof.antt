@@ -7,7 +7,7 @@ use lib.Seq.{sets}
 use Rattle.words.specs.Words.{word}
 use Rattle.lent.specs.Lent.{rowAt}
 use Rattle.normwalk.specs.Walk.{stands}
-use Rattle.normread.proofs.Loops.{put-end, put-turn}
+use Rattle.normheads.proofs.Loops.{put-end, put-turn}
 use Rattle.lent.proofs.Loops.{fill-whole}
 use borrow.Author.Needs.{needs}
 use Rattle.lent.proofs.row_in.Statement.{statement}

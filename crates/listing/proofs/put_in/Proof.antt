@@ -8,14 +8,14 @@ use borrow.Author.Needs.{needs}
 use Rattle.listing.proofs.put_in.Statement.{statement}
 use Rattle.listing.proofs.put_in.Tie as tie
 
-place-requires : tie.Need-place-requires
-place-requires c κs = (omega arith, omega (arith, sound _ (c .before .before .before .pre .0 .0) .few))
+triangle-requires : tie.Need-triangle-requires
+triangle-requires c κs = omega (arith, sound _ (c .before .before .before .pre .0 .0) .few)
 
 slice-relend-prefix-put-run : tie.Need-slice-relend-prefix-put-run
-slice-relend-prefix-put-run c = omega (arith, c .before .place .ensures, sums-fit _ (sound _ (c .before .before .before .before .before .pre .0 .0) .few))
+slice-relend-prefix-put-run c = omega (arith, c .before .triangle .ensures .0, sums-fit _ (sound _ (c .before .before .before .before .before .pre .0 .0) .few))
 
 slice-aggregate-put-run : tie.Need-slice-aggregate-put-run
-slice-aggregate-put-run c = simp length-take (omega (arith, c .before .before .place .ensures, sums-fit _ (sound _ (c .before .before .before .before .before .before .pre .0 .0) .few)))
+slice-aggregate-put-run c = simp length-take (omega (arith, c .before .before .triangle .ensures .0, sums-fit _ (sound _ (c .before .before .before .before .before .before .pre .0 .0) .few)))
 
 slice-relend-prefix-put-run-2 : tie.Need-slice-relend-prefix-put-run-2
 slice-relend-prefix-put-run-2 c = omega (arith, sound _ (c .before .before .before .before .before .before .pre .0 .0) .few)
@@ -33,7 +33,7 @@ put-run-requires : tie.Need-put-run-requires
 put-run-requires c κs =
     let q = c .before .before .before .before .before .before .before .before .pre in
     let few = sound _ (q .0 .0) .few in
-    ((q .0 .0, q .0 .1), (simp length-take (omega (arith, c .before .before .before .before .place .ensures, sums-fit _ few)), simp length-take (omega (arith, few)), simp length-take (omega arith)))
+    ((q .0 .0, q .0 .1), (simp length-take (omega (arith, c .before .before .before .before .triangle .ensures .0, sums-fit _ few)), simp length-take (omega (arith, few)), simp length-take (omega arith)))
 
 same-length : tie.Need-same-length
 same-length c = search needs
@@ -54,7 +54,7 @@ pub put-in-spec : {M : Type 1} → statement M
 put-in-spec =
     tie.close
     (tie.spec
-    place-requires
+    triangle-requires
     slice-relend-prefix-put-run
     slice-aggregate-put-run
     slice-relend-prefix-put-run-2

@@ -2,7 +2,7 @@
 -- Assumes nothing.
 use mir.Syntax.{w64}
 use mir.ValLaws.{toZ-ofZ}
-use Rattle.normread.specs.Kinds.{normalLabelAt}
+use Rattle.normheads.specs.Kinds.{normalLabelAt}
 use borrow.Author.Needs.{needs}
 use Rattle.mergeheads.proofs.label_fields.Statement.{statement}
 use Rattle.mergeheads.proofs.label_fields.Tie as tie

@@ -7,7 +7,7 @@ use borrow.Author.Needs.{needs}
 use lib.ListN.{length, length-set}
 use Rattle.words.specs.Words.{word, lay}
 use Rattle.normwalk.specs.Walk.{stands}
-use Rattle.normread.specs.Parts.{arcsAt}
+use Rattle.normheads.specs.Heads.{arcsAt}
 use Rattle.mergeheads.proofs.Chosen.{load-start, load-end, load-turn}
 use Rattle.mergeheads.proofs.load_arcs.Statement.{statement}
 use Rattle.mergeheads.proofs.load_arcs.Tie as tie

@@ -27,14 +27,14 @@ slice-aggregate-put-2 c = search needs
 put-requires-2 : tie.Need-put-requires-2
 put-requires-2 c κs = search needs
 
-slice-reshare-prefix-load : tie.Need-slice-reshare-prefix-load
-slice-reshare-prefix-load c = search needs
+slice-reshare-prefix-load-path : tie.Need-slice-reshare-prefix-load-path
+slice-reshare-prefix-load-path c = search needs
 
-slice-aggregate-load : tie.Need-slice-aggregate-load
-slice-aggregate-load c = simp length-take (omega arith)
+slice-aggregate-load-path : tie.Need-slice-aggregate-load-path
+slice-aggregate-load-path c = simp length-take (omega arith)
 
-load-requires : tie.Need-load-requires
-load-requires c κs = search needs
+load-path-requires : tie.Need-load-path-requires
+load-path-requires c κs = search needs
 
 same-length : tie.Need-same-length
 same-length c = search needs
@@ -56,9 +56,9 @@ load-arg-spec =
     put-requires
     slice-aggregate-put-2
     put-requires-2
-    slice-reshare-prefix-load
-    slice-aggregate-load
-    load-requires
+    slice-reshare-prefix-load-path
+    slice-aggregate-load-path
+    load-path-requires
     same-length
     same-length-2
     returns)

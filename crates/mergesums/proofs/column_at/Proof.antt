@@ -8,8 +8,8 @@ use borrow.Author.Needs.{needs}
 use Rattle.mergesums.proofs.column_at.Statement.{statement}
 use Rattle.mergesums.proofs.column_at.Tie as tie
 
-place-requires : tie.Need-place-requires
-place-requires c κs = search needs
+triangle-requires : tie.Need-triangle-requires
+triangle-requires c κs = search needs
 
 mul-t6 : tie.Need-mul-t6
 mul-t6 c = omega (arith, tri-within (c .before .before .args .j) (c .before .before .args .n) (omega arith))
@@ -21,10 +21,10 @@ add-t8 : tie.Need-add-t8
 add-t8 c = search needs
 
 returns : tie.Need-returns
-returns c = column-is _ _ _ _ (c .place .ensures) (omega arith)
+returns c = column-is _ _ _ _ (c .triangle .ensures .0) (omega arith)
 
 returns-2 : tie.Need-returns-2
 returns-2 c = sym (column-none _ _ _ (omega arith))
 
 pub column-at-spec : {M : Type 1} → statement M
-column-at-spec = tie.close (tie.spec place-requires mul-t6 add-t7 add-t8 returns returns-2)
+column-at-spec = tie.close (tie.spec triangle-requires mul-t6 add-t7 add-t8 returns returns-2)

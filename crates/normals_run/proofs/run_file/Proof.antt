@@ -15,8 +15,8 @@ slice-aggregate-put c = search needs
 put-requires : tie.Need-put-requires
 put-requires c κs = search needs
 
-load-requires : tie.Need-load-requires
-load-requires c κs = search needs
+load-path-requires : tie.Need-load-path-requires
+load-path-requires c κs = search needs
 
 least-requires : tie.Need-least-requires
 least-requires c κs = search needs
@@ -43,7 +43,7 @@ run-file-spec =
     write-all-requires
     slice-aggregate-put
     put-requires
-    load-requires
+    load-path-requires
     least-requires
     slice-reshare-prefix-tell
     slice-aggregate-tell

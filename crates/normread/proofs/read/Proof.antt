@@ -1,8 +1,9 @@
 -- `normread::read` meets its contract: the arcs and labels, and then what follows them.
 -- Assumes nothing.
 use mathlib.Core.Path.{sym, ap, _∙_}
-use Rattle.normread.specs.Parts.{toldHeads}
-use Rattle.normread.proofs.Parts.{few-counts, read-refused, read-rest}
+use Rattle.normheads.specs.Heads.{toldHeads}
+use Rattle.normheads.proofs.Heads.{few-counts}
+use Rattle.normread.proofs.Parts.{read-refused, read-rest}
 use borrow.Author.Needs.{needs}
 use Rattle.normread.proofs.read.Statement.{statement}
 use Rattle.normread.proofs.read.Tie as tie

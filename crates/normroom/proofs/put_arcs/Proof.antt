@@ -12,8 +12,8 @@ use Rattle.words.specs.Words.{bytesOf, lay}
 use Rattle.words.proofs.Words.{low, length-lay}
 use Rattle.section.specs.Section.{encoded}
 use Rattle.section.proofs.Laid.{laid-none, laid-one}
-use Rattle.normread.specs.Kinds.{arcBytes}
-use Rattle.normread.proofs.Records.{length-arc}
+use Rattle.normheads.specs.Kinds.{arcBytes}
+use Rattle.normheads.proofs.Records.{length-arc}
 use Rattle.normroom.proofs.Laid.{counted-laid}
 use Rattle.normroom.proofs.put_arcs.Statement.{statement}
 use Rattle.normroom.proofs.put_arcs.Tie as tie

@@ -12,8 +12,8 @@ use Rattle.section.specs.Section.{encoded}
 use Rattle.section.proofs.Laid.{laid-none, laid-one}
 use Rattle.normwalk.specs.Walk.{stands}
 use Rattle.normwalk.proofs.Entries.{length-stands, stands-done, stands-next}
-use Rattle.normread.specs.Kinds.{normalLabelBytes}
-use Rattle.normread.proofs.Records.{length-label}
+use Rattle.normheads.specs.Kinds.{normalLabelBytes}
+use Rattle.normheads.proofs.Records.{length-label}
 use Rattle.normroom.specs.Room.{labelIn}
 use Rattle.normroom.proofs.Laid.{counted-laid}
 use Rattle.normroom.proofs.put_labels.Statement.{statement}

@@ -15,8 +15,8 @@ use Rattle.section.proofs.Laid.{laid-none, laid-one}
 use lib.IntN.{pos}
 use mir.Syntax.{w64}
 use mir.ValLaws.{toZ-ofZ}
-use Rattle.normread.specs.Kinds.{sumBytes}
-use Rattle.normread.proofs.Records.{length-sum}
+use Rattle.normheads.specs.Kinds.{sumBytes}
+use Rattle.normheads.proofs.Records.{length-sum}
 use Rattle.normroom.proofs.Laid.{counted-laid}
 use Rattle.normroom.proofs.put_sums.Statement.{statement}
 use Rattle.normroom.proofs.put_sums.Tie as tie

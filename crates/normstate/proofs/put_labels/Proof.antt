@@ -14,8 +14,8 @@ use Rattle.section.specs.Section.{encoded}
 use Rattle.section.proofs.Laid.{laid-none, laid-one}
 use Rattle.limits.specs.Limits.{noLabel}
 use Rattle.heading.specs.Judge.{labelsOf}
-use Rattle.normread.specs.Kinds.{normalLabelBytes}
-use Rattle.normread.proofs.Records.{length-label}
+use Rattle.normheads.specs.Kinds.{normalLabelBytes}
+use Rattle.normheads.proofs.Records.{length-label}
 use Rattle.normroom.proofs.Laid.{counted-laid}
 use Rattle.normstate.proofs.Laid.{labels-long}
 use Rattle.normstate.specs.OfState.{labelOf}

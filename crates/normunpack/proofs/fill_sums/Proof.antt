@@ -11,7 +11,7 @@ use mir.Syntax.{w64}
 use mir.ValLaws.{toZ-ofZ}
 use Rattle.words.specs.Words.{signedWord}
 use Rattle.normwalk.specs.Walk.{sumsAt}
-use Rattle.normread.proofs.Loops.{put-end, put-turn}
+use Rattle.normheads.proofs.Loops.{put-end, put-turn}
 use Rattle.normunpack.proofs.fill_sums.Statement.{statement}
 use Rattle.normunpack.proofs.fill_sums.Tie as tie
 

@@ -21,16 +21,16 @@ room : (c : tie.Then1) → Roomy (c .before .before .before .before .args .arcs)
 room c = roomy _ _ _ _ _ _ _ (sym (c .before .is-roomy .ensures) ∙ c .if1 .taken)
 
 is-roomy-requires : tie.Need-is-roomy-requires
-is-roomy-requires c κs = (few (c .before .before) .few-arcs, few (c .before .before) .few)
+is-roomy-requires c κs = search needs
 
 fill-heads-requires : tie.Need-fill-heads-requires
 fill-heads-requires c κs = ((few (c .before .before .before .before .before) .labels-end, few (c .before .before .before .before .before) .totals-end), room (c .before) .heads-fit)
 
-place-requires : tie.Need-place-requires
-place-requires c κs = (search needs, few (c .before .before .before .before .before .before .before .before) .few)
+triangle-requires : tie.Need-triangle-requires
+triangle-requires c κs = few (c .before .before .before .before .before .before .before .before) .few
 
 fill-sums-requires : tie.Need-fill-sums-requires
-fill-sums-requires c κs = (omega (arith, c .before .place .ensures, few (c .before .before .before .before .before .before .before .before .before .before) .matrix-end), omega (arith, c .before .place .ensures, room (c .before .before .before .before .before .before) .matrix-fits))
+fill-sums-requires c κs = (omega (arith, c .before .triangle .ensures .0, few (c .before .before .before .before .before .before .before .before .before .before) .matrix-end), omega (arith, c .before .triangle .ensures .0, room (c .before .before .before .before .before .before) .matrix-fits))
 
 fill-sums-requires-2 : tie.Need-fill-sums-requires-2
 fill-sums-requires-2 c κs = (few (c .before .before .before .before .before .before .before .before .before .before .before .before .before) .rights-end, room (c .before .before .before .before .before .before .before .before .before) .rights-fit)
@@ -53,7 +53,7 @@ returns c =
       (
         c .before .before .before .before .before .before .before .before .before .fill-heads .ensures ∙ heads-left _ _ _ _ _ _ (s .pre) _ (k .heads-fit) ∙ ap (λ j. filled headsOf j (s .args .heads .now)) (sym e),
         (
-          c .before .before .before .before .fill-sums .ensures ∙ matrix-left _ _ _ _ _ _ (s .pre) _ (c .before .before .before .before .before .before .place .ensures) _ (k .matrix-fits) ∙ ap (λ j. filled matrixOf j (s .args .matrix .now)) (sym e),
+          c .before .before .before .before .fill-sums .ensures ∙ matrix-left _ _ _ _ _ _ (s .pre) _ (c .before .before .before .before .before .before .triangle .ensures .0) _ (k .matrix-fits) ∙ ap (λ j. filled matrixOf j (s .args .matrix .now)) (sym e),
           c .before .fill-sums2 .ensures ∙ rights-left _ _ _ _ _ _ (s .pre) _ (k .rights-fit) ∙ ap (λ j. filled rightsOf j (s .args .rights .now)) (sym e),
         ),
       ),
@@ -71,7 +71,7 @@ unpack-read-spec =
     (tie.spec
     is-roomy-requires
     fill-heads-requires
-    place-requires
+    triangle-requires
     fill-sums-requires
     fill-sums-requires-2
     same-length

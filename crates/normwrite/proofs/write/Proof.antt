@@ -12,7 +12,7 @@ use Rattle.heading.specs.Judge.{toldVerdict}
 use Rattle.normroom.specs.Room.{systemNumber}
 use Rattle.normroom.specs.Bytes.{fileLong}
 use Rattle.normwrite.specs.Write.{roomBytes, writeNumber, writeNormal, leftIn}
-use Rattle.normwrite.proofs.Answers.{on-refused, on-short, on-written}
+use Rattle.section.proofs.Writing.{on-refused, on-short, on-written}
 use Rattle.normwrite.proofs.Sound.{Written, number-sound, room-long}
 use Rattle.normwrite.proofs.write.Statement.{statement}
 use Rattle.normwrite.proofs.write.Tie as tie

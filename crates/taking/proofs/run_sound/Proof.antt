@@ -19,7 +19,7 @@ use Rattle.taking.proofs.run_sound.Statement.{statement}
 use Rattle.taking.proofs.run_sound.Tie as tie
 
 -- what was handed in: a heading and a state found sound, in arrays that are whole
-handed : (c : tie.After-sums-of) → let a = c .before .before .before .args in Handed (a .h) (stateOf (a .matrix .now) (a .rights .now) (a .t))
+handed : (c : tie.After-triangle) → let a = c .before .before .before .args in Handed (a .h) (stateOf (a .matrix .now) (a .rights .now) (a .t))
 handed c =
     let g = c .before .before .before .good in
     record {
@@ -35,8 +35,8 @@ numbers-long c = ap length (c .numbers-of .ensures) ∙ numbers-16 (c .before .b
 corrections-long : (c : tie.After-corrections-of) → length (c .corrections-of .result) ≡ 16
 corrections-long c = ap length (c .corrections-of .ensures) ∙ corrections-16 (c .before .before .before .before .before .args .h) (handed (c .before .before) .listed)
 
-sums-of-requires : tie.Need-sums-of-requires
-sums-of-requires c κs = let a = c .before .before .args in few-parameters (a .h) (stateOf (a .matrix .now) (a .rights .now) (a .t)) (whole-run (a .h) (a .run .now) (length (a .out .now)) (stateOf (a .matrix .now) (a .rights .now) (a .t)) (c .before .before .pre) .state)
+triangle-requires : tie.Need-triangle-requires
+triangle-requires c κs = let a = c .before .before .args in omega (arith, few-parameters (a .h) (stateOf (a .matrix .now) (a .rights .now) (a .t)) (whole-run (a .h) (a .run .now) (length (a .out .now)) (stateOf (a .matrix .now) (a .rights .now) (a .t)) (c .before .before .pre) .state))
 
 numbers-of-requires : tie.Need-numbers-of-requires
 numbers-of-requires c κs = search needs
@@ -57,10 +57,10 @@ slice-aggregate-take-all-2 : tie.Need-slice-aggregate-take-all-2
 slice-aggregate-take-all-2 c = sym (length-take-le _ _ (omega (arith, stations-few (c .before .before .before .before .before .before .before .args .h) (stateOf (c .before .before .before .before .before .before .before .args .matrix .now) (c .before .before .before .before .before .before .before .args .rights .now) (c .before .before .before .before .before .before .before .args .t)) (handed (c .before .before .before .before)), corrections-long (c .before .before))))
 
 slice-relend-prefix-take-all : tie.Need-slice-relend-prefix-take-all
-slice-relend-prefix-take-all c = rw (c .before .before .before .before .sums-of .ensures) (matrix-room (c .before .before .before .before .before .before .before .args .h) (stateOf (c .before .before .before .before .before .before .before .args .matrix .now) (c .before .before .before .before .before .before .before .args .rights .now) (c .before .before .before .before .before .before .before .args .t)) (handed (c .before .before .before .before)))
+slice-relend-prefix-take-all c = rw (c .before .before .before .before .triangle .ensures .0) (matrix-room (c .before .before .before .before .before .before .before .args .h) (stateOf (c .before .before .before .before .before .before .before .args .matrix .now) (c .before .before .before .before .before .before .before .args .rights .now) (c .before .before .before .before .before .before .before .args .t)) (handed (c .before .before .before .before)))
 
 slice-aggregate-take-all-3 : tie.Need-slice-aggregate-take-all-3
-slice-aggregate-take-all-3 c = sym (length-take-le _ _ (rw (c .before .before .before .before .before .sums-of .ensures) (matrix-room (c .before .before .before .before .before .before .before .before .args .h) (stateOf (c .before .before .before .before .before .before .before .before .args .matrix .now) (c .before .before .before .before .before .before .before .before .args .rights .now) (c .before .before .before .before .before .before .before .before .args .t)) (handed (c .before .before .before .before .before)))))
+slice-aggregate-take-all-3 c = sym (length-take-le _ _ (rw (c .before .before .before .before .before .triangle .ensures .0) (matrix-room (c .before .before .before .before .before .before .before .before .args .h) (stateOf (c .before .before .before .before .before .before .before .before .args .matrix .now) (c .before .before .before .before .before .before .before .before .args .rights .now) (c .before .before .before .before .before .before .before .before .args .t)) (handed (c .before .before .before .before .before)))))
 
 slice-relend-prefix-take-all-2 : tie.Need-slice-relend-prefix-take-all-2
 slice-relend-prefix-take-all-2 c = rights-room (c .before .before .before .before .before .before .before .before .args .h) (stateOf (c .before .before .before .before .before .before .before .before .args .matrix .now) (c .before .before .before .before .before .before .before .before .args .rights .now) (c .before .before .before .before .before .before .before .before .args .t)) (handed (c .before .before .before .before .before))
@@ -81,7 +81,7 @@ take-all-requires c κs =
     let v = handed (c .before .before .before .before .before .before .before .before) in
     let w = whole-run (a .h) (a .run .now) (length (a .out .now)) s (c .before .before .before .before .before .before .before .before .before .before .before .pre) in
     let n : length (a .run .now) / recordSize (a .h .parameters) ≤ length (a .out .now) = subst (λ z. z ≤ length (a .out .now)) (whole-are (a .h) (a .run .now) (parameters-few (a .h) s v)) (w .roomy) in (
-      (rw (c .before .before .before .before .before .before .before .numbers-of .ensures, c .before .before .before .before .before .before .corrections-of .ensures, c .before .before .before .before .before .before .before .before .sums-of .ensures) (prepared (a .h) s v), length-take-le _ _ (parameters-few (a .h) s v) ∙ sym (rights-long (a .h) s v)),
+      (rw (c .before .before .before .before .before .before .before .numbers-of .ensures, c .before .before .before .before .before .before .corrections-of .ensures, c .before .before .before .before .before .before .before .before .triangle .ensures .0) (prepared (a .h) s v), length-take-le _ _ (parameters-few (a .h) s v) ∙ sym (rights-long (a .h) s v)),
       subst (λ z. length (a .run .now) / recordSize z ≤ length (a .out .now)) (sym (rights-long (a .h) s v)) n,
     )
 
@@ -101,10 +101,10 @@ returns c =
     let s = stateOf (a .matrix .now) (a .rights .now) (a .t) in
     let v = handed (c .before .before .before .before .before .before .before .before .before .before .before .before .before .before) in
     let f = (λ i. frame (a .h .settings) (length (take (a .h .parameters) (a .rights .now))) (take (a .h .stations) (c .before .before .before .before .before .before .before .before .before .before .before .before .before .numbers-of .ensures i)) (take (a .h .stations) (c .before .before .before .before .before .before .before .before .before .before .before .before .corrections-of .ensures i))) ∙ frame-is (a .h) s v in
-    let p : stateOf (take (c .before .before .before .before .before .before .before .before .before .before .before .before .before .before .sums-of .result) (a .matrix .now)) (take (a .h .parameters) (a .rights .now)) (a .t) ≡ part (a .h) s v = λ i. stateOf (take (c .before .before .before .before .before .before .before .before .before .before .before .before .before .before .sums-of .ensures i) (a .matrix .now)) (take (a .h .parameters) (a .rights .now)) (a .t) in
+    let p : stateOf (take (c .before .before .before .before .before .before .before .before .before .before .before .before .before .before .triangle .result) (a .matrix .now)) (take (a .h .parameters) (a .rights .now)) (a .t) ≡ part (a .h) s v = λ i. stateOf (take (c .before .before .before .before .before .before .before .before .before .before .before .before .before .before .triangle .ensures .0 i) (a .matrix .now)) (take (a .h .parameters) (a .rights .now)) (a .t) in
     let e = c .before .before .before .before .before .before .before .before .before .before .before .before .before .before .before .before .before .pre in
     let bs = records-are (a .h) (a .run .now) (parameters-few (a .h) s v) in (
-      (λ i. stateOf (c .before .before .before .before .before .take-all .last .1 .1 .1 .1 .0 ++ drop (c .before .before .before .before .before .before .before .before .before .before .before .before .before .before .sums-of .ensures i) (a .matrix .now)) (c .before .before .before .before .before .take-all .last .1 .1 .1 .1 .1 .0 ++ drop (a .h .parameters) (a .rights .now)) (c .before .before .before .before .before .take-all .result))
+      (λ i. stateOf (c .before .before .before .before .before .take-all .last .1 .1 .1 .1 .0 ++ drop (c .before .before .before .before .before .before .before .before .before .before .before .before .before .before .triangle .ensures .0 i) (a .matrix .now)) (c .before .before .before .before .before .take-all .last .1 .1 .1 .1 .1 .0 ++ drop (a .h .parameters) (a .rights .now)) (c .before .before .before .before .before .take-all .result))
           ∙ run-back (a .h) s v (recordsIn (a .h) (a .run .now)) _ _ _ (c .before .before .before .before .before .take-all .ensures .0 ∙ ap₂ (λ g u. runBy g u (a .run .now)) f p ∙ ap (run (recordStep (frameOf (a .h))) (part (a .h) s v)) (sym bs))
           ∙ sym (state-taken (a .h) (a .run .now) (length (a .out .now)) s e),
       c .before .before .before .before .before .take-all .ensures .1 ∙ ap₂ (λ g u. lay (a .out .now) 0 (answersBy g u (a .run .now))) f p
@@ -117,7 +117,7 @@ pub run-sound-spec : {M : Type 1} → statement M
 run-sound-spec =
     tie.close
     (tie.spec
-    sums-of-requires
+    triangle-requires
     numbers-of-requires
     corrections-of-requires
     array-share-prefix-numbers

@@ -14,7 +14,7 @@ use Rattle.taking.proofs.take_sound.Statement.{statement}
 use Rattle.taking.proofs.take_sound.Tie as tie
 
 -- what was handed in: a heading and a state found sound, in arrays that are whole
-handed : (c : tie.After-sums-of) → let a = c .before .before .args in Handed (a .h) (stateOf (a .matrix .now) (a .rights .now) (a .t))
+handed : (c : tie.After-triangle) → let a = c .before .before .args in Handed (a .h) (stateOf (a .matrix .now) (a .rights .now) (a .t))
 handed c =
     let g = c .before .before .good in
     record {
@@ -30,8 +30,8 @@ numbers-long c = ap length (c .numbers-of .ensures) ∙ numbers-16 (c .before .b
 corrections-long : (c : tie.After-corrections-of) → length (c .corrections-of .result) ≡ 16
 corrections-long c = ap length (c .corrections-of .ensures) ∙ corrections-16 (c .before .before .before .before .args .h) (handed (c .before .before) .listed)
 
-sums-of-requires : tie.Need-sums-of-requires
-sums-of-requires c κs = let a = c .before .args in few-parameters (a .h) (stateOf (a .matrix .now) (a .rights .now) (a .t)) (c .before .pre)
+triangle-requires : tie.Need-triangle-requires
+triangle-requires c κs = let a = c .before .args in omega (arith, few-parameters (a .h) (stateOf (a .matrix .now) (a .rights .now) (a .t)) (c .before .pre))
 
 numbers-of-requires : tie.Need-numbers-of-requires
 numbers-of-requires c κs = search needs
@@ -52,10 +52,10 @@ slice-aggregate-take-record-2 : tie.Need-slice-aggregate-take-record-2
 slice-aggregate-take-record-2 c = sym (length-take-le _ _ (omega (arith, stations-few (c .before .before .before .before .before .before .args .h) (stateOf (c .before .before .before .before .before .before .args .matrix .now) (c .before .before .before .before .before .before .args .rights .now) (c .before .before .before .before .before .before .args .t)) (handed (c .before .before .before .before)), corrections-long (c .before .before))))
 
 slice-relend-prefix-take-record : tie.Need-slice-relend-prefix-take-record
-slice-relend-prefix-take-record c = rw (c .before .before .before .before .sums-of .ensures) (matrix-room (c .before .before .before .before .before .before .args .h) (stateOf (c .before .before .before .before .before .before .args .matrix .now) (c .before .before .before .before .before .before .args .rights .now) (c .before .before .before .before .before .before .args .t)) (handed (c .before .before .before .before)))
+slice-relend-prefix-take-record c = rw (c .before .before .before .before .triangle .ensures .0) (matrix-room (c .before .before .before .before .before .before .args .h) (stateOf (c .before .before .before .before .before .before .args .matrix .now) (c .before .before .before .before .before .before .args .rights .now) (c .before .before .before .before .before .before .args .t)) (handed (c .before .before .before .before)))
 
 slice-aggregate-take-record-3 : tie.Need-slice-aggregate-take-record-3
-slice-aggregate-take-record-3 c = sym (length-take-le _ _ (rw (c .before .before .before .before .before .sums-of .ensures) (matrix-room (c .before .before .before .before .before .before .before .args .h) (stateOf (c .before .before .before .before .before .before .before .args .matrix .now) (c .before .before .before .before .before .before .before .args .rights .now) (c .before .before .before .before .before .before .before .args .t)) (handed (c .before .before .before .before .before)))))
+slice-aggregate-take-record-3 c = sym (length-take-le _ _ (rw (c .before .before .before .before .before .triangle .ensures .0) (matrix-room (c .before .before .before .before .before .before .before .args .h) (stateOf (c .before .before .before .before .before .before .before .args .matrix .now) (c .before .before .before .before .before .before .before .args .rights .now) (c .before .before .before .before .before .before .before .args .t)) (handed (c .before .before .before .before .before)))))
 
 slice-relend-prefix-take-record-2 : tie.Need-slice-relend-prefix-take-record-2
 slice-relend-prefix-take-record-2 c = rights-room (c .before .before .before .before .before .before .before .args .h) (stateOf (c .before .before .before .before .before .before .before .args .matrix .now) (c .before .before .before .before .before .before .before .args .rights .now) (c .before .before .before .before .before .before .before .args .t)) (handed (c .before .before .before .before .before))
@@ -74,7 +74,7 @@ take-record-requires c κs =
     let a = c .before .before .before .before .before .before .before .before .before .args in
     let s = stateOf (a .matrix .now) (a .rights .now) (a .t) in
     let v = handed (c .before .before .before .before .before .before .before) in
-    (rw (c .before .before .before .before .before .before .numbers-of .ensures, c .before .before .before .before .before .corrections-of .ensures, c .before .before .before .before .before .before .before .sums-of .ensures) (prepared (a .h) s v), length-take-le _ _ (parameters-few (a .h) s v) ∙ sym (rights-long (a .h) s v))
+    (rw (c .before .before .before .before .before .before .numbers-of .ensures, c .before .before .before .before .before .corrections-of .ensures, c .before .before .before .before .before .before .before .triangle .ensures .0) (prepared (a .h) s v), length-take-le _ _ (parameters-few (a .h) s v) ∙ sym (rights-long (a .h) s v))
 
 same-length : tie.Need-same-length
 same-length c = search needs
@@ -88,9 +88,9 @@ returns c =
     let s = stateOf (a .matrix .now) (a .rights .now) (a .t) in
     let v = handed (c .before .before .before .before .before .before .before .before .before .before .before) in
     let f = (λ i. frame (a .h .settings) (length (take (a .h .parameters) (a .rights .now))) (take (a .h .stations) (c .before .before .before .before .before .before .before .before .before .before .numbers-of .ensures i)) (take (a .h .stations) (c .before .before .before .before .before .before .before .before .before .corrections-of .ensures i))) ∙ frame-is (a .h) s v in
-    let p : stateOf (take (c .before .before .before .before .before .before .before .before .before .before .before .sums-of .result) (a .matrix .now)) (take (a .h .parameters) (a .rights .now)) (a .t) ≡ part (a .h) s v = λ i. stateOf (take (c .before .before .before .before .before .before .before .before .before .before .before .sums-of .ensures i) (a .matrix .now)) (take (a .h .parameters) (a .rights .now)) (a .t) in (
+    let p : stateOf (take (c .before .before .before .before .before .before .before .before .before .before .before .triangle .result) (a .matrix .now)) (take (a .h .parameters) (a .rights .now)) (a .t) ≡ part (a .h) s v = λ i. stateOf (take (c .before .before .before .before .before .before .before .before .before .before .before .triangle .ensures .0 i) (a .matrix .now)) (take (a .h .parameters) (a .rights .now)) (a .t) in (
       c .before .before .before .take-record .ensures .0 ∙ ap₂ (λ g u. answered (recordAnswer g (a .bytes .now) u) tt) f p ∙ ap (λ k. answered k tt) (answer-back (a .h) s v (a .bytes .now)),
-      (λ i. stateOf (c .before .before .before .take-record .last .1 .1 .1 .1 .0 ++ drop (c .before .before .before .before .before .before .before .before .before .before .before .sums-of .ensures i) (a .matrix .now)) (c .before .before .before .take-record .last .1 .1 .1 .1 .1 .0 ++ drop (a .h .parameters) (a .rights .now)) (c .before .before .before .take-record .result .tally))
+      (λ i. stateOf (c .before .before .before .take-record .last .1 .1 .1 .1 .0 ++ drop (c .before .before .before .before .before .before .before .before .before .before .before .triangle .ensures .0 i) (a .matrix .now)) (c .before .before .before .take-record .last .1 .1 .1 .1 .1 .0 ++ drop (a .h .parameters) (a .rights .now)) (c .before .before .before .take-record .result .tally))
           ∙ step-back (a .h) s v (a .bytes .now) _ _ _ (c .before .before .before .take-record .ensures .1 ∙ ap₂ (λ g u. recordStep g (a .bytes .now) u) f p),
     )
 
@@ -98,7 +98,7 @@ pub take-sound-spec : {M : Type 1} → statement M
 take-sound-spec =
     tie.close
     (tie.spec
-    sums-of-requires
+    triangle-requires
     numbers-of-requires
     corrections-of-requires
     array-share-prefix-numbers

@@ -2,7 +2,7 @@
 -- Assumes nothing.
 use native.Mathlib.Omega.{arith}
 use Rattle.whole.proofs.Cases.{holds, fails, is-upTo, not-upTo, by-upTo}
-use Rattle.wheloruka.specs.Reading.{roomyFor}
+use Rattle.wheloruka.specs.Reading.{readRoomy}
 use borrow.Author.Needs.{needs}
 use Rattle.wheloruka.proofs.is_roomy.Statement.{statement}
 use Rattle.wheloruka.proofs.is_roomy.Tie as tie
@@ -20,11 +20,11 @@ add-if1-2 : tie.Need-add-if1-2
 add-if1-2 c = search needs
 
 returns : tie.Need-returns
-unfolding roomyFor
+unfolding readRoomy
 returns c = holds _ _ (is-upTo _ _ (omega arith)) (by-upTo _ _)
 
 returns-2 : tie.Need-returns-2
-unfolding roomyFor
+unfolding readRoomy
 returns-2 c = fails _ _ (not-upTo _ _ (omega arith))
 
 pub is-roomy-spec : {M : Type 1} → statement M

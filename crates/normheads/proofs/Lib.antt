@@ -1,0 +1,4 @@
+pub mod Loops
+pub mod Labels
+pub mod Records
+pub mod Heads
