@@ -22,20 +22,21 @@ use Rattle.refusal.specs.First.{numberIn, first, valueOr}
 use Rattle.refusal.proofs.Firsts.{first-none-left, first-none, first-pass, when-none, unless-none}
 use Rattle.words.specs.Words.{word, signedWord}
 use Rattle.heading.specs.Judge.{findFrom}
-use Rattle.arcread.specs.Kinds.{recordSize}
-use Rattle.units.specs.Types.{isType, rowOf}
-use Rattle.units.specs.Units.{residualBy, residualOf}
-use Rattle.units.specs.declared.Row.{Row}
-use Rattle.units.proofs.Rows.{by-rows}
-use Rattle.units.proofs.Turns.{residual-small}
+use Rattle.arckinds.specs.Kinds.{recordSize}
+use Rattle.types.specs.Types.{isType, rowOf}
+use Rattle.types.specs.declared.Row.{Row}
+use Rattle.types.proofs.Rows.{by-rows}
+use Rattle.residuals.specs.Residuals.{residualBy, residualOf}
+use Rattle.residuals.proofs.Sizes.{residual-small}
 use Rattle.rules.specs.Rules.{sigmaOk, weightOf, clockOk, inWindow, passesEdit}
 use Rattle.rules.proofs.Bounds.{weight-low, weight-high, scaled-bound, weighted-bound, square-bound}
 use Rattle.sums.specs.Triangle.{times, tri, columns}
 use Rattle.sums.proofs.Entries.{times-at, triangle-at, times-within, triangle-within}
 use Rattle.records.specs.Record.{recordIn, partialsFrom, partialsIn}
 use Rattle.records.proofs.Fills.{length-partials}
-use Rattle.state.specs.State.{State, countOf, lastTimes}
-use Rattle.state.specs.declared.Tally.{Tally}
+use Rattle.tally.specs.Tally.{countOf, lastTimes}
+use Rattle.tally.specs.declared.Tally.{Tally}
+use Rattle.state.specs.State.{State}
 use Rattle.account.specs.Taking.{Frame, stationIn, placeOf, momentOf, stamp, columnOf, residualIn, residual, scaled, weightIn, lengthTests, recordTests, stationTests, judgedBy, recordNumber, recordAnswer, matrixTerms, rightTerms, squareTerm}
 
 -- ---- a record that fits: nothing but the tally is left to be asked

@@ -17,7 +17,8 @@ use Rattle.heading.specs.Judge.{stationsOf, numbersOf, judged}
 use Rattle.heading.specs.declared.Heading.{Heading}
 use Rattle.heading.proofs.Sound.{Sound, sound as sound-heading}
 use Rattle.sums.specs.Triangle.{tri}
-use Rattle.state.specs.State.{State, stateOf, capped, cleared, emptyTally, soundState, roomy, roomNumber, stateNumber, started}
+use Rattle.tally.specs.Tally.{emptyTally}
+use Rattle.state.specs.State.{State, stateOf, capped, cleared, soundState, roomy, roomNumber, stateNumber, started}
 use Rattle.account.specs.Machine.{run, answers}
 use Rattle.account.specs.Taking.{frameOf, recordAnswer, recordStep, book, takeAnswer, takeStep}
 use Rattle.account.proofs.Kept.{Fine, Shaped, shaped-step, kept-step-in, empty-sound, length-cleared}

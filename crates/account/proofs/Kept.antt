@@ -20,9 +20,11 @@ use Rattle.sums.specs.Sound.{entry}
 use Rattle.sums.proofs.Lists.{tri-within}
 use Rattle.sums.proofs.Entries.{all-within}
 use Rattle.records.specs.Record.{partialsIn}
-use Rattle.state.specs.State.{State, stateOf, noRow, countOf, lastTimes, rowWith, tallyWith, emptyTally, cleared, sumOf, accepted, soundState}
-use Rattle.state.specs.declared.Row.{Row}
-use Rattle.state.proofs.Judged.{sum-le}
+use Rattle.counts.specs.Counts.{sumOf}
+use Rattle.counts.proofs.Totals.{sum-le}
+use Rattle.tally.specs.Tally.{noRow, countOf, lastTimes, rowWith, tallyWith, emptyTally, accepted}
+use Rattle.tally.specs.declared.Row.{Row}
+use Rattle.state.specs.State.{State, stateOf, cleared, soundState}
 use Rattle.account.specs.Taking.{Frame, placeOf, stamp, columnOf, scaled, weightIn, matrixTerms, rightTerms, book, recordAnswer, recordStep}
 use Rattle.account.proofs.Accepted.{accepted-in, terms, matrix-at, right-at}
 use Rattle.account.proofs.Parts.{Good, good, sound}

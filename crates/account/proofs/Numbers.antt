@@ -10,7 +10,7 @@ use Rattle.whole.specs.Answer.{given, refused}
 use Rattle.whole.proofs.Cases.{by-cases, same-true, same-false}
 use Rattle.refusal.specs.First.{when, unless, numberIn, first}
 use Rattle.refusal.proofs.Firsts.{when-true, when-false, unless-true, unless-false, first-pass, first-stop}
-use Rattle.units.specs.Units.{residualOf, residualBy}
+use Rattle.residuals.specs.Residuals.{residualOf, residualBy}
 use Rattle.state.specs.State.{State}
 use Rattle.account.specs.Taking.{Frame, stationIn, residualIn, lengthTests, recordTests, stationTests, judgedBy, recordNumber, recordAnswer}
 use Rattle.account.specs.Mix.{Each}

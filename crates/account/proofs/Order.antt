@@ -15,9 +15,10 @@ use Rattle.whole.proofs.Cases.{by-cases, is-same, same-true, same-false, yes, n
 use Rattle.whole.proofs.Adding.{plus-comm}
 use Rattle.refusal.specs.First.{numberIn, first, valueOr}
 use Rattle.refusal.proofs.Firsts.{first-none, first-pass, first-stop}
-use Rattle.arcread.specs.Kinds.{recordSize}
+use Rattle.arckinds.specs.Kinds.{recordSize}
 use Rattle.heading.specs.declared.Heading.{Heading}
-use Rattle.state.specs.State.{State, noRow, countOf, lastTimes, rowWith, tallyWith, roomNumber, started}
+use Rattle.tally.specs.Tally.{noRow, countOf, lastTimes, rowWith, tallyWith}
+use Rattle.state.specs.State.{State, roomNumber, started}
 use Rattle.account.specs.Machine.{run}
 use Rattle.account.specs.Taking.{Frame, frameOf, stationIn, placeOf, stamp, columnOf, lengthTests, recordTests, judgedBy, recordNumber, recordAnswer, recordStep, matrixTerms, rightTerms, squareTerm, book}
 use Rattle.account.specs.Mix.{keep, pairs, only, inOrder, told, toldTo}

@@ -15,7 +15,9 @@ use Rattle.whole.specs.Lists.{all}
 use Rattle.whole.proofs.Cases.{apart, by-cases, holds, at-once, at-last, not-less, less-false, is-upTo, upTo-true, both-first, both-second, yes, no}
 use Rattle.whole.proofs.Tables.{below-at, below-every}
 use Rattle.sums.specs.Sound.{entry, isZero, breaks, breaksSide}
-use Rattle.state.specs.State.{State, countOf, lastTimes, accepted, matrixTop, rightTop, squareTop, countsSound, rowsSound, tallySound, matrixSound, rightsSound, soundState}
+use Rattle.counts.specs.Counts.{countsSound}
+use Rattle.tally.specs.Tally.{countOf, lastTimes, accepted, squareTop, rowsSound, tallySound}
+use Rattle.state.specs.State.{State, matrixTop, rightTop, matrixSound, rightsSound, soundState}
 
 -- ---- one sum
 -- the judge's two tests of a bound

@@ -6,7 +6,8 @@ use lib.IntN.{ℤ}
 use Rattle.heading.specs.Judge.{numbersOf}
 use Rattle.heading.specs.declared.Heading.{Heading}
 use Rattle.sums.specs.Triangle.{tri}
-use Rattle.state.specs.State.{stateOf, cleared, emptyTally, roomNumber, started}
+use Rattle.tally.specs.Tally.{emptyTally}
+use Rattle.state.specs.State.{stateOf, cleared, roomNumber, started}
 use Rattle.account.specs.Machine.{run, answers}
 use Rattle.account.specs.Taking.{frame, frameOf, correctionsOf, recordAnswer, recordStep}
 use Rattle.account.specs.Mix.{pairs}

@@ -13,7 +13,7 @@ use Rattle.refusal.proofs.Firsts.{first-none, unless-none}
 use Rattle.words.specs.Words.{lay}
 use Rattle.words.proofs.Words.{lay-front}
 use Rattle.heading.specs.declared.Heading.{Heading}
-use Rattle.arcread.specs.Kinds.{recordSize}
+use Rattle.arckinds.specs.Kinds.{recordSize}
 use Rattle.state.specs.State.{State, capped, roomNumber, started, seenIn, stateNumber}
 use Rattle.account.specs.Machine.{run, answers}
 use Rattle.account.specs.Taking.{frameOf, takeAnswer, takeStep, cut, wholeRecords, recordsIn, runNumber, runState, runAnswers}

@@ -13,8 +13,10 @@ use Rattle.sums.specs.Triangle.{tri}
 use Rattle.sums.specs.Sound.{entry}
 use Rattle.sums.proofs.Lists.{tri-within}
 use Rattle.heading.specs.declared.Heading.{Heading}
-use Rattle.state.specs.State.{State, stateOf, noRow, countOf, lastTimes, rowWith, tallyWith, emptyTally, cleared, accepted, sumOf, roomNumber, started}
-use Rattle.state.specs.declared.Row.{Row}
+use Rattle.counts.specs.Counts.{sumOf}
+use Rattle.tally.specs.Tally.{noRow, countOf, lastTimes, rowWith, tallyWith, emptyTally, accepted}
+use Rattle.tally.specs.declared.Row.{Row}
+use Rattle.state.specs.State.{State, stateOf, cleared, roomNumber, started}
 use Rattle.account.specs.Machine.{run}
 use Rattle.account.specs.Taking.{Frame, frameOf, placeOf, stamp, columnOf, scaled, weightIn, matrixTerms, rightTerms, squareTerm, recordAnswer, recordStep, book}
 use Rattle.account.specs.Mix.{Each, lastOr, only, pairs, taken}

@@ -10,7 +10,7 @@ use Rattle.whole.specs.Tests.{upTo, same, pick}
 use Rattle.whole.specs.Answer.{given}
 use Rattle.refusal.specs.First.{first}
 use Rattle.heading.specs.declared.Heading.{Heading}
-use Rattle.arcread.specs.Kinds.{recordSize}
+use Rattle.arckinds.specs.Kinds.{recordSize}
 use Rattle.account.specs.Taking.{Frame, frameOf, stationIn, placeOf, lengthTests}
 use Rattle.account.specs.Mix.{keep, only, inOrder, Alike, toldTo}
 use Rattle.account.specs.Arc.{endOf, toldIn}

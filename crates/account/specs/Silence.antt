@@ -9,7 +9,8 @@ use lib.IntN.{ℤ, pos}
 use lib.ListN.{getD}
 use Rattle.sums.specs.Sound.{entry}
 use Rattle.heading.specs.declared.Heading.{Heading}
-use Rattle.state.specs.State.{State, accepted, seenIn}
+use Rattle.tally.specs.Tally.{accepted}
+use Rattle.state.specs.State.{State, seenIn}
 use Rattle.account.specs.Taking.{frameOf}
 use Rattle.account.specs.Mix.{Each}
 use Rattle.account.specs.Arc.{endOf, acceptedIn}

@@ -8,7 +8,8 @@ use lib.ListN.{length, getD}
 use Rattle.whole.specs.Sums.{total}
 use Rattle.sums.specs.Sound.{entry}
 use Rattle.records.specs.Record.{partialsIn}
-use Rattle.state.specs.State.{State, countOf, lastTimes, accepted}
+use Rattle.tally.specs.Tally.{countOf, lastTimes, accepted}
+use Rattle.state.specs.State.{State}
 use Rattle.account.specs.Taking.{Frame, placeOf, stamp, columnOf, scaled, weightIn}
 use Rattle.account.specs.Mix.{only, lastOr}
 

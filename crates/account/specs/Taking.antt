@@ -13,14 +13,16 @@ use Rattle.limits.specs.declared.Settings.{Settings}
 use Rattle.limits.specs.declared.Station.{Station}
 use Rattle.heading.specs.Judge.{stationsOf, numbersOf, findFrom}
 use Rattle.heading.specs.declared.Heading.{Heading}
-use Rattle.arcread.specs.Kinds.{recordSize}
-use Rattle.units.specs.Types.{isType, rowOf}
-use Rattle.units.specs.Units.{reading, residualOf}
+use Rattle.arckinds.specs.Kinds.{recordSize}
+use Rattle.types.specs.Types.{isType, rowOf}
+use Rattle.measures.specs.Measures.{reading}
+use Rattle.residuals.specs.Residuals.{residualOf}
 use Rattle.rules.specs.Rules.{sigmaOk, weightOf, clockOk, timeOf, inWindow, passesEdit}
 use Rattle.sums.specs.Triangle.{times, triangle}
 use Rattle.records.specs.Record.{recordIn, partialsIn}
-use Rattle.state.specs.State.{State, countOf, lastTimes, tallyWith, capped, stateNumber}
-use Rattle.state.specs.declared.Tally.{Tally}
+use Rattle.tally.specs.Tally.{countOf, lastTimes, tallyWith}
+use Rattle.tally.specs.declared.Tally.{Tally}
+use Rattle.state.specs.State.{State, capped, stateNumber}
 use Rattle.account.specs.Machine.{run, answers}
 
 -- ---- what of a heading a record is judged by

@@ -24,7 +24,7 @@ use Rattle.limits.specs.declared.Settings.{Settings}
 use Rattle.limits.specs.declared.Label.{Label}
 use Rattle.limits.specs.declared.Station.{Station}
 use Rattle.heading.specs.declared.Heading.{Heading}
-use Rattle.arcread.specs.Kinds.{labelAt, stationAtOk, settingsKind, labelKind, stationKind, recordKind, recordSize}
+use Rattle.arckinds.specs.Kinds.{labelAt, stationAtOk, settingsKind, labelKind, stationKind, recordKind, recordSize}
 use Rattle.arcread.specs.Arc.{padded, headingOf, Arc, readArc}
 
 -- ---- its four sections

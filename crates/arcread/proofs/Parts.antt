@@ -16,9 +16,10 @@ use Rattle.section.proofs.Chains.{then-then, then-made, then-same}
 use Rattle.limits.specs.declared.Settings.{Settings}
 use Rattle.limits.specs.declared.Label.{Label}
 use Rattle.heading.specs.declared.Heading.{Heading}
-use Rattle.arcread.specs.Kinds.{settingsKind, labelKind, stationKind}
+use Rattle.arckinds.specs.Kinds.{settingsKind, labelKind, stationKind}
+use Rattle.arckinds.specs.Told.{settingsPart}
 use Rattle.arcread.specs.Arc.{headingOf, readArc}
-use Rattle.arcread.specs.Parts.{Slots, slotted, Span, settingsPart, labelsFrom, labelsPart, stationsFrom, stationsPart, recordsPart, headingPart, arcFrom, toldSlots, toldHeading}
+use Rattle.arcread.specs.Parts.{Slots, slotted, Span, labelsFrom, labelsPart, stationsFrom, stationsPart, recordsPart, headingPart, arcFrom, toldSlots, toldHeading}
 use Rattle.arcread.specs.declared.ReadAnswer.the-variants as Answers
 use Rattle.arcread.specs.declared.SectionAnswer.{SectionAnswer}
 use Rattle.arcread.specs.declared.SectionAnswer.the-variants as SectionAnswers

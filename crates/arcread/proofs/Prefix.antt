@@ -1,75 +1,19 @@
 -- "what is read of a beginning stays": the sections that are read of the beginning of an arc file are those of the whole, and a refusal
 -- of the beginning other than 1 is the refusal of the whole.
 -- Assumes nothing.
-use Prim.Native.Nat.{ℕ, _+_, _≤_}
-use mathlib.Core.Path.{_≡_, refl, sym, ap, _∙_}
+use Prim.Native.Nat.{ℕ, _+_}
+use mathlib.Core.Path.{_≡_, sym, _∙_}
 use mathlib.Core.List.{List, _++_}
-use native.Mathlib.Omega.{arith}
-use lib.Dec.{lit<}
-use lib.ListN.{length, take, drop, length-drop}
-use lib.Seq.{take-append-le, drop-append-le}
+use lib.ListN.{length, take}
 use Rattle.whole.specs.Tests.{same}
 use Rattle.whole.specs.Answer.{good, bad}
 use Rattle.whole.proofs.Cases.{by-cases, same-true, same-false}
-use Rattle.words.specs.Words.{signedWord}
-use Rattle.words.proofs.Words.{word-within}
 use Rattle.section.specs.Section.{Kind, Run, sectionAt, records}
 use Rattle.section.proofs.Prefix.{Local, then-kept, closed-kept, records-stay, section-stays, cut-same}
 use Rattle.section.proofs.Walk.{not-bad}
-use Rattle.limits.specs.Limits.{settingsOk, labelOk}
-use Rattle.arcread.specs.Kinds.{settingsAt, labelAt, stationAt, stationAtOk, settingsKind, labelKind, stationKind, recordKind, recordSize}
+use Rattle.arckinds.specs.Kinds.{settingsKind, labelKind, stationKind, recordKind}
+use Rattle.arckinds.proofs.Local.{settings-local, label-local, station-local, record-local}
 use Rattle.arcread.specs.Arc.{Arc, readArc}
-
--- ---- each kind reads of its own bytes alone
-module _ (s t : List ℕ) (at : ℕ) where
-  settings-within : at + 12 ≤ length s → settingsAt (s ++ t) at ≡ settingsAt s at
-  unfolding settingsAt
-  settings-within h =
-      simp (
-        word-within 4 s t at (omega arith),
-        word-within 4 s t (at + 4) (omega arith),
-        word-within 2 s t (at + 8) (omega arith),
-        word-within 2 s t (at + 10) (omega arith),
-      )
-
-  label-within : at + 16 ≤ length s → labelAt (s ++ t) at ≡ labelAt s at
-  unfolding labelAt signedWord
-  label-within h =
-      simp (
-        word-within 2 s t at (omega arith),
-        word-within 2 s t (at + 2) (omega arith),
-        word-within 4 s t (at + 4) (omega arith),
-        word-within 8 s t (at + 8) (omega arith),
-      )
-
-  station-within : at + 8 ≤ length s → stationAt (s ++ t) at ≡ stationAt s at
-  unfolding stationAt signedWord
-  station-within h = simp (word-within 2 s t at (omega arith), word-within 4 s t (at + 4) (omega arith))
-
-  stationOk-within : at + 8 ≤ length s → stationAtOk (s ++ t) at ≡ stationAtOk s at
-  unfolding stationAtOk
-  stationOk-within h = simp (word-within 2 s t (at + 2) (omega arith), station-within h)
-
-  record-within : (k : ℕ) → at + k ≤ length s → take k (drop at (s ++ t)) ≡ take k (drop at s)
-  record-within k h =
-      let here : at ≤ length s = omega arith in
-      let room : k ≤ length (drop at s) = rw length-drop (omega arith) in
-      rw (drop-append-le at s t here, take-append-le k (drop at s) t room)
-
-pub settings-local : Local settingsKind
-settings-local =
-    record { some = lit< tt; decoded = settings-within; allowed = λ s t at h. ap settingsOk (settings-within s t at h) }
-
-pub label-local : Local labelKind
-label-local =
-    record { some = lit< tt; decoded = label-within; allowed = λ s t at h. ap labelOk (label-within s t at h) }
-
-pub station-local : Local stationKind
-station-local = record { some = lit< tt; decoded = station-within; allowed = stationOk-within }
-
-pub record-local : (p : ℕ) → Local (recordKind p)
-record-local p =
-    record { some = omega arith; decoded = λ s t at h. record-within s t at (recordSize p) h; allowed = λ s t at h. refl }
 
 -- ---- the whole file
 -- "what is read of a beginning stays": a refusal other than 1 is the refusal of every longer list

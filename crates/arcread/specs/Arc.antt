@@ -1,9 +1,8 @@
 -- Document 01, 'Arc file': "Four sections in this order, each after its u32 count"; "Files are read left to right".
-use Prim.Native.Nat.{ℕ, suc, _+_, _-_, _*_}
-use mathlib.Core.List.{List, [], _++_}
-use lib.ListN.{length, getD, take, drop, replicate}
+use Prim.Native.Nat.{ℕ, _+_, _-_}
+use mathlib.Core.List.{List, _++_}
+use lib.ListN.{length, getD, replicate}
 use Rattle.limits.specs.Limits.{noSettings, noLabel, noStation}
-use Rattle.whole.specs.Tests.{upTo, pick, both}
 use Rattle.whole.specs.Answer.{Judged, good, bad}
 use Rattle.refusal.specs.Number.{numberOf}
 use Rattle.section.specs.Section.{andThen, sectionAt, closed}
@@ -11,7 +10,7 @@ use Rattle.limits.specs.declared.Settings.{Settings}
 use Rattle.limits.specs.declared.Label.{Label}
 use Rattle.limits.specs.declared.Station.{Station}
 use Rattle.heading.specs.declared.Heading.{Heading}
-use Rattle.arcread.specs.Kinds.{settingsKind, labelKind, stationKind, recordKind, recordSize}
+use Rattle.arckinds.specs.Kinds.{settingsKind, labelKind, stationKind, recordKind}
 use Rattle.arcread.specs.declared.ReadAnswer.{ReadAnswer}
 use Rattle.arcread.specs.declared.ReadAnswer.the-variants as Answers
 use Rattle.arcread.specs.declared.ArcRead.{ArcRead}
@@ -47,12 +46,6 @@ readArc s =
       count = length (d .items);
       start = c .next + 4;
     })
-
--- record i of those that begin at a place, or nothing where the bytes have no such whole record
-unfoldable pub recordPart : List ℕ → ℕ → ℕ → ℕ → List ℕ
-recordPart s start p i =
-    pick (both (upTo p 50) (upTo (start + suc i * recordSize p) (length s)))
-    (take (recordSize p) (drop (start + i * recordSize p) s)) []
 
 -- ---- what the answer says: with a refusal the heading is blank and the numbers are 0
 pub record Shown : Type 0 where

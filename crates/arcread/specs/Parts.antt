@@ -5,19 +5,13 @@ use lib.ListN.{length}
 use Rattle.limits.specs.Limits.{noLabel, noStation}
 use Rattle.whole.specs.Answer.{Judged, good, bad}
 use Rattle.refusal.specs.Number.{numberOf}
-use Rattle.section.specs.Section.{Run, andThen, countAt, judgedAt, records, sectionAt, closed}
-use Rattle.limits.specs.declared.Settings.{Settings}
+use Rattle.section.specs.Section.{Run, andThen, countAt, records, sectionAt, closed}
 use Rattle.limits.specs.declared.Label.{Label}
 use Rattle.limits.specs.declared.Station.{Station}
 use Rattle.heading.specs.declared.Heading.{Heading}
-use Rattle.arcread.specs.Kinds.{settingsKind, labelKind, stationKind, recordKind}
+use Rattle.arckinds.specs.Kinds.{labelKind, stationKind, recordKind}
+use Rattle.arckinds.specs.Told.{settingsPart}
 use Rattle.arcread.specs.Arc.{Arc, padded, toldAnswer}
-use Rattle.arcread.specs.declared.SettingsAnswer.{SettingsAnswer}
-use Rattle.arcread.specs.declared.SettingsAnswer.the-variants as SettingsAnswers
-use Rattle.arcread.specs.declared.LabelAnswer.{LabelAnswer}
-use Rattle.arcread.specs.declared.LabelAnswer.the-variants as LabelAnswers
-use Rattle.arcread.specs.declared.StationAnswer.{StationAnswer}
-use Rattle.arcread.specs.declared.StationAnswer.the-variants as StationAnswers
 use Rattle.arcread.specs.declared.SectionAnswer.{SectionAnswer}
 use Rattle.arcread.specs.declared.SectionAnswer.the-variants as SectionAnswers
 use Rattle.arcread.specs.declared.Labels.{Labels}
@@ -43,10 +37,6 @@ pub record Placed : Type 0 where
 -- what was read, in an array of n with a filling d
 abbrev pub slotted : {A : Type 0} → ℕ → A → Run A → Slots A
 slotted n d r = record { count = length (r .items); items = padded n d (r .items); next = r .next }
-
--- the one record of the settings, after its count of four bytes
-unfoldable pub settingsPart : List ℕ → Judged Settings
-settingsPart s = andThen (countAt s 0 1 1) (λ n. judgedAt settingsKind s 4 0)
 
 unfoldable pub labelsFrom : List ℕ → ℕ → ℕ → Judged (Slots Label)
 labelsFrom s start n = andThen (records labelKind s n start 0) (λ r. good (slotted 50 noLabel r))
@@ -82,18 +72,6 @@ arcFrom s at h =
     closed s (d .next) (record { heading = h; count = d .count; start = at + 4 })
 
 -- ---- what the answers say
-abbrev pub toldSettings : SettingsAnswer → Judged Settings
-toldSettings (SettingsAnswers.Got a) = good a
-toldSettings (SettingsAnswers.Refused r place) = bad (numberOf r) place
-
-abbrev pub toldLabel : LabelAnswer → Judged Label
-toldLabel (LabelAnswers.Got l) = good l
-toldLabel (LabelAnswers.Refused r place) = bad (numberOf r) place
-
-abbrev pub toldStation : StationAnswer → Judged Station
-toldStation (StationAnswers.Got t) = good t
-toldStation (StationAnswers.Refused r place) = bad (numberOf r) place
-
 abbrev pub toldSection : SectionAnswer → Judged Span
 toldSection (SectionAnswers.Read n next) = good (record { count = n; next = next })
 toldSection (SectionAnswers.Refused r place) = bad (numberOf r) place

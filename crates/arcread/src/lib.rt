@@ -1,4 +1,7 @@
 // The arc file, read: for every list of bytes the heading, the number of records and where they stand, or the first refusal and its place.
+use arckinds::LabelAnswer;
+use arckinds::SettingsAnswer;
+use arckinds::StationAnswer;
 use heading::Heading;
 use limits::Label;
 use limits::Settings;
@@ -6,16 +9,13 @@ use limits::Station;
 use refusal::Refusal;
 use section::CountAnswer;
 ghost use mathlib.Core.Path.{_≡_};
-ghost use Prim.Native.Nat.{_+_, _≤_};
+ghost use Prim.Native.Nat.{_≤_};
 ghost use lib.ListN.{length, replicate};
 ghost use Rattle.refusal.specs.Number.{numberOf};
 ghost use Rattle.whole.specs.Answer.{bad};
-ghost use Rattle.section.specs.Section.{judgedAt};
-ghost use Rattle.limits.specs.Limits.{labelKey, stationKey, noLabel, noStation};
-ghost use Rattle.arcread.specs.Kinds.{settingsAt, settingsKind, labelAt, labelKind, stationAt, stationKind};
-ghost use Rattle.arcread.specs.Arc.{blank, readArc, recordPart, shown, toldRead};
+ghost use Rattle.limits.specs.Limits.{noLabel, noStation};
+ghost use Rattle.arcread.specs.Arc.{blank, readArc, shown, toldRead};
 ghost use Rattle.arcread.specs.Parts.{
-  settingsPart,
   labelsPart,
   labelsFrom,
   stationsPart,
@@ -23,9 +23,6 @@ ghost use Rattle.arcread.specs.Parts.{
   recordsPart,
   headingPart,
   arcFrom,
-  toldSettings,
-  toldLabel,
-  toldStation,
   toldLabels,
   toldStations,
   toldSection,
@@ -43,22 +40,6 @@ pub struct ArcRead {
     pub heading: Heading,
     pub count: usize,
     pub start: usize,
-}
-
-// What reading one record finds: it, or a refusal and its place.
-enum SettingsAnswer {
-    Got(Settings),
-    Refused(Refusal, usize),
-}
-
-enum LabelAnswer {
-    Got(Label),
-    Refused(Refusal, usize),
-}
-
-enum StationAnswer {
-    Got(Station),
-    Refused(Refusal, usize),
 }
 
 // What reading a section finds: its count and the place after it, or a refusal and its place.
@@ -85,83 +66,7 @@ struct HeadingRead {
     next: usize,
 }
 
-// ---- settings
-
-fn load_settings(s: &[u8]) -> Settings
-    ensures { λ r. ⌜ r ≡ settingsAt (now (s .entry)) 4 ⌝ }
-{
-    Settings {
-        arc: wordread::read_u32(s, 4),
-        first: wordread::read_u32(s, 8),
-        days: wordread::read_u16(s, 12),
-        level: wordread::read_u16(s, 14),
-    }
-}
-
-// The one record of the settings, after its count, judged 1, 4.
-fn judge_settings(s: &[u8]) -> SettingsAnswer
-    ensures { λ r. ⌜ toldSettings r ≡ judgedAt settingsKind (now (s .entry)) 4 0 ⌝ }
-{
-    if words::left(s.len(), 4) < 12 {
-        return SettingsAnswer::Refused(Refusal::Short, s.len());
-    }
-    let a = load_settings(s);
-    if limits::settings_ok(a) {
-        SettingsAnswer::Got(a)
-    } else {
-        SettingsAnswer::Refused(Refusal::Limits, 4)
-    }
-}
-
-// The settings section, the first of the file: its count is 1.
-fn read_settings(s: &[u8]) -> SettingsAnswer
-    ensures { λ r. ⌜ toldSettings r ≡ settingsPart (now (s .entry)) ⌝ }
-{
-    match section::read_count(s, 0, 1, 1) {
-        CountAnswer::Is(_) => judge_settings(s),
-        CountAnswer::Refused(r, place) => SettingsAnswer::Refused(r, place),
-    }
-}
-
 // ---- labels
-
-fn load_label(s: &[u8], at: usize) -> Label
-    requires { ⌜ at + 16 ≤ length (now s) ⌝ }
-    ensures { λ r. ⌜ r ≡ labelAt (now (s .entry)) at ⌝ }
-{
-    Label {
-        kind: wordread::read_u16(s, at),
-        index: wordread::read_u16(s, at + 2),
-        weight: wordread::read_u32(s, at + 4),
-        estimate: wordread::read_i64(s, at + 8),
-    }
-}
-
-// One record of the parameters section, judged 1, 4, 5; `floor` is the least key that it may have.
-fn read_label(s: &[u8], at: usize, floor: u64) -> LabelAnswer
-    ensures { λ r. ⌜ toldLabel r ≡ judgedAt labelKind (now (s .entry)) at floor ⌝ }
-{
-    if words::left(s.len(), at) < 16 {
-        return LabelAnswer::Refused(Refusal::Short, s.len());
-    }
-    let l = load_label(s, at);
-    if limits::label_ok(l) {
-        if floor <= limits::label_key(l) {
-            LabelAnswer::Got(l)
-        } else {
-            LabelAnswer::Refused(Refusal::Order, at)
-        }
-    } else {
-        LabelAnswer::Refused(Refusal::Limits, at)
-    }
-}
-
-// The least key that may follow a label.
-fn after_label(l: Label) -> u64
-    ensures { λ r. ⌜ r ≡ labelKey l + 1 ⌝ }
-{
-    limits::label_key(l) + 1
-}
 
 fn no_labels() -> [Label; 50]
     ensures { λ r. ⌜ r ≡ replicate 50 noLabel ⌝ }
@@ -184,10 +89,10 @@ fn fill_labels(s: &[u8], start: usize, count: usize) -> Labels
     let mut floor: u64 = 0;
     let mut i: usize = 0;
     while i < count {
-        match read_label(s, at, floor) {
+        match arckinds::read_label(s, at, floor) {
             LabelAnswer::Got(l) => {
                 labels[i] = l;
-                floor = after_label(l);
+                floor = arckinds::after_label(l);
                 at += 16;
                 i += 1;
             }
@@ -220,45 +125,6 @@ fn read_labels(s: &[u8], at: usize) -> Labels
 
 // ---- stations
 
-fn load_station(s: &[u8], at: usize) -> Station
-    requires { ⌜ at + 8 ≤ length (now s) ⌝ }
-    ensures { λ r. ⌜ r ≡ stationAt (now (s .entry)) at ⌝ }
-{
-    Station {
-        number: wordread::read_u16(s, at),
-        correction: wordread::read_i32(s, at + 4),
-    }
-}
-
-// One record of the stations section, judged 1, 4, 5; `floor` is the least number that it may have.
-fn read_station(s: &[u8], at: usize, floor: u64) -> StationAnswer
-    ensures { λ r. ⌜ toldStation r ≡ judgedAt stationKind (now (s .entry)) at floor ⌝ }
-{
-    if words::left(s.len(), at) < 8 {
-        return StationAnswer::Refused(Refusal::Short, s.len());
-    }
-    if wordread::read_u16(s, at + 2) != 0 {
-        return StationAnswer::Refused(Refusal::Limits, at);
-    }
-    let t = load_station(s, at);
-    if limits::station_ok(t) {
-        if floor <= limits::station_key(t) {
-            StationAnswer::Got(t)
-        } else {
-            StationAnswer::Refused(Refusal::Order, at)
-        }
-    } else {
-        StationAnswer::Refused(Refusal::Limits, at)
-    }
-}
-
-// The least number that may follow a station.
-fn after_station(t: Station) -> u64
-    ensures { λ r. ⌜ r ≡ stationKey t + 1 ⌝ }
-{
-    limits::station_key(t) + 1
-}
-
 fn no_stations() -> [Station; 16]
     ensures { λ r. ⌜ r ≡ replicate 16 noStation ⌝ }
 {
@@ -278,10 +144,10 @@ fn fill_stations(s: &[u8], start: usize, count: usize) -> Stations
     let mut floor: u64 = 0;
     let mut i: usize = 0;
     while i < count {
-        match read_station(s, at, floor) {
+        match arckinds::read_station(s, at, floor) {
             StationAnswer::Got(t) => {
                 listed[i] = t;
-                floor = after_station(t);
+                floor = arckinds::after_station(t);
                 at += 8;
                 i += 1;
             }
@@ -366,7 +232,7 @@ fn heading_refused(r: Refusal, place: usize) -> HeadingRead
 fn read_heading(s: &[u8]) -> HeadingRead
     ensures { λ r. ⌜ (toldHeading r ≡ headingPart (now (s .entry))) × (r .heading .parameters ≤ 50) ⌝ }
 {
-    match read_settings(s) {
+    match arckinds::read_settings(s) {
         SettingsAnswer::Got(settings) => {
             let second = read_labels(s, 16);
             let answer = second.answer;
@@ -441,23 +307,5 @@ pub fn read(file: &[u8]) -> ArcRead
     match answer {
         ReadAnswer::Read => read_rest(file, first.next, heading),
         ReadAnswer::Refused(r, place) => refused(r, place),
-    }
-}
-
-// The bytes of record i of those that begin at `start`; none where the file has no such whole record.
-pub fn record_at(file: &[u8], start: usize, parameters: usize, i: usize) -> &[u8]
-    ensures { λ r. ⌜ now r ≡ recordPart (now (file .entry)) start parameters i ⌝ }
-{
-    let none: usize = 0;
-    if 50 < parameters {
-        return &file[none..none];
-    }
-    let size = 32 + 2 * parameters;
-    if i < words::left(file.len(), start) / size {
-        let a = start + i * size;
-        let e = a + size;
-        &file[a..e]
-    } else {
-        &file[none..none]
     }
 }

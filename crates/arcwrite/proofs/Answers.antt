@@ -13,10 +13,11 @@ use Rattle.words.specs.Words.{lay}
 use Rattle.heading.specs.Judge.{countsOk, fieldsOk, ordersOk, judged}
 use Rattle.heading.specs.declared.Heading.{Heading}
 use Rattle.heading.proofs.Sound.{counts-fit}
-use Rattle.arcread.specs.Kinds.{recordSize}
-use Rattle.arcwrite.specs.Write.{recordsIn, arcBytes, writeArc, leftIn}
-use Rattle.arcwrite.specs.Room.{neededFor, roomAnswer, Writable}
-use Rattle.arcwrite.proofs.Laws.{arc-long}
+use Rattle.arckinds.specs.Kinds.{recordSize}
+use Rattle.arcput.specs.Bytes.{recordsIn, arcBytes, neededFor, Writable}
+use Rattle.arcwrite.specs.Write.{writeArc, leftIn}
+use Rattle.arcwrite.specs.Room.{roomAnswer}
+use Rattle.arcput.proofs.Laws.{arc-long}
 
 -- a heading's refusal, or what follows where it is sound
 abbrev onSound : Answered (Unit {0}) → Answered ℕ → Answered ℕ
@@ -42,7 +43,7 @@ module _ (h : Heading) (run : List ℕ) (room : ℕ) where
 
   module _ (labels : length (h .labels) ≡ 50) (listed : length (h .listed) ≡ 16) where
     file-long : countsOk h ≡ true → length (arcBytes h run) ≡ neededFor (h .parameters) (h .stations) (length run)
-    file-long e = let fit = counts-fit h e in arc-long h run (omega (arith, fit .0)) (omega (arith, fit .1))
+    file-long e = let fit = counts-fit h e in arc-long h (omega (arith, fit .0)) (omega (arith, fit .1)) run
 
     -- with the counts right the heading's judgement decides, and then the room
     module _ (counts : countsOk h ≡ true) (few : length run / recordSize (h .parameters) ≤ 65535) where

@@ -26,11 +26,11 @@ use Rattle.limits.specs.declared.Label.{Label}
 use Rattle.limits.specs.declared.Station.{Station}
 use Rattle.heading.specs.declared.Heading.{Heading}
 use Rattle.heading.proofs.Sound.{sound, counts-fit}
-use Rattle.arcread.specs.Kinds.{settingsBytes, labelBytes, stationBytes, settingsKind, labelKind, stationKind, recordKind, recordSize}
+use Rattle.arckinds.specs.Kinds.{settingsBytes, labelBytes, stationBytes, settingsKind, labelKind, stationKind, recordKind, recordSize}
 use Rattle.arcread.specs.Arc.{headingOf, readArc}
-use Rattle.arcwrite.specs.Write.{recordsIn, arcBytes}
-use Rattle.arcwrite.proofs.Laws.{arc-long}
-use Rattle.arcwrite.proofs.Records.{length-settings, length-label, length-station, settings-back, label-back, station-back}
+use Rattle.arcput.specs.Bytes.{recordsIn, arcBytes}
+use Rattle.arcput.proofs.Laws.{arc-long}
+use Rattle.arckinds.proofs.Records.{length-settings, length-label, length-station, settings-back, label-back, station-back}
 
 -- ---- a run of whole records at a place of a list
 room-at : {A : Type 0} (K : Kind A) → ((s : List ℕ) (at : ℕ) → K .fieldsOk s at ≡ true) → ((a : A) → K .after a ≡ 0) → (p t s : List ℕ) (at n low high : ℕ)
@@ -147,7 +147,7 @@ module _ (h : Heading) (run : List ℕ) (places : length (h .labels) ≡ 50) (se
 
     -- how long the file is
     pub length-arc : length (arcBytes h run) ≡ 28 + 16 * h .parameters + 8 * h .stations + length run
-    length-arc = arc-long h run (omega (arith, counts-fit h ok .0)) (omega (arith, counts-fit h ok .1))
+    length-arc = arc-long h (omega (arith, counts-fit h ok .0)) (omega (arith, counts-fit h ok .1)) run
 
   -- written, then read
   pub written-read : judged h ≡ given tt → Each (λ l. SFits w64 (l .estimate)) (labelsOf h) → length run % recordSize (h .parameters) ≡ 0 → recordsIn h run ≤ 65535

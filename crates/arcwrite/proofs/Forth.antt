@@ -1,6 +1,6 @@
 -- An arc file that was read is rewritten to the same bytes: a record's bytes are kept, whatever numbers they hold.
 -- Assumes nothing.
-use Prim.Native.Nat.{ℕ, _+_, _*_, _%_, _≤_}
+use Prim.Native.Nat.{ℕ, _+_, _%_, _≤_}
 use mathlib.Core.Path.{_≡_, refl, sym, ap, ap₂, _∙_}
 use mathlib.Core.List.{List, [], _∷_, _++_, append-nil}
 use native.Mathlib.Omega.{arith}
@@ -19,11 +19,12 @@ use Rattle.limits.specs.declared.Settings.{Settings}
 use Rattle.limits.specs.declared.Label.{Label}
 use Rattle.limits.specs.declared.Station.{Station}
 use Rattle.heading.specs.declared.Heading.{Heading}
-use Rattle.arcread.specs.Kinds.{settingsBytes, labelBytes, stationBytes, settingsKind, labelKind, stationKind, recordSize}
+use Rattle.arckinds.specs.Kinds.{settingsBytes, labelBytes, stationBytes, settingsKind, labelKind, stationKind, recordSize}
 use Rattle.arcread.specs.Arc.{Arc, headingOf, readArc}
 use Rattle.arcread.proofs.Accepted.{Parts, read-parts, records-section, long-run, run-few, labels-of, stations-of, single, Passed, heading-passed}
-use Rattle.arcwrite.specs.Write.{recordsIn, arcBytes, writeArc, leftIn}
-use Rattle.arcwrite.proofs.Records.{settings-forth, label-forth, station-forth}
+use Rattle.arcput.specs.Bytes.{recordsIn, arcBytes}
+use Rattle.arcwrite.specs.Write.{writeArc, leftIn}
+use Rattle.arckinds.proofs.Records.{settings-forth, label-forth, station-forth}
 use Rattle.arcwrite.proofs.Back.{records-on, stations-on, labels-on, file}
 
 -- ---- what the writer accepts

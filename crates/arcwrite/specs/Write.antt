@@ -1,34 +1,18 @@
 -- Document 01: an arc file as it is written. "Writing: 2, 4, 5, 6, 1 where a lent run of records ends inside one, 20." "For 20, needed is the
 -- length of the bytes written". "A longer buffer keeps its rest. A refusal changes nothing lent."
-use Prim.Native.Nat.{ℕ, _/_, _%_}
-use mathlib.Core.List.{List, _++_}
+use Prim.Native.Nat.{ℕ, _%_}
+use mathlib.Core.List.{List}
 use lib.ListN.{length}
 use Rattle.whole.specs.Tests.{less, upTo, same, pick, both}
 use Rattle.whole.specs.Answer.{Answered, given, refused}
-use Rattle.words.specs.Words.{bytesOf, lay}
-use Rattle.section.specs.Section.{encoded}
+use Rattle.words.specs.Words.{lay}
 use Rattle.refusal.specs.Number.{numberOf}
-use Rattle.heading.specs.Judge.{labelsOf, stationsOf, countsOk, fieldsOk, ordersOk}
+use Rattle.heading.specs.Judge.{countsOk, fieldsOk, ordersOk}
 use Rattle.heading.specs.declared.Heading.{Heading}
-use Rattle.arcread.specs.Kinds.{settingsBytes, labelBytes, stationBytes, recordSize}
+use Rattle.arckinds.specs.Kinds.{recordSize}
+use Rattle.arcput.specs.Bytes.{recordsIn, arcBytes}
 use Rattle.arcwrite.specs.declared.WriteAnswer.{WriteAnswer}
 use Rattle.arcwrite.specs.declared.WriteAnswer.the-variants as Wrote
-
--- how many whole records a run has
-unfoldable pub recordsIn : Heading → List ℕ → ℕ
-recordsIn h run = length run / recordSize (h .parameters)
-
--- the bytes of the file: four sections, each after its count
-unfoldable pub arcBytes : Heading → List ℕ → List ℕ
-arcBytes h run =
-    bytesOf 4 1
-    ++ (settingsBytes (h .settings)
-    ++ (bytesOf 4 (h .parameters)
-    ++ (encoded labelBytes (labelsOf h)
-    ++ (bytesOf 4 (h .stations)
-    ++ (encoded stationBytes (stationsOf h)
-    ++ (bytesOf 4 (recordsIn h run)
-    ++ run))))))
 
 -- 2 for the heading's counts and for more than 65,535 records, 4, 5, 1, 20, else the length
 unfoldable pub writeArc : Heading → List ℕ → ℕ → Answered ℕ

@@ -1,8 +1,8 @@
 // For the benchmark's driver: an arc file's records taken from an empty state, as one run or one by one. Its functions promise only that
 // they are safe and end; what taking promises stands in `taking`.
 use heading::Heading;
-use state::Tally;
 use taking::TakeAnswer;
+use tally::Tally;
 ghost use Prim.Native.Nat.{_≤_};
 ghost use lib.ListN.{length};
 
@@ -98,7 +98,7 @@ fn take_each(
     let mut u = t;
     let mut i: usize = 0;
     while i < n {
-        let bytes = arcread::record_at(file, start, h.parameters, i);
+        let bytes = records::record_at(file, start, h.parameters, i);
         let taken = taking::take(h, u, matrix, rights, bytes);
         let answer = taken.answer;
         u = taken.tally;

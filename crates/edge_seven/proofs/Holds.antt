@@ -9,15 +9,18 @@ use Rattle.words.specs.Words.{word, bytesOf, signedWord}
 use Rattle.section.specs.Section.{andThen, countAt, judgedAt, records, sectionAt, closed}
 use Rattle.limits.specs.Limits.{windowOk, settingsOk, indexOk, labelOk, labelKey, correctionOk, stationOk, stationKey}
 use Rattle.heading.specs.Judge.{labelsOf, stationsOf, findFrom, numbersOf}
-use Rattle.arcread.specs.Kinds.{settingsAt, labelAt, stationAt, stationAtOk}
+use Rattle.arckinds.specs.Kinds.{settingsAt, labelAt, stationAt, stationAtOk}
 use Rattle.arcread.specs.Arc.{headingOf, readArc}
 use Rattle.nearest.specs.Doubles.{size, nearestUnit, unitWithin}
-use Rattle.units.specs.Types.{isType, rowOf}
-use Rattle.units.specs.Units.{isTurn, onCircle, turned, unitOf, brought, apartBy, fitsRow, residualBy, residualOf}
+use Rattle.types.specs.Types.{isType, rowOf}
+use Rattle.turning.specs.Turning.{isTurn, onCircle, brought, apartBy}
+use Rattle.units.specs.Units.{turned, unitOf}
+use Rattle.residuals.specs.Residuals.{fitsRow, residualBy, residualOf}
 use Rattle.rules.specs.Rules.{sigmaOk, weightOf, clockOk, timeOf, inWindow, passesEdit}
 use Rattle.sums.specs.Triangle.{columns, tri}
 use Rattle.records.specs.Record.{recordIn, partialsFrom, partialsIn}
-use Rattle.state.specs.State.{tallyWith, seenIn}
+use Rattle.tally.specs.Tally.{tallyWith}
+use Rattle.state.specs.State.{seenIn}
 use Rattle.account.specs.Machine.{run, answers}
 use Rattle.account.specs.Mix.{keep}
 use Rattle.account.specs.Taking.{correctionsOf, stationIn, placeOf, momentOf, stamp, columnOf, residualIn, residual, scaled, weightIn, lengthTests, recordTests, stationTests, judgedBy, recordNumber, matrixTerms, rightTerms, squareTerm, book, recordAnswer, recordStep, cut, wholeRecords, recordsIn}

@@ -5,8 +5,10 @@ use lib.Ieee.{ofBits, round}
 use Rattle.whole.specs.Tests.{less, upTo, same, pick, both, either, between}
 use Rattle.days.specs.Calendar.{leap, monthLength, daysOfMonths, daysOfYears, isDate, dayNumber, dayOfDate}
 use Rattle.nearest.specs.Doubles.{size, nearestUnit, unitWithin, quotient}
-use Rattle.units.specs.Types.{isType, rowOf}
-use Rattle.units.specs.Units.{isTurn, onCircle, turned, unitOf, brought, apartBy, fitsRow, residualBy, residualOf}
+use Rattle.types.specs.Types.{isType, rowOf}
+use Rattle.turning.specs.Turning.{isTurn, onCircle, brought, apartBy}
+use Rattle.units.specs.Units.{turned, unitOf}
+use Rattle.residuals.specs.Residuals.{fitsRow, residualBy, residualOf}
 use Rattle.words.specs.Words.{word, bytesOf}
 use Rattle.refusal.specs.First.{when, unless, numberIn, first, valueOr}
 use Rattle.heading.specs.Judge.{findFrom}

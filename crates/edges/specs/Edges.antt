@@ -7,8 +7,10 @@ use lib.Ieee.{Float, binary64, ofBits}
 use Rattle.whole.specs.Answer.{given, refused}
 use Rattle.days.specs.Calendar.{dayOfDate, dateOf}
 use Rattle.nearest.specs.Doubles.{nearestUnit, quotient}
-use Rattle.units.specs.Types.{turn}
-use Rattle.units.specs.Units.{unitOf, residualOf, reading}
+use Rattle.types.specs.Types.{turn}
+use Rattle.measures.specs.Measures.{reading}
+use Rattle.units.specs.Units.{unitOf}
+use Rattle.residuals.specs.Residuals.{residualOf}
 use Rattle.words.specs.Words.{bytesOf}
 use Rattle.rules.specs.Rules.{weightOf}
 use Rattle.account.specs.Taking.{Frame, frame, residual, judgedBy}

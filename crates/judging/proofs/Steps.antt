@@ -20,13 +20,14 @@ use Rattle.refusal.specs.declared.Refusal.{Refusal}
 use Rattle.refusal.proofs.Apart.{some, not-none}
 use Rattle.refusal.proofs.Firsts.{when-true, when-false, unless-true, unless-false, first-none-left, first-one, first-pass, first-stop, answered-given, answered-refused, number-given, number-refused}
 use Rattle.heading.specs.Judge.{findFrom}
-use Rattle.arcread.specs.Kinds.{recordSize}
-use Rattle.units.specs.Types.{isType, rowOf, rowAt}
-use Rattle.units.specs.Units.{reading, residualOf, measuredAs}
-use Rattle.units.specs.declared.Reading.{Reading}
+use Rattle.arckinds.specs.Kinds.{recordSize}
+use Rattle.types.specs.Types.{isType, rowOf, rowAt}
+use Rattle.measures.specs.Measures.{reading, measuredAs}
+use Rattle.measures.specs.declared.Reading.{Reading}
+use Rattle.residuals.specs.Residuals.{residualOf}
 use Rattle.limits.specs.declared.Settings.{Settings}
 use lib.Ieee.{Float}
-use Rattle.units.specs.declared.Row.{Row}
+use Rattle.types.specs.declared.Row.{Row}
 use Rattle.rules.specs.Rules.{sigmaOk, clockOk, timeOf, passesEdit}
 use Rattle.records.specs.Record.{recordIn}
 use Rattle.records.specs.declared.Record.{Record}

@@ -9,8 +9,8 @@ use Rattle.whole.specs.Tests.{less, pick}
 use Rattle.refusal.specs.Number.{numberOf}
 use Rattle.refusal.specs.First.{unless, first, answered}
 use Rattle.limits.specs.declared.Settings.{Settings}
-use Rattle.units.specs.Types.{rowOf}
-use Rattle.units.specs.declared.Row.{Row}
+use Rattle.types.specs.Types.{rowOf}
+use Rattle.types.specs.declared.Row.{Row}
 use Rattle.records.specs.declared.Record.{Record}
 use Rattle.rules.specs.Rules.{weightOf, clockOk, timeOf, inWindow, passesEdit}
 use Rattle.records.specs.Record.{recordIn}

@@ -1,10 +1,10 @@
 // Inner to `taking`: one record judged against its heading, its station's last time and its station's count, by numbers alone.
 use heading::Found;
 use limits::Settings;
+use measures::MeasurementAnswer;
 use records::Record;
 use refusal::Refusal;
-use units::MeasurementAnswer;
-use units::RowAnswer;
+use types::RowAnswer;
 use units::UnitAnswer;
 ghost use mathlib.Core.Path.{_≡_};
 ghost use mathlib.Core.Bool.{true};
@@ -15,8 +15,10 @@ ghost use Rattle.whole.specs.Answer.{refused};
 ghost use Rattle.whole.specs.Tests.{pick};
 ghost use Rattle.limits.specs.Limits.{settingsOk};
 ghost use Rattle.heading.specs.Judge.{findFrom, toldFound};
-ghost use Rattle.units.specs.Types.{isType};
-ghost use Rattle.units.specs.Units.{reading, residualOf, toldUnit};
+ghost use Rattle.types.specs.Types.{isType};
+ghost use Rattle.measures.specs.Measures.{reading};
+ghost use Rattle.units.specs.Units.{toldUnit};
+ghost use Rattle.residuals.specs.Residuals.{residualOf};
 ghost use Rattle.account.specs.Taking.{frame};
 ghost use Rattle.judging.specs.Fit.{Listed, Decoded, fitted, termsBy, judgedLate, timed, toldFit, toldTime, toldJudgement};
 
@@ -71,8 +73,8 @@ fn find(numbers: &[u16], number: u16) -> Found
 fn residual_of(r: Record) -> UnitAnswer
     ensures { λ a. ⌜ toldUnit a ≡ pick (isType (r .kind)) (residualOf (reading (r .kind) (r .observed) (r .computed))) (refused 11) ⌝ }
 {
-    match units::measured(r.kind, r.observed, r.computed) {
-        MeasurementAnswer::Is(m) => units::residual(m),
+    match measures::measured(r.kind, r.observed, r.computed) {
+        MeasurementAnswer::Is(m) => residuals::residual(m),
         MeasurementAnswer::Refused(e) => UnitAnswer::Refused(e),
     }
 }
@@ -97,7 +99,7 @@ fn fit_listed(
     settings: Settings,
     place: usize,
     correction: i32,
-    row: units::Row,
+    row: types::Row,
     r: Record,
 ) -> Fitted
     requires { ⌜ (settingsOk settings ≡ true) × (isType (r .kind) ≡ true) ⌝ }
@@ -130,7 +132,7 @@ fn fit_record(settings: Settings, numbers: &[u16], corrections: &[i32], r: Recor
     ensures { λ a. ⌜ Decoded settings (now (numbers .entry)) (now (corrections .entry)) r a ⌝ }
 {
     match find(numbers, r.station) {
-        Found::At(place) => match units::row_of(r.kind) {
+        Found::At(place) => match types::row_of(r.kind) {
             RowAnswer::Is(row) => fit_listed(settings, place, corrections[place], row, r),
             RowAnswer::Refused(e) => Fitted::Refused(e),
         },

@@ -22,14 +22,14 @@ use Rattle.limits.specs.Limits.{noSettings, settingsOk, labelOk, stationOk}
 use Rattle.limits.specs.declared.Settings.{Settings}
 use Rattle.limits.specs.declared.Label.{Label}
 use Rattle.limits.specs.declared.Station.{Station}
-use Rattle.arcread.specs.Kinds.{settingsAt, settingsBytes, labelAt, labelBytes, stationAt, stationBytes}
+use Rattle.arckinds.specs.Kinds.{settingsAt, settingsBytes, labelAt, labelBytes, stationAt, stationBytes}
 use Rattle.heading.specs.Judge.{fieldsOk}
 use Rattle.heading.proofs.Sound.{counts-fit}
 use Rattle.arcread.specs.Arc.{Arc, headingOf, readArc}
 use Rattle.arcread.proofs.Accepted.{read-parts, labels-of, stations-of, heading-passed, heading-arrays, heading-estimates}
-use Rattle.arcwrite.proofs.Records.{length-settings, length-label, length-station, settings-back, label-back, station-back}
-use Rattle.state.specs.declared.Row.{Row}
-use Rattle.state.specs.declared.Tally.{Tally}
+use Rattle.arckinds.proofs.Records.{length-settings, length-label, length-station, settings-back, label-back, station-back}
+use Rattle.tally.specs.declared.Row.{Row}
+use Rattle.tally.specs.declared.Tally.{Tally}
 use Rattle.normwalk.specs.Walk.{stands}
 use Rattle.lent.specs.Lent.{headingLong, headingIn, headingBytes, rowAt, rowBytes, tallyIn, tallyBytes, tallyLong}
 use Rattle.lent.proofs.Bytes.{heading-long, row-long}

@@ -5,39 +5,31 @@ use mathlib.Core.Path.{_≡_, ap, _∙_}
 use mathlib.Core.List.{List}
 use native.Mathlib.Omega.{arith}
 use lib.ListN.{length, length-append}
-use lib.Seq.{length-take-le}
 use Rattle.words.specs.Words.{bytesOf, lay}
 use Rattle.words.proofs.Words.{lay-append, length-bytesOf}
 use Rattle.section.specs.Section.{encoded}
 use Rattle.section.proofs.Trips.{length-encoded}
 use Rattle.heading.specs.Judge.{labelsOf, stationsOf}
 use Rattle.heading.specs.declared.Heading.{Heading}
-use Rattle.arcread.specs.Kinds.{settingsBytes, labelBytes, stationBytes}
-use Rattle.arcwrite.proofs.Records.{length-settings, length-label, length-station}
-use Rattle.state.specs.declared.Row.{Row}
-use Rattle.state.specs.declared.Tally.{Tally}
+use Rattle.arckinds.specs.Kinds.{settingsBytes, labelBytes, stationBytes}
+use Rattle.arckinds.proofs.Records.{length-settings}
+use Rattle.arcput.proofs.Laws.{labels-all, stations-all}
+use Rattle.tally.specs.declared.Row.{Row}
+use Rattle.tally.specs.declared.Tally.{Tally}
 use Rattle.lent.specs.Lent.{headingLong, headingBytes, rowBytes, tallyBytes}
 
 -- ---- a heading whose counts are within its arrays
 module _ (h : Heading) (few : h .parameters ≤ length (h .labels)) (seats : h .stations ≤ length (h .listed)) where
-  labels-all : length (encoded labelBytes (labelsOf h)) ≡ 16 * h .parameters
-  unfolding labelsOf
-  labels-all = length-encoded labelBytes 16 length-label (labelsOf h) ∙ ap (λ n. n * 16) (length-take-le _ _ few) ∙ omega arith
-
-  stations-all : length (encoded stationBytes (stationsOf h)) ≡ 8 * h .stations
-  unfolding stationsOf
-  stations-all = length-encoded stationBytes 8 length-station (stationsOf h) ∙ ap (λ n. n * 8) (length-take-le _ _ seats) ∙ omega arith
-
   pub heading-long : length (headingBytes h) ≡ headingLong (h .parameters) (h .stations)
   unfolding headingBytes
-  heading-long = simp (length-append, length-bytesOf, length-settings, labels-all, stations-all) (omega arith)
+  heading-long = simp (length-append, length-bytesOf, length-settings, labels-all h few seats, stations-all h few seats) (omega arith)
 
   pub heading-laid : (out : List ℕ)
       → let a = lay (lay (lay out 0 (settingsBytes (h .settings))) 12 (bytesOf 2 (h .parameters))) 14 (bytesOf 2 (h .stations)) in
       lay (lay a 16 (encoded labelBytes (labelsOf h))) (16 + 16 * h .parameters) (encoded stationBytes (stationsOf h)) ≡ lay out 0 (headingBytes h)
   unfolding headingBytes
   heading-laid out =
-      lay-append _ _ _ _ _ (simp labels-all)
+      lay-append _ _ _ _ _ (simp (labels-all h few seats))
       ∙ lay-append _ _ _ _ _ (simp length-bytesOf)
       ∙ lay-append _ _ _ _ _ (simp length-bytesOf)
       ∙ lay-append _ _ _ _ _ (simp length-settings)

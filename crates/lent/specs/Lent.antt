@@ -11,10 +11,10 @@ use Rattle.section.specs.Section.{encoded}
 use Rattle.limits.specs.Limits.{noLabel, noStation}
 use Rattle.heading.specs.Judge.{labelsOf, stationsOf}
 use Rattle.heading.specs.declared.Heading.{Heading}
-use Rattle.arcread.specs.Kinds.{settingsAt, settingsBytes, labelAt, labelBytes, stationAt, stationBytes}
+use Rattle.arckinds.specs.Kinds.{settingsAt, settingsBytes, labelAt, labelBytes, stationAt, stationBytes}
 use Rattle.arcread.specs.Arc.{padded}
-use Rattle.state.specs.declared.Row.{Row}
-use Rattle.state.specs.declared.Tally.{Tally}
+use Rattle.tally.specs.declared.Row.{Row}
+use Rattle.tally.specs.declared.Tally.{Tally}
 use Rattle.normwalk.specs.Walk.{stands}
 
 -- ---- a heading: the settings' 12 bytes as in an arc file, the numbers of parameters and of stations, two bytes each, then the labels and the

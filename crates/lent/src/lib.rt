@@ -1,25 +1,16 @@
 // A heading and a tally in lent bytes, read and written: what callers that have numbers and slices only hand in and get back.
 use heading::Heading;
 use limits::Label;
-use limits::Settings;
 use limits::Station;
-use state::Row;
-use state::Tally;
+use tally::Row;
+use tally::Tally;
 ghost use mathlib.Core.Path.{_≡_};
-ghost use Prim.Native.Nat.{_+_, _*_, _≤_, min};
+ghost use Prim.Native.Nat.{_≤_, min};
 ghost use lib.ListN.{length};
 ghost use Rattle.words.specs.Words.{word, bytesOf, lay};
 ghost use Rattle.section.specs.Section.{encoded};
 ghost use Rattle.limits.specs.Limits.{noLabel, noStation};
-ghost use Rattle.heading.specs.Judge.{labelsOf, stationsOf};
-ghost use Rattle.arcread.specs.Kinds.{
-  settingsAt,
-  settingsBytes,
-  labelAt,
-  labelBytes,
-  stationAt,
-  stationBytes,
-};
+ghost use Rattle.arckinds.specs.Kinds.{labelAt, stationAt};
 ghost use Rattle.arcread.specs.Arc.{padded};
 ghost use Rattle.normwalk.specs.Walk.{stands};
 ghost use Rattle.lent.specs.Lent.{
@@ -50,39 +41,6 @@ fn has_heading(b: &[u8]) -> bool
     16 + 16 * held(b, 12, 50) + 8 * held(b, 14, 16) <= b.len()
 }
 
-fn settings_in(b: &[u8]) -> Settings
-    ensures { λ r. ⌜ r ≡ settingsAt (now (b .entry)) 0 ⌝ }
-{
-    Settings {
-        arc: wordread::read_u32(b, 0),
-        first: wordread::read_u32(b, 4),
-        days: wordread::read_u16(b, 8),
-        level: wordread::read_u16(b, 10),
-    }
-}
-
-fn label_in(b: &[u8], at: usize) -> Label
-    requires { ⌜ at ≤ 1000 ⌝ }
-    ensures { λ r. ⌜ r ≡ labelAt (now (b .entry)) at ⌝ }
-{
-    Label {
-        kind: wordread::read_u16(b, at),
-        index: wordread::read_u16(b, at + 2),
-        weight: wordread::read_u32(b, at + 4),
-        estimate: wordread::read_i64(b, at + 8),
-    }
-}
-
-fn station_in(b: &[u8], at: usize) -> Station
-    requires { ⌜ at ≤ 1000 ⌝ }
-    ensures { λ r. ⌜ r ≡ stationAt (now (b .entry)) at ⌝ }
-{
-    Station {
-        number: wordread::read_u16(b, at),
-        correction: wordread::read_i32(b, at + 4),
-    }
-}
-
 // The first n labels; slots past them are 0.
 fn labels_in(b: &[u8], n: usize) -> [Label; 50]
     requires { ⌜ n ≤ 50 ⌝ }
@@ -97,7 +55,7 @@ fn labels_in(b: &[u8], n: usize) -> [Label; 50]
     let mut at: usize = 16;
     let mut i: usize = 0;
     while i < n {
-        labels[i] = label_in(b, at);
+        labels[i] = arckinds::load_label(b, at);
         at += 16;
         i += 1;
     }
@@ -116,7 +74,7 @@ fn stations_in(b: &[u8], start: usize, n: usize) -> [Station; 16]
     let mut at = start;
     let mut i: usize = 0;
     while i < n {
-        listed[i] = station_in(b, at);
+        listed[i] = arckinds::load_station(b, at);
         at += 8;
         i += 1;
     }
@@ -132,7 +90,7 @@ pub fn heading_in(b: &[u8]) -> Heading
     let labels = labels_in(b, n);
     let listed = stations_in(b, 16 + 16 * n, m);
     Heading {
-        settings: settings_in(b),
+        settings: arckinds::load_settings(b, 0),
         parameters: wordread::read_u16(b, 12) as usize,
         stations: wordread::read_u16(b, 14) as usize,
         labels,
@@ -142,66 +100,6 @@ pub fn heading_in(b: &[u8]) -> Heading
 
 // ---- a heading, written
 
-fn put_settings(s: Settings, out: &mut [u8])
-    ensures { λ _. ⌜ now (out .exit) ≡ lay (now (out .entry)) 0 (settingsBytes s) ⌝ }
-{
-    wordwrite::write_u32(out, 0, s.arc);
-    wordwrite::write_u32(out, 4, s.first);
-    wordwrite::write_u16(out, 8, s.days);
-    wordwrite::write_u16(out, 10, s.level);
-}
-
-fn put_label(l: Label, out: &mut [u8], at: usize)
-    requires { ⌜ at ≤ 1000 ⌝ }
-    ensures { λ _. ⌜ now (out .exit) ≡ lay (now (out .entry)) at (labelBytes l) ⌝ }
-{
-    wordwrite::write_u16(out, at, l.kind);
-    wordwrite::write_u16(out, at + 2, l.index);
-    wordwrite::write_u32(out, at + 4, l.weight);
-    wordwrite::write_i64(out, at + 8, l.estimate);
-}
-
-fn put_station(t: Station, out: &mut [u8], at: usize)
-    requires { ⌜ at ≤ 1000 ⌝ }
-    ensures { λ _. ⌜ now (out .exit) ≡ lay (now (out .entry)) at (stationBytes t) ⌝ }
-{
-    wordwrite::write_u16(out, at, t.number);
-    wordwrite::write_u16(out, at + 2, 0);
-    wordwrite::write_i32(out, at + 4, t.correction);
-}
-
-// The labels that count, one after the other.
-fn put_labels(h: Heading, out: &mut [u8])
-    requires { ⌜ h .parameters ≤ 50 ⌝ }
-    ensures { λ _. ⌜ now (out .exit) ≡ lay (now (out .entry)) 16 (encoded labelBytes (labelsOf h)) ⌝ }
-{
-    let n = h.parameters;
-    let mut at: usize = 16;
-    let mut i: usize = 0;
-    while i < n {
-        let l = h.labels[i];
-        put_label(l, out, at);
-        at += 16;
-        i += 1;
-    }
-}
-
-// The stations that count, one after the other from a place on.
-fn put_stations(h: Heading, out: &mut [u8], start: usize)
-    requires { ⌜ (h .stations ≤ 16) × (start ≤ 816) ⌝ }
-    ensures { λ _. ⌜ now (out .exit) ≡ lay (now (out .entry)) start (encoded stationBytes (stationsOf h)) ⌝ }
-{
-    let n = h.stations;
-    let mut at = start;
-    let mut i: usize = 0;
-    while i < n {
-        let t = h.listed[i];
-        put_station(t, out, at);
-        at += 8;
-        i += 1;
-    }
-}
-
 // A heading's bytes at the front of a room; a byte for which there is no room is dropped.
 pub fn put_heading(h: Heading, out: &mut [u8])
     requires { ⌜ (h .parameters ≤ 50) × (h .stations ≤ 16) ⌝ }
@@ -210,11 +108,11 @@ pub fn put_heading(h: Heading, out: &mut [u8])
     let s = h.settings;
     let p = h.parameters;
     let t = h.stations;
-    put_settings(s, out);
+    arcput::put_settings(out, 0, s);
     wordwrite::write_u16(out, 12, p as u16);
     wordwrite::write_u16(out, 14, t as u16);
-    put_labels(h, out);
-    put_stations(h, out, 16 + 16 * p);
+    arcput::put_labels(h, out, 16);
+    arcput::put_stations(h, out, 16 + 16 * p);
 }
 
 // ---- a tally, read

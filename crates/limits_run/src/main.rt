@@ -1,7 +1,7 @@
 // Units at the limits of each type, and of the numbers next to the types: each becomes a double, and the double a unit
 // again. A line has the type, the unit, and the unit that came back or the refusal.
+use types::RowAnswer;
 use units::DoubleAnswer;
-use units::RowAnswer;
 use units::UnitAnswer;
 
 // Writes the unit of a double of a type, and ends the line.
@@ -38,7 +38,7 @@ fn around(kind: u32, q: i64) {
 
 // Both limits of a type; of what is no type, 0.
 fn limits(kind: u32) {
-    match units::row_of(kind) {
+    match types::row_of(kind) {
         RowAnswer::Is(row) => {
             around(kind, row.low);
             around(kind, row.high);

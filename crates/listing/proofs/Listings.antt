@@ -20,7 +20,7 @@ use Rattle.decimal.proofs.Laying.{part-to-end}
 use Rattle.heading.specs.Judge.{labelsOf}
 use Rattle.heading.specs.declared.Heading.{Heading}
 use Rattle.heading.proofs.Sound.{sound}
-use Rattle.arcread.specs.Kinds.{recordSize}
+use Rattle.arckinds.specs.Kinds.{recordSize}
 use Rattle.arcread.specs.Arc.{Arc, readArc, shown, toldAnswer, toldRead}
 use Rattle.arcread.specs.declared.ArcRead.{ArcRead}
 use Rattle.arcread.specs.declared.ReadAnswer.the-variants as Answers

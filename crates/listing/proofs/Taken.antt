@@ -16,10 +16,11 @@ use Rattle.words.proofs.Words.{lay-front}
 use Rattle.heading.specs.Judge.{judged}
 use Rattle.heading.specs.declared.Heading.{Heading}
 use Rattle.heading.proofs.Sound.{sound}
-use Rattle.arcread.specs.Kinds.{recordSize}
+use Rattle.arckinds.specs.Kinds.{recordSize}
 use Rattle.sums.specs.Triangle.{tri}
-use Rattle.state.specs.State.{State, stateOf, emptyTally, cleared, capped, roomNumber, started}
-use Rattle.state.specs.declared.Tally.{Tally}
+use Rattle.tally.specs.Tally.{emptyTally}
+use Rattle.tally.specs.declared.Tally.{Tally}
+use Rattle.state.specs.State.{State, stateOf, cleared, capped, roomNumber, started}
 use Rattle.account.specs.Machine.{run, answers}
 use Rattle.account.specs.Taking.{frameOf, recordAnswer, recordStep, recordsIn, wholeRecords, wholeRun, runNumber, runState, runAnswers}
 use Rattle.account.proofs.Guarded.{roomy-by, started-is, started-held}

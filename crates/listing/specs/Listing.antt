@@ -11,7 +11,8 @@ use Rattle.words.specs.Words.{lay}
 use Rattle.heading.specs.declared.Heading.{Heading}
 use Rattle.arcread.specs.Arc.{Arc, readArc}
 use Rattle.sums.specs.Triangle.{tri}
-use Rattle.state.specs.State.{State, stateOf, emptyTally}
+use Rattle.tally.specs.Tally.{emptyTally}
+use Rattle.state.specs.State.{State, stateOf}
 use Rattle.account.specs.Machine.{run, answers}
 use Rattle.account.specs.Taking.{frameOf, recordAnswer, recordStep, recordsIn}
 use Rattle.texts.specs.Lines.{refusedLine, arcLines}

@@ -8,7 +8,7 @@ ghost use lib.ListN.{length};
 ghost use Rattle.whole.specs.Answer.{given};
 ghost use Rattle.decimal.specs.Laid.{laid};
 ghost use Rattle.heading.specs.Judge.{judged};
-ghost use Rattle.arcread.specs.Kinds.{recordSize};
+ghost use Rattle.arckinds.specs.Kinds.{recordSize};
 ghost use Rattle.sums.specs.Triangle.{tri};
 ghost use Rattle.listing.specs.Listing.{runLines, listing, listAnswer, listLeft, toldList};
 

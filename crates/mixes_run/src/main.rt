@@ -4,9 +4,9 @@ use heading::Heading;
 use limits::Label;
 use limits::Settings;
 use limits::Station;
-use state::Row;
-use state::Tally;
 use taking::TakeAnswer;
+use tally::Row;
+use tally::Tally;
 ghost use Prim.Native.Nat.{_<_};
 
 // Whose record comes next, 16 to a mix: one after another, by turns, backwards, and one more.
@@ -229,7 +229,7 @@ fn take_mix(h: Heading, run: &[u8], mix: usize) {
         let k = next[s] % 4;
         next[s] = k + 1;
         let j = s * 4 + k;
-        let bytes = arcread::record_at(run, 0, 2, j);
+        let bytes = records::record_at(run, 0, 2, j);
         let taken = taking::take(h, tally, &mut matrix, &mut rights, bytes);
         let answer = taken.answer;
         told[j] = number(answer);

@@ -13,7 +13,8 @@ use Rattle.limits.specs.declared.Label.{Label}
 use Rattle.heading.specs.Judge.{labelsOf}
 use Rattle.heading.specs.declared.Heading.{Heading}
 use Rattle.sums.specs.Triangle.{tri}
-use Rattle.state.specs.State.{State, accepted}
+use Rattle.tally.specs.Tally.{accepted}
+use Rattle.state.specs.State.{State}
 use Rattle.normheads.specs.Kinds.{arcBytes, normalLabelBytes}
 use Rattle.normroom.specs.Bytes.{fileLong, nameBytes, counted, tailBytes}
 use Rattle.normroom.proofs.Laid.{length-name, file-laid, file-long}

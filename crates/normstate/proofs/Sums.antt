@@ -18,8 +18,10 @@ use Rattle.sums.specs.Sound.{entry, breaks, breaksSide}
 use Rattle.sums.proofs.Lists.{tri-within}
 use Rattle.system.specs.System.{boundOf}
 use Rattle.system.proofs.Sound.{SoundSums, entry-wider, side-wider}
-use Rattle.state.specs.State.{State, accepted, matrixTop, rightTop, squareTop, tallySound, matrixSound, rightsSound, soundState}
-use Rattle.state.proofs.Judged.{sum-le, tally-small}
+use Rattle.counts.proofs.Totals.{sum-le}
+use Rattle.tally.specs.Tally.{accepted, squareTop, tallySound}
+use Rattle.tally.proofs.Rows.{tally-small}
+use Rattle.state.specs.State.{State, matrixTop, rightTop, matrixSound, rightsSound, soundState}
 
 -- ---- of lent room, the part that holds the sums
 module _ (m : List ℤ) (p : ℕ) where

@@ -10,7 +10,8 @@ use Rattle.limits.specs.declared.Label.{Label}
 use Rattle.heading.specs.Judge.{labelsOf}
 use Rattle.heading.specs.declared.Heading.{Heading}
 use Rattle.sums.specs.Triangle.{tri}
-use Rattle.state.specs.State.{State, accepted, stateNumber}
+use Rattle.tally.specs.Tally.{accepted}
+use Rattle.state.specs.State.{State, stateNumber}
 use Rattle.system.specs.System.{System}
 use Rattle.system.specs.declared.NormalLabel.{NormalLabel}
 use Rattle.normread.specs.Normal.{normalBytes}

@@ -4,7 +4,7 @@ use heading::Verdict;
 use limits::Label;
 use normwrite::WriteAnswer;
 use refusal::Refusal;
-use state::Tally;
+use tally::Tally;
 ghost use mathlib.Core.Path.{_≡_};
 ghost use mathlib.Core.List.{map};
 ghost use Prim.Native.Nat.{_+_, _*_, _≤_};
@@ -68,7 +68,7 @@ fn put_file(h: Heading, t: Tally, matrix: &[i64], rights: &[i64], out: &mut [u8]
     let s = h.settings;
     let p = h.parameters;
     let counts = t.counts;
-    let n = state::accepted(counts);
+    let n = counts::accepted(counts);
     wordwrite::write_u32(out, 0, 1);
     wordwrite::write_u32(out, 4, s.arc);
     put_labels(h, out, 8);

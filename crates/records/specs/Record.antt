@@ -1,12 +1,21 @@
 -- Document 01, 'Arc file': "Records, each 32 + 2P bytes for P parameters: station u16, sigma s u16 in steps, type u32, day u32, ms u32, observed
 -- f64, computed f64, P partials i16".
-use Prim.Native.Nat.{ℕ, zero, suc, _+_}
+use Prim.Native.Nat.{ℕ, zero, suc, _+_, _*_}
 use mathlib.Core.List.{List, [], _∷_}
+use lib.ListN.{length, take, drop}
 use lib.IntN.{ℤ}
 use lib.Ieee.{binary64, ofBits}
 use mir.Syntax.{w16}
+use Rattle.whole.specs.Tests.{upTo, pick, both}
 use Rattle.words.specs.Words.{word, signedWord}
+use Rattle.arckinds.specs.Kinds.{recordSize}
 use Rattle.records.specs.declared.Record.{Record}
+
+-- record i of those that begin at a place, or nothing where the bytes have no such whole record
+unfoldable pub recordPart : List ℕ → ℕ → ℕ → ℕ → List ℕ
+recordPart s start p i =
+    pick (both (upTo p 50) (upTo (start + suc i * recordSize p) (length s)))
+    (take (recordSize p) (drop (start + i * recordSize p) s)) []
 
 -- the record of some bytes; its doubles are those of their patterns
 unfoldable pub recordIn : List ℕ → Record

@@ -1,10 +1,10 @@
-// A tracking record decoded by value, and its partials.
+// A tracking record: its bytes in a file, its fields by value, and its partials.
 ghost use mathlib.Core.Path.{_≡_};
 ghost use Prim.Native.Nat.{_+_, _*_, _≤_};
 ghost use lib.ListN.{length};
 ghost use mir.Syntax.{w16};
 ghost use Rattle.words.specs.Words.{signedWord};
-ghost use Rattle.records.specs.Record.{recordIn, partialsIn};
+ghost use Rattle.records.specs.Record.{recordPart, recordIn, partialsIn};
 
 pub struct Record {
     pub station: u16,
@@ -14,6 +14,24 @@ pub struct Record {
     pub ms: u32,
     pub observed: f64,
     pub computed: f64,
+}
+
+// The bytes of record i of those that begin at `start`; none where the file has no such whole record.
+pub fn record_at(file: &[u8], start: usize, parameters: usize, i: usize) -> &[u8]
+    ensures { λ r. ⌜ now r ≡ recordPart (now (file .entry)) start parameters i ⌝ }
+{
+    let none: usize = 0;
+    if 50 < parameters {
+        return &file[none..none];
+    }
+    let size = 32 + 2 * parameters;
+    if i < words::left(file.len(), start) / size {
+        let a = start + i * size;
+        let e = a + size;
+        &file[a..e]
+    } else {
+        &file[none..none]
+    }
 }
 
 // The record of some bytes; bytes past the end count as 0.
@@ -26,8 +44,8 @@ pub fn decode(bytes: &[u8]) -> Record
         kind: wordread::read_u32(bytes, 4),
         day: wordread::read_u32(bytes, 8),
         ms: wordread::read_u32(bytes, 12),
-        observed: units::double_of_bits(wordread::read_u64(bytes, 16)),
-        computed: units::double_of_bits(wordread::read_u64(bytes, 24)),
+        observed: doubles::double_of_bits(wordread::read_u64(bytes, 16)),
+        computed: doubles::double_of_bits(wordread::read_u64(bytes, 24)),
     }
 }
 

@@ -24,8 +24,9 @@ use Rattle.heading.specs.declared.Heading.{Heading}
 use Rattle.heading.specs.declared.Verdict.{Verdict}
 use Rattle.heading.specs.declared.Verdict.the-variants as Verdicts
 use Rattle.heading.proofs.Sound.{Sound, sound}
-use Rattle.state.specs.declared.Tally.{Tally}
-use Rattle.state.specs.State.{State, emptyTally, stateOf, cleared, soundState, roomy, roomNumber, stateNumber, started}
+use Rattle.tally.specs.Tally.{emptyTally}
+use Rattle.tally.specs.declared.Tally.{Tally}
+use Rattle.state.specs.State.{State, stateOf, cleared, soundState, roomy, roomNumber, stateNumber, started}
 
 -- ---- an answer and its number
 told : (v : Verdict) → toldVerdict v ≡ answered (numberIn (toldVerdict v)) tt

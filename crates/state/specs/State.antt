@@ -1,19 +1,18 @@
 -- Document 01, 'Taking a record': "The state holds the packed upper triangle by columns, the right sides, the square sum, a count for each
 -- station and a table of sixteen rows of ten last times, 0 for none." What a state is, the empty one, and which states are sound (6).
-use Prim.Native.Nat.{ℕ, suc, _+_, _*_, _^_, _≤_, _<_, min}
+use Prim.Native.Nat.{ℕ, suc, _*_, _^_, min}
 use mathlib.Core.List.{List, [], _∷_, _++_}
 use mathlib.Core.Bool.{Bool, not}
 use lib.IntN.{ℤ, pos}
-use lib.ListN.{length, getD, set, drop, replicate}
-use Rattle.whole.specs.Tests.{less, upTo, same, pick, both, either, below}
-use Rattle.whole.specs.Lists.{all}
+use lib.ListN.{length, drop, replicate}
+use Rattle.whole.specs.Tests.{less, upTo, same, pick, both, below}
 use Rattle.refusal.specs.First.{unless, numberIn, first}
 use Rattle.sums.specs.Triangle.{tri}
 use Rattle.sums.specs.Sound.{entry, isZero, breaks, breaksSide}
 use Rattle.heading.specs.Judge.{judged}
 use Rattle.heading.specs.declared.Heading.{Heading}
-use Rattle.state.specs.declared.Row.{Row}
-use Rattle.state.specs.declared.Tally.{Tally}
+use Rattle.tally.specs.Tally.{emptyTally, accepted, tallySound}
+use Rattle.tally.specs.declared.Tally.{Tally}
 
 pub record State : Type 0 where
   pub matrix : List ℤ
@@ -23,70 +22,18 @@ pub record State : Type 0 where
 abbrev pub stateOf : List ℤ → List ℤ → Tally → State
 stateOf m r t = record { matrix = m; rights = r; tally = t }
 
--- ---- the tally
--- what stands past the last row
-abbrev pub noRow : Row
-noRow = record { times = [] }
-
-abbrev pub countOf : Tally → ℕ → ℕ
-countOf t i = getD (t .counts) i 0
-
-abbrev pub lastTimes : Tally → ℕ → Row
-lastTimes t i = getD (t .rows) i noRow
-
-abbrev pub rowWith : Row → ℕ → ℕ → Row
-rowWith w k time = record { times = set (w .times) k time }
-
--- one record more of row i and column k: its square term added, its count one more, its time kept
-unfoldable pub tallyWith : Tally → ℕ → ℕ → ℕ → ℕ → Tally
-tallyWith t i k time q =
-    record {
-      square = t .square + q;
-      counts = set (t .counts) i (countOf t i + 1);
-      rows = set (t .rows) i (rowWith (lastTimes t i) k time);
-    }
-
 -- ---- the empty state
-abbrev pub emptyTally : Tally
-emptyTally = record { square = 0; counts = replicate 16 0; rows = replicate 16 (record { times = replicate 10 0 }) }
-
 -- a list with its first n numbers 0
 unfoldable pub cleared : ℕ → List ℤ → List ℤ
 cleared n l = replicate n (pos 0) ++ drop n l
 
 -- ---- sound states
--- "n is the total of its station counts"
-unfoldable pub sumOf : List ℕ → ℕ
-sumOf [] = 0
-sumOf (c ∷ l) = c + sumOf l
-
--- no count is above 256
-abbrev pub Few : List ℕ → Type 0
-Few counts = (i : ℕ) → i < 16 → getD counts i 0 ≤ 256
-
-abbrev pub accepted : Tally → ℕ
-accepted t = sumOf (t .counts)
-
--- "no matrix sum passes n·2^46, no right side n·2^43, no square sum n·2^39"
+-- "no matrix sum passes n·2^46, no right side n·2^43"
 abbrev pub matrixTop : ℕ → ℕ
 matrixTop n = n * 2 ^ 46
 
 abbrev pub rightTop : ℕ → ℕ
 rightTop n = n * 2 ^ 43
-
-abbrev pub squareTop : ℕ → ℕ
-squareTop n = n * 2 ^ 39
-
--- "a count above 256 .. or anything but 0 in a slot past the .. stations"
-unfoldable pub countsSound : ℕ → List ℕ → Bool
-countsSound stations counts = below (λ i. upTo (getD counts i 0) (pick (less i stations) 256 0)) 16
-
-unfoldable pub rowsSound : ℕ → List Row → Bool
-rowsSound stations rows = below (λ i. either (less i stations) (all (λ t. same t 0) (getD rows i noRow .times))) 16
-
-unfoldable pub tallySound : ℕ → Tally → Bool
-tallySound stations t =
-    both (countsSound stations (t .counts)) (both (rowsSound stations (t .rows)) (upTo (t .square) (squareTop (accepted t))))
 
 -- each sum of p parameters, alone: within its bound, and 0 beside a diagonal that is 0; the diagonal not negative
 unfoldable pub matrixSound : ℕ → ℕ → List ℤ → Bool

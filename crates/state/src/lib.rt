@@ -3,26 +3,20 @@ use heading::Heading;
 use heading::Verdict;
 use refusal::Refusal;
 use sums::Walked;
+use tally::Tally;
 ghost use mathlib.Core.Path.{_≡_};
-ghost use Prim.Native.Nat.{_*_, _^_, _≤_, _<_, min};
+ghost use Prim.Native.Nat.{_*_, _^_, _≤_, min};
 ghost use lib.IntN.{pos};
 ghost use lib.ListN.{length};
-ghost use Rattle.whole.specs.Tests.{less, upTo, same, pick, both};
-ghost use Rattle.whole.specs.Lists.{all};
+ghost use Rattle.whole.specs.Tests.{upTo, both};
 ghost use Rattle.sums.specs.Triangle.{tri};
 ghost use Rattle.refusal.specs.First.{answered};
 ghost use Rattle.heading.specs.Judge.{toldVerdict};
 ghost use Rattle.state.specs.State.{
   stateOf,
-  emptyTally,
   cleared,
-  sumOf,
-  Few,
   matrixTop,
   rightTop,
-  countsSound,
-  rowsSound,
-  tallySound,
   matrixSound,
   rightsSound,
   soundState,
@@ -31,18 +25,6 @@ ghost use Rattle.state.specs.State.{
   started,
   seenIn,
 };
-
-// The last times of one station, a type each; 0 for none.
-pub struct Row {
-    pub times: [u64; 10],
-}
-
-// The square sum, the accepted records of each station, and the last times of each station.
-pub struct Tally {
-    pub square: u64,
-    pub counts: [u32; 16],
-    pub rows: [Row; 16],
-}
 
 pub struct Started {
     pub answer: Verdict,
@@ -86,22 +68,6 @@ fn clear(room: &mut [i64], n: usize)
     }
 }
 
-fn no_rows() -> [Row; 16]
-    ensures { λ r. ⌜ r ≡ emptyTally .rows ⌝ }
-{
-    [Row { times: [0u64; 10] }; 16]
-}
-
-fn no_tally() -> Tally
-    ensures { λ r. ⌜ r ≡ emptyTally ⌝ }
-{
-    Tally {
-        square: 0,
-        counts: [0u32; 16],
-        rows: no_rows(),
-    }
-}
-
 // 20, 2, 4, 5, else the empty state.
 pub fn start(h: Heading, matrix: &mut [i64], rights: &mut [i64]) -> Started
     ensures { λ r. ⌜ toldVerdict (r .answer) ≡ answered (roomNumber h (now (matrix .entry)) (now (rights .entry))) tt ⌝ }
@@ -110,7 +76,7 @@ pub fn start(h: Heading, matrix: &mut [i64], rights: &mut [i64]) -> Started
     match judge_room(h, matrix, rights) {
         Verdict::Refused(refusal) => Started {
             answer: Verdict::Refused(refusal),
-            tally: no_tally(),
+            tally: tally::no_tally(),
         },
         Verdict::Sound => {
             let p = h.parameters;
@@ -118,95 +84,9 @@ pub fn start(h: Heading, matrix: &mut [i64], rights: &mut [i64]) -> Started
             clear(rights, p);
             Started {
                 answer: Verdict::Sound,
-                tally: no_tally(),
+                tally: tally::no_tally(),
             }
         }
-    }
-}
-
-// ---- the tally
-
-// The largest count that row i may have.
-fn count_limit(i: usize, stations: usize) -> u32
-    ensures { λ r. ⌜ r ≡ pick (less i stations) 256 0 ⌝ }
-{
-    if i < stations { 256 } else { 0 }
-}
-
-fn counts_sound(stations: usize, counts: [u32; 16]) -> bool
-    ensures { λ r. ⌜ r ≡ countsSound stations counts ⌝ }
-{
-    let mut i: usize = 0;
-    while i < 16 {
-        if count_limit(i, stations) < counts[i] {
-            return false;
-        }
-        i += 1;
-    }
-    true
-}
-
-fn wide(x: u32) -> u64
-    ensures { λ r. ⌜ (r ≡ x) × (r < 4294967296) ⌝ }
-{
-    x as u64
-}
-
-// How many records were accepted, by the counts of the stations.
-pub fn accepted(counts: [u32; 16]) -> u64
-    ensures { λ r. ⌜ (r ≡ sumOf counts) × (Few counts → r ≤ 4096) ⌝ }
-{
-    let mut n: u64 = 0;
-    let mut station: usize = 0;
-    while station < 16 {
-        n += wide(counts[station]);
-        station += 1;
-    }
-    n
-}
-
-// Whether a station has no last time.
-fn is_blank(w: Row) -> bool
-    ensures { λ r. ⌜ r ≡ all (λ t. same t 0) (w .times) ⌝ }
-{
-    let mut k: usize = 0;
-    while k < 10 {
-        if w.times[k] == 0 {
-            k += 1;
-        } else {
-            return false;
-        }
-    }
-    true
-}
-
-fn rows_sound(stations: usize, t: Tally) -> bool
-    ensures { λ r. ⌜ r ≡ rowsSound stations (t .rows) ⌝ }
-{
-    let mut i = stations;
-    while i < 16 {
-        let w = t.rows[i];
-        if is_blank(w) {
-            i += 1;
-        } else {
-            return false;
-        }
-    }
-    true
-}
-
-fn tally_sound(stations: usize, t: Tally) -> bool
-    ensures { λ r. ⌜ r ≡ tallySound stations t ⌝ }
-{
-    let counts = t.counts;
-    if counts_sound(stations, counts) {
-        if rows_sound(stations, t) {
-            t.square <= accepted(counts) * 549755813888
-        } else {
-            false
-        }
-    } else {
-        false
     }
 }
 
@@ -244,9 +124,9 @@ fn is_sound(h: Heading, t: Tally, matrix: &[i64], rights: &[i64]) -> bool
     requires { ⌜ (h .parameters ≤ 50) × (tri (h .parameters) ≤ length (now matrix)) × (h .parameters ≤ length (now rights)) ⌝ }
     ensures { λ r. ⌜ r ≡ soundState (h .stations) (h .parameters) (stateOf (now (matrix .entry)) (now (rights .entry)) t) ⌝ }
 {
-    if tally_sound(h.stations, t) {
+    if tally::tally_sound(h.stations, t) {
         let counts = t.counts;
-        let n = accepted(counts);
+        let n = counts::accepted(counts);
         if matrix_sound(h.parameters, n, matrix) {
             rights_sound(h.parameters, n, matrix, rights)
         } else {

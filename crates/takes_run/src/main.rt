@@ -6,9 +6,9 @@ use libc::STDIN_FILENO;
 use limits::Label;
 use limits::Settings;
 use limits::Station;
-use state::Row;
-use state::Tally;
 use taking::TakeAnswer;
+use tally::Row;
+use tally::Tally;
 ghost use mathlib.Core.Path.{_≡_};
 ghost use lib.ListN.{length};
 

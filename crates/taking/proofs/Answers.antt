@@ -20,7 +20,7 @@ use Rattle.heading.specs.Judge.{toldVerdict}
 use Rattle.heading.specs.declared.Heading.{Heading}
 use Rattle.heading.specs.declared.Verdict.{Verdict}
 use Rattle.heading.specs.declared.Verdict.the-variants as Verdicts
-use Rattle.arcread.specs.Kinds.{recordSize}
+use Rattle.arckinds.specs.Kinds.{recordSize}
 use Rattle.state.specs.State.{State, stateNumber, capped}
 use Rattle.account.specs.Machine.{run, answers}
 use Rattle.account.specs.Taking.{frameOf, book, recordAnswer, recordStep, takeAnswer, takeStep, cut, wholeRecords, recordsIn, wholeRun, runNumber, runState, runAnswers}

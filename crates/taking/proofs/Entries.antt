@@ -12,12 +12,12 @@ use Rattle.heading.specs.Judge.{stationsOf, numbersOf}
 use Rattle.heading.specs.declared.Heading.{Heading}
 use Rattle.heading.proofs.Sound.{sound}
 use Rattle.sums.specs.Triangle.{tri}
+use Rattle.tally.specs.declared.Tally.{Tally}
 use Rattle.state.specs.State.{State, stateOf, stateNumber}
-use Rattle.state.specs.declared.Tally.{Tally}
 use Rattle.account.specs.Machine.{run, answers}
 use Rattle.account.specs.Taking.{frame, frameOf, correctionsOf, recordAnswer, recordStep}
 use Rattle.account.proofs.Guarded.{Held, held-heading, held-shaped, whole}
-use Rattle.taking.specs.Told.{Prepared}
+use Rattle.runs.specs.Runs.{Prepared}
 use Rattle.taking.proofs.Wide.{Just, widened, answer-wide, step-wide, run-wide, answers-wide, parted, sound-part}
 use Rattle.taking.proofs.Copies.{take-copied}
 

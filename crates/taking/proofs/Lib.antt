@@ -1,5 +1,3 @@
-pub mod Steps
-pub mod Runs
 pub mod Wide
 pub mod Copies
 pub mod Entries

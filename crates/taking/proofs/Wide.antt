@@ -15,7 +15,8 @@ use Rattle.whole.proofs.Adding.{length-plus, plus-split, plus-nothing}
 use Rattle.sums.specs.Triangle.{tri}
 use Rattle.sums.specs.Sound.{entry}
 use Rattle.sums.proofs.Lists.{tri-within}
-use Rattle.state.specs.State.{State, stateOf, soundState, matrixTop, rightTop, accepted}
+use Rattle.tally.specs.Tally.{accepted}
+use Rattle.state.specs.State.{State, stateOf, soundState, matrixTop, rightTop}
 use Rattle.account.specs.Machine.{run, answers}
 use Rattle.account.specs.Taking.{Frame, matrixTerms, rightTerms, book, recordAnswer, recordStep}
 use Rattle.account.proofs.Accepted.{length-matrixTerms, length-rightTerms}

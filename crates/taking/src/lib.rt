@@ -5,34 +5,17 @@ use judging::Fitted;
 use judging::Judgement;
 use limits::Settings;
 use refusal::Refusal;
-use state::Row;
-use state::Tally;
+use tally::Tally;
 ghost use mathlib.Core.Path.{_≡_};
-ghost use Prim.Native.Nat.{_*_, _/_, _≤_, _<_, _^_};
-ghost use lib.IntN.{pos, natAbs};
-ghost use lib.ListN.{length, getD};
-ghost use Rattle.whole.specs.Sums.{plus, Within};
-ghost use Rattle.refusal.specs.Number.{numberOf};
+ghost use Prim.Native.Nat.{_*_, _/_, _<_};
+ghost use lib.ListN.{length};
 ghost use Rattle.refusal.specs.First.{answered};
-ghost use Rattle.words.specs.Words.{lay};
 ghost use Rattle.heading.specs.Judge.{numbersOf, toldVerdict};
-ghost use Rattle.arcread.specs.Kinds.{recordSize};
-ghost use Rattle.sums.specs.Triangle.{times, triangle, tri};
-ghost use Rattle.records.specs.Record.{partialsIn};
-ghost use Rattle.state.specs.State.{stateOf, rowWith, stateNumber};
-ghost use Rattle.account.specs.Taking.{
-  frame,
-  frameOf,
-  correctionsOf,
-  recordAnswer,
-  recordStep,
-  takeAnswer,
-  takeStep,
-  runNumber,
-  runState,
-  runAnswers,
-};
-ghost use Rattle.taking.specs.Told.{toldTake, Prepared, runBy, answersBy};
+ghost use Rattle.sums.specs.Triangle.{triangle};
+ghost use Rattle.state.specs.State.{stateOf, stateNumber};
+ghost use Rattle.account.specs.Taking.{frame, frameOf, correctionsOf, recordAnswer, recordStep, takeAnswer, takeStep, runNumber, runState, runAnswers};
+ghost use Rattle.runs.specs.Runs.{Prepared};
+ghost use Rattle.taking.specs.Told.{toldTake};
 
 pub enum TakeAnswer {
     Accepted,
@@ -42,51 +25,6 @@ pub enum TakeAnswer {
 pub struct Taken {
     pub answer: TakeAnswer,
     pub tally: Tally,
-}
-
-// The number of a refusal, in the byte that an answer has.
-fn code(e: Refusal) -> u8
-    ensures { λ r. ⌜ r ≡ numberOf e ⌝ }
-{
-    refusal::number(e) as u8
-}
-
-// The last time in a column of a row.
-fn last_of(row: Row, column: usize) -> u64
-    requires { ⌜ column < 10 ⌝ }
-    ensures { λ r. ⌜ r ≡ getD (row .times) column 0 ⌝ }
-{
-    row.times[column]
-}
-
-// The row with one time changed.
-fn row_with(row: Row, column: usize, time: u64) -> Row
-    requires { ⌜ column < 10 ⌝ }
-    ensures { λ r. ⌜ r ≡ rowWith row column time ⌝ }
-{
-    let mut r = row;
-    r.times[column] = time;
-    r
-}
-
-// Adds the terms of a record to the sums: w times the products of its partials, and w·R times each. The partials are laid out in `room`.
-fn add_record(
-    matrix: &mut [i64],
-    rights: &mut [i64],
-    room: &mut [i16],
-    bytes: &[u8],
-    weight: u32,
-    side: i64,
-)
-    requires { ⌜ (length (now rights) ≤ 50) × (length (now matrix) ≡ tri (length (now rights))) × (length (now room) ≡ length (now rights)) ⌝ }
-    requires { ⌜ (weight ≤ 65536) × (natAbs side ≤ 2 ^ 31) ⌝ }
-    requires { ⌜ Within (2 ^ 62) (now matrix) × Within (2 ^ 62) (now rights) ⌝ }
-    ensures matrix { λ _. ⌜ now (matrix .exit) ≡ plus (now (matrix .entry)) (triangle (pos weight) (partialsIn (length (now (rights .entry))) (now (bytes .entry)))) ⌝ }
-    ensures rights { λ _. ⌜ now (rights .exit) ≡ plus (now (rights .entry)) (times side (partialsIn (length (now (rights .entry))) (now (bytes .entry)))) ⌝ }
-{
-    records::partials(bytes, room);
-    sums::add_matrix(matrix, room, weight);
-    sums::add_times(rights, side, room);
 }
 
 // A record taken into sums of just its parameters, the heading and the state found sound.
@@ -109,13 +47,13 @@ fn take_record(
             let place = x.place;
             let row = t.rows[place];
             let count = t.counts[place];
-            match judging::judge(settings.level, x, last_of(row, x.column), count) {
+            match judging::judge(settings.level, x, runs::last_of(row, x.column), count) {
                 Judgement::Accepted(y) => {
-                    add_record(matrix, rights, room, bytes, y.weight, y.side);
+                    runs::add_record(matrix, rights, room, bytes, y.weight, y.side);
                     let mut after = t;
                     after.square = t.square + y.square;
                     after.counts[place] = count + 1;
-                    after.rows[place] = row_with(row, x.column, x.time);
+                    after.rows[place] = runs::row_with(row, x.column, x.time);
                     Taken {
                         answer: TakeAnswer::Accepted,
                         tally: after,
@@ -132,64 +70,6 @@ fn take_record(
             tally: t,
         },
     }
-}
-
-// The whole records of a run taken one after another, each with its answer written: 0, or the number of its refusal.
-fn take_all(
-    settings: Settings,
-    numbers: &[u16],
-    corrections: &[i32],
-    t: Tally,
-    matrix: &mut [i64],
-    rights: &mut [i64],
-    room: &mut [i16],
-    run: &[u8],
-    out: &mut [u8],
-) -> Tally
-    requires { ⌜ Prepared settings (now numbers) (now corrections) (stateOf (now matrix) (now rights) t) × (length (now room) ≡ length (now rights)) ⌝ }
-    requires { ⌜ length (now run) / recordSize (length (now rights)) ≤ length (now out) ⌝ }
-    ensures state { λ r. ⌜ stateOf (now (matrix .exit)) (now (rights .exit)) r ≡ runBy (frame settings (length (now (rights .entry))) (now (numbers .entry)) (now (corrections .entry))) (stateOf (now (matrix .entry)) (now (rights .entry)) t) (now (run .entry)) ⌝ }
-    ensures told { λ _. ⌜ now (out .exit) ≡ lay (now (out .entry)) 0 (answersBy (frame settings (length (now (rights .entry))) (now (numbers .entry)) (now (corrections .entry))) (stateOf (now (matrix .entry)) (now (rights .entry)) t) (now (run .entry))) ⌝ }
-{
-    let p = rights.len();
-    let size = 32 + 2 * p;
-    let n = run.len() / size;
-    let mut u = t;
-    let mut i: usize = 0;
-    let mut at: usize = 0;
-    while i < n {
-        let e = at + size;
-        let bytes = &run[at..e];
-        match judging::fits(settings, p, numbers, corrections, bytes) {
-            Fitted::Is(x) => {
-                let place = x.place;
-                let row = u.rows[place];
-                let count = u.counts[place];
-                match judging::judge(settings.level, x, last_of(row, x.column), count) {
-                    Judgement::Accepted(y) => {
-                        add_record(matrix, rights, room, bytes, y.weight, y.side);
-                        u.square = u.square + y.square;
-                        u.counts[place] = count + 1;
-                        u.rows[place] = row_with(row, x.column, x.time);
-                        out[i] = 0;
-                        at = e;
-                        i += 1;
-                    }
-                    Judgement::Refused(e1) => {
-                        out[i] = code(e1);
-                        at = e;
-                        i += 1;
-                    }
-                }
-            }
-            Fitted::Refused(e2) => {
-                out[i] = code(e2);
-                at = e;
-                i += 1;
-            }
-        }
-    }
-    u
 }
 
 // The numbers of the listed stations, in the order of the heading.
@@ -305,7 +185,7 @@ fn run_sound(
     let numbers = numbers_of(h);
     let corrections = corrections_of(h);
     let mut room: [i16; 50] = [0; 50];
-    take_all(
+    runs::take_all(
         h.settings,
         &numbers[..n],
         &corrections[..n],

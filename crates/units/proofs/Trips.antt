@@ -1,26 +1,27 @@
 -- Doubles to units and back, for every type: a law over k of the crate below, at the row of the type.
 -- Assumes nothing.
-use Prim.Native.Nat.{ℕ, _-_, _^_, _<_, _≤_}
+use Prim.Native.Nat.{ℕ, _^_, _<_, _≤_}
 use native.Mathlib.Omega.{arith}
-use mathlib.Core.Path.{_≡_, refl, sym, ap, ap₂, _∙_, subst}
-use mathlib.Core.Bool.{true, cond, _&&_}
-use borrow.Author.Tests.{leb-true, le-leb}
-use lib.Dec.{T, leb}
-use lib.IntN.{ℤ, pos, negsuc, natAbs}
+use mathlib.Core.Path.{_≡_, refl, sym, ap, _∙_, subst}
+use mathlib.Core.Bool.{true, cond}
+use lib.Dec.{T}
+use lib.IntN.{ℤ, pos, natAbs}
 use lib.Ieee.{Float, binary64, ofBits}
 use lib.Ieee.Scale.{finite}
 use lib.Ieee.Bits.{is-true}
 use Rattle.whole.specs.Answer.{Answered, given, refused}
 use Rattle.whole.specs.Tests.{pick, same}
-use Rattle.whole.proofs.Cases.{refused-not, chosen, apart, yes, by-cases, not-same, same-false}
+use Rattle.whole.proofs.Cases.{refused-not, chosen, yes}
 use Rattle.nearest.specs.Doubles.{size, nearestUnit, fitsIn, unitWithin, quotient, times1074, wholeBits, Nearest, Exactly}
 use Rattle.nearest.proofs.Claims.{answered, answers, answered-bits, unit-bits, round-trip}
 use Rattle.nearest.proofs.Back.{quotient-exact}
-use Rattle.units.specs.declared.Row.{Row}
-use Rattle.units.specs.Types.{turn, circle, isType, rowOf}
-use Rattle.units.specs.Units.{isTurn, onCircle, turned, unitOf, topOf, doubleOf}
-use Rattle.units.proofs.Rows.{by-rows, InTable, in-table}
-use Rattle.units.proofs.Limits.{and-second, within-limits, top-small}
+use Rattle.types.specs.declared.Row.{Row}
+use Rattle.types.specs.Types.{isType, rowOf}
+use Rattle.types.proofs.Rows.{by-rows, in-table}
+use Rattle.turning.specs.Turning.{isTurn, onCircle, topOf}
+use Rattle.turning.proofs.Limits.{within-limits, top-small}
+use Rattle.turning.proofs.Circle.{top-of-circle, below-top}
+use Rattle.units.specs.Units.{turned, unitOf, doubleOf}
 
 -- ---- what an answer was made of
 -- a unit before T becomes 0
@@ -73,49 +74,6 @@ pub minus-zero : (t : ℕ) → isType t ≡ true → unitOf t (ofBits binary64 (
 unfolding unitOf turned unitWithin nearestUnit size ofBits onCircle isTurn same pick
 minus-zero t y =
     rw y (by-rows (λ r. turned r (unitWithin (r .k) (r .low) (r .high) (ofBits binary64 (2 ^ 63))) ≡ given (pos 0)) refl refl refl refl refl refl t)
-
--- ---- T and 0
--- on the circle a unit is below T, and one below T stays
-on-circle : (q : ℤ) → fitsIn (pos 0) (pos turn) q ≡ true → fitsIn (pos 0) (pos (turn - 1)) (onCircle circle q) ≡ true
-unfolding onCircle isTurn pick
-on-circle (negsuc n) h = absurd (apart (sym h))
-on-circle (pos n) h =
-    by-cases (same n turn) (λ e. rw e)
-    (λ e. rw e (below n (leb-true n turn (and-second (leb 0 n) (leb n turn) h)) (same-false n turn e)))
-  where
-    below : (n : ℕ) → n ≤ turn → (n ≡ turn → ⊥) → fitsIn (pos 0) (pos (turn - 1)) (pos n) ≡ true
-    below n h e = ap₂ (λ a b. a && b) (le-leb 0 n (omega arith)) (le-leb n (turn - 1) (omega arith))
-
-record Stays (r : Row) (q : ℤ) : Type 0 where
-  pub limits : fitsIn (r .low) (r .high) q ≡ true
-  pub stays : onCircle r q ≡ q
-
-below-turn : (q : ℤ) → fitsIn (pos 0) (pos (turn - 1)) q ≡ true → Stays circle q
-unfolding onCircle isTurn pick
-below-turn (negsuc n) h = absurd (apart (sym h))
-below-turn (pos n) h =
-    let l : n ≤ turn - 1 = leb-true n (turn - 1) (and-second (leb 0 n) (leb n (turn - 1)) h) in
-    record {
-      limits = ap₂ (λ a b. a && b) (le-leb 0 n (omega arith)) (le-leb n turn (omega arith));
-      stays = rw (not-same n turn (λ e. omega arith));
-    }
-
-module _ (r : Row) (h : InTable r) (q : ℤ) where
-  -- the unit of a double is one that becomes a double again
-  pub top-of-circle : fitsIn (r .low) (r .high) q ≡ true → fitsIn (r .low) (topOf r) (onCircle r q) ≡ true
-  unfolding topOf onCircle pick
-  top-of-circle f =
-      by-cases (r .turns)
-      (λ e. subst (λ s. fitsIn (s .low) (s .high) q ≡ true → fitsIn (s .low) (topOf s) (onCircle s q) ≡ true) (sym (h .round e)) (on-circle q) f)
-      (λ e. rw e f)
-
-  -- and one that becomes a double is a unit as it stands
-  below-top : fitsIn (r .low) (topOf r) q ≡ true → Stays r q
-  unfolding topOf onCircle pick
-  below-top f =
-      by-cases (r .turns)
-      (λ e. subst (λ s. fitsIn (s .low) (topOf s) q ≡ true → Stays s q) (sym (h .round e)) (below-turn q) f)
-      (λ e. record { limits = rw e at f; stays = rw e })
 
 -- ---- "All |q| stay below 2^53", and a unit of types 7 and 9 is below T
 pub unit-limits : (t : ℕ) (x : Float) (q : ℤ) → unitOf t x ≡ given q → fitsIn (rowOf t .low) (topOf (rowOf t)) q ≡ true

@@ -1,3 +1,1 @@
-pub mod Types
 pub mod Units
-pub mod Parts

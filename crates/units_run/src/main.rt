@@ -20,7 +20,7 @@ fn run_line(line: &[u8]) {
     let pattern = lines::hex_at(line, lines::word(line, 1));
     lines::put_number(kind as u64, b" ");
     lines::put_hex(pattern, b" -> ");
-    put_unit_of(kind, units::double_of_bits(pattern));
+    put_unit_of(kind, doubles::double_of_bits(pattern));
 }
 
 // Every line of a text.

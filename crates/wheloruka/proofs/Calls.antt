@@ -15,8 +15,9 @@ use Rattle.refusal.specs.declared.Refusal.{Refusal}
 use Rattle.refusal.proofs.Apart.{not-none}
 use Rattle.refusal.proofs.Firsts.{unless-true, unless-false, first-pass, first-stop, first-one}
 use Rattle.heading.specs.declared.Heading.{Heading}
-use Rattle.state.specs.State.{State, stateOf, emptyTally, roomNumber, started}
-use Rattle.state.specs.declared.Tally.{Tally}
+use Rattle.tally.specs.Tally.{emptyTally}
+use Rattle.tally.specs.declared.Tally.{Tally}
+use Rattle.state.specs.State.{State, stateOf, roomNumber, started}
 use Rattle.state.proofs.Rooms.{by-given, by-refused}
 use Rattle.account.specs.Taking.{takeAnswer, takeStep, runNumber, runState, runAnswers}
 use Rattle.taking.proofs.Answers.{state-left}

@@ -6,8 +6,9 @@ use Prim.Native.Nat.{_+_, _-_, _*_, _≤_}
 use mathlib.Core.Path.{_≡_, refl, sym, ap, _∙_}
 use Rattle.limits.specs.Limits.{noLabel}
 use Rattle.section.specs.Section.{records}
-use Rattle.arcread.specs.Kinds.{labelKind}
-use Rattle.arcread.specs.Parts.{labelsFrom, toldLabel}
+use Rattle.arckinds.specs.Kinds.{labelKind}
+use Rattle.arckinds.specs.Told.{toldLabel}
+use Rattle.arcread.specs.Parts.{labelsFrom}
 use Rattle.arcread.proofs.Fill.{filling, fill-start, fill-end, fill-good, fill-bad}
 use Rattle.arcread.proofs.Parts.{slots-read, slots-refused}
 use Rattle.arcread.proofs.fill_labels.Statement.{statement}

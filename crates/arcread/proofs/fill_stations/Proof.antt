@@ -6,8 +6,9 @@ use Prim.Native.Nat.{_+_, _-_, _*_, _≤_}
 use mathlib.Core.Path.{_≡_, refl, sym, ap, _∙_}
 use Rattle.limits.specs.Limits.{noStation}
 use Rattle.section.specs.Section.{records}
-use Rattle.arcread.specs.Kinds.{stationKind}
-use Rattle.arcread.specs.Parts.{stationsFrom, toldStation}
+use Rattle.arckinds.specs.Kinds.{stationKind}
+use Rattle.arckinds.specs.Told.{toldStation}
+use Rattle.arcread.specs.Parts.{stationsFrom}
 use Rattle.arcread.proofs.Fill.{filling, fill-start, fill-end, fill-good, fill-bad}
 use Rattle.arcread.proofs.Parts.{slots-read, slots-refused}
 use Rattle.arcread.proofs.fill_stations.Statement.{statement}

@@ -1,7 +1,9 @@
 -- `arcwrite::judge_room` meets its contract: 1, then 20, then the length.
 -- Assumes nothing.
 use native.Mathlib.Omega.{arith}
-use mathlib.Core.Path.{refl}
+use Prim.Native.Nat.{_%_}
+use mathlib.Core.Path.{refl, sym, ap, _∙_}
+use Rattle.whole.specs.Answer.{given}
 use Rattle.whole.proofs.Cases.{yes, no, is-same, not-same, is-less, not-less}
 use Rattle.arcwrite.specs.Room.{roomAnswer}
 use borrow.Author.Needs.{needs}
@@ -19,15 +21,15 @@ needed-requires c κs = search needs
 
 returns : tie.Need-returns
 unfolding roomAnswer
-returns c = yes _ _ _ (is-same _ _ (cc)) (yes _ _ _ (is-less _ _ (omega arith)) refl)
+returns c = yes _ _ _ (is-same _ _ (ap (λ k. c .before .before .before .before .args .bytes % k) (sym (c .before .before .before .record-size .ensures)) ∙ c .before .before .if1 .taken)) (yes _ _ _ (is-less _ _ (omega arith)) refl)
 
 returns-2 : tie.Need-returns-2
 unfolding roomAnswer
-returns-2 c = yes _ _ _ (is-same _ _ (cc)) (no _ _ _ (not-less _ _ (omega arith)) (cc))
+returns-2 c = yes _ _ _ (is-same _ _ (ap (λ k. c .before .before .before .before .args .bytes % k) (sym (c .before .before .before .record-size .ensures)) ∙ c .before .before .if1 .taken)) (no _ _ _ (not-less _ _ (omega arith)) (ap given (c .before .needed .ensures)))
 
 returns-3 : tie.Need-returns-3
 unfolding roomAnswer
-returns-3 c = no _ _ _ (not-same _ _ (λ e. c .if1 .left (cc))) refl
+returns-3 c = no _ _ _ (not-same _ _ (λ e. c .if1 .left (ap (λ k. c .before .before .args .bytes % k) (c .before .record-size .ensures) ∙ e))) refl
 
 pub judge-room-spec : {M : Type 1} → statement M
 judge-room-spec =

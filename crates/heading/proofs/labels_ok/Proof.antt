@@ -38,10 +38,10 @@ loop-less : tie.Need-loop-less Inv-loop μ-loop
 loop-less c = search needs
 
 loop-again : tie.Need-loop-again Inv-loop μ-loop
-loop-again c = (search needs, search needs, c .before .before .before .before .loop .inv .2 ∙ all-pass _ _ _ _ noLabel (omega arith) (omega arith) (cc))
+loop-again c = (search needs, search needs, c .before .before .before .before .loop .inv .2 ∙ all-pass _ _ _ _ noLabel (omega arith) (omega arith) (sym (c .before .label-ok .ensures) ∙ c .if1 .taken))
 
 returns : tie.Need-returns Inv-loop μ-loop
-returns c = sym (c .before .before .before .before .loop .inv .2 ∙ all-fail _ _ _ _ noLabel (omega arith) (omega arith) (cc))
+returns c = sym (c .before .before .before .before .loop .inv .2 ∙ all-fail _ _ _ _ noLabel (omega arith) (omega arith) (sym (c .before .label-ok .ensures) ∙ c .if1 .left))
 
 returns-2 : tie.Need-returns-2 Inv-loop μ-loop
 returns-2 c = sym (c .before .loop .inv .2 ∙ all-end _ _ _ _ (omega arith))

@@ -6,7 +6,7 @@ use mir.Syntax.{w32, w64}
 use mir.ValLaws.{toZ-ofZ}
 use Rattle.whole.specs.Answer.{given}
 use Rattle.whole.proofs.Cases.{yes, between-true}
-use Rattle.units.specs.Types.{isType}
+use Rattle.types.specs.Types.{isType}
 use Rattle.units.specs.Units.{toldUnit}
 use Rattle.rules.specs.Rules.{sigmaOk}
 use Rattle.records.specs.Record.{recordIn}

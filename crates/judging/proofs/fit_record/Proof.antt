@@ -6,7 +6,7 @@ use mir.Syntax.{w32}
 use mir.ValLaws.{toZ-ofZ}
 use Rattle.whole.specs.Answer.{refused}
 use Rattle.heading.specs.Judge.{toldFound}
-use Rattle.units.specs.Types.{toldRow}
+use Rattle.types.specs.Types.{toldRow}
 use Rattle.account.specs.Taking.{frame}
 use Rattle.judging.proofs.Steps.{found-inside, row-found, row-none, station-is, type-is, no-station, no-type}
 use borrow.Author.Needs.{needs}

@@ -1,7 +1,7 @@
 -- `judging::residual_of` meets its contract.
 -- Assumes nothing.
 use mathlib.Core.Path.{sym, ap, _∙_}
-use Rattle.units.specs.Units.{toldMeasurement}
+use Rattle.measures.specs.Measures.{toldMeasurement}
 use Rattle.judging.proofs.Steps.{measured-residual, measured-none}
 use borrow.Author.Needs.{needs}
 use Rattle.judging.proofs.residual_of.Statement.{statement}

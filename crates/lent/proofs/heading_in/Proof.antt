@@ -23,8 +23,8 @@ add-stations-in c = search needs
 stations-in-requires : tie.Need-stations-in-requires
 stations-in-requires c κs = search needs
 
-settings-in-requires : tie.Need-settings-in-requires
-settings-in-requires c κs = search needs
+load-settings-requires : tie.Need-load-settings-requires
+load-settings-requires c κs = search needs
 
 read-u16-requires : tie.Need-read-u16-requires
 read-u16-requires c κs = search needs
@@ -44,7 +44,7 @@ returns c =
     rw (
       c .read-u162 .ensures,
       c .before .read-u16 .ensures,
-      c .before .before .settings-in .ensures,
+      c .before .before .load-settings .ensures,
       c .before .before .before .stations-in .ensures,
       c .before .before .before .before .labels-in .ensures,
       c .before .before .before .before .before .held2 .ensures,
@@ -61,7 +61,7 @@ heading-in-spec =
     mul-stations-in
     add-stations-in
     stations-in-requires
-    settings-in-requires
+    load-settings-requires
     read-u16-requires
     cast-t6
     read-u16-requires-2

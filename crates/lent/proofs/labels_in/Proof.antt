@@ -4,7 +4,7 @@ use Prim.Native.Nat.{_+_, _-_, _*_, _≤_}
 use native.Mathlib.Omega.{arith}
 use mathlib.Core.Path.{_≡_, sym, _∙_}
 use lib.Seq.{sets}
-use Rattle.arcread.specs.Kinds.{labelAt}
+use Rattle.arckinds.specs.Kinds.{labelAt}
 use Rattle.limits.specs.Limits.{noLabel}
 use Rattle.arcread.specs.Arc.{padded}
 use Rattle.normwalk.specs.Walk.{stands}
@@ -24,8 +24,8 @@ abbrev μ-loop : tie.MeasureT-loop
 loop-holds : tie.Need-loop-holds Inv-loop μ-loop
 loop-holds c = (search needs, search needs, fill-start _ _ _ _ noLabel 50 (c .before .pre))
 
-label-in-requires : tie.Need-label-in-requires Inv-loop μ-loop
-label-in-requires c κs = search needs
+load-label-requires : tie.Need-load-label-requires Inv-loop μ-loop
+load-label-requires c κs = search needs
 
 mul-labels : tie.Need-mul-labels Inv-loop μ-loop
 mul-labels c = search needs
@@ -43,7 +43,7 @@ loop-less : tie.Need-loop-less Inv-loop μ-loop
 loop-less c = search needs
 
 loop-again : tie.Need-loop-again Inv-loop μ-loop
-loop-again c = (search needs, search needs, rw (c .label-in .ensures) (sym (put-turn _ _ _ _ _ _ (omega arith)) ∙ c .before .before .loop .inv .2))
+loop-again c = (search needs, search needs, rw (c .load-label .ensures) (sym (put-turn _ _ _ _ _ _ (omega arith)) ∙ c .before .before .loop .inv .2))
 
 returns : tie.Need-returns Inv-loop μ-loop
 returns c = sym (put-end _ _ _ _ _ _ (omega arith)) ∙ c .before .loop .inv .2
@@ -55,7 +55,7 @@ labels-in-spec =
     Inv-loop
     μ-loop
     loop-holds
-    label-in-requires
+    load-label-requires
     mul-labels
     array-set-from-labels
     add-at

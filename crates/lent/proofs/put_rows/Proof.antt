@@ -8,7 +8,7 @@ use Rattle.whole.specs.Lists.{rest}
 use Rattle.words.specs.Words.{lay}
 use Rattle.words.proofs.Words.{length-lay}
 use Rattle.section.specs.Section.{encoded}
-use Rattle.state.specs.State.{noRow}
+use Rattle.tally.specs.Tally.{noRow}
 use Rattle.lent.specs.Lent.{rowBytes}
 use Rattle.lent.proofs.Bytes.{row-long}
 use Rattle.lent.proofs.Loops.{rest-whole, lay-end, lay-turn}

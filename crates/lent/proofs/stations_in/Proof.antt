@@ -4,7 +4,7 @@ use Prim.Native.Nat.{_+_, _-_, _*_, _≤_}
 use native.Mathlib.Omega.{arith}
 use mathlib.Core.Path.{_≡_, sym, _∙_}
 use lib.Seq.{sets}
-use Rattle.arcread.specs.Kinds.{stationAt}
+use Rattle.arckinds.specs.Kinds.{stationAt}
 use Rattle.limits.specs.Limits.{noStation}
 use Rattle.arcread.specs.Arc.{padded}
 use Rattle.normwalk.specs.Walk.{stands}
@@ -24,8 +24,8 @@ abbrev μ-loop : tie.MeasureT-loop
 loop-holds : tie.Need-loop-holds Inv-loop μ-loop
 loop-holds c = (search needs, search needs, fill-start _ _ _ _ noStation 16 (c .before .pre .1))
 
-station-in-requires : tie.Need-station-in-requires Inv-loop μ-loop
-station-in-requires c κs = search needs
+load-station-requires : tie.Need-load-station-requires Inv-loop μ-loop
+load-station-requires c κs = search needs
 
 mul-listed : tie.Need-mul-listed Inv-loop μ-loop
 mul-listed c = search needs
@@ -43,7 +43,7 @@ loop-less : tie.Need-loop-less Inv-loop μ-loop
 loop-less c = search needs
 
 loop-again : tie.Need-loop-again Inv-loop μ-loop
-loop-again c = (search needs, search needs, rw (c .station-in .ensures) (sym (put-turn _ _ _ _ _ _ (omega arith)) ∙ c .before .before .loop .inv .2))
+loop-again c = (search needs, search needs, rw (c .load-station .ensures) (sym (put-turn _ _ _ _ _ _ (omega arith)) ∙ c .before .before .loop .inv .2))
 
 returns : tie.Need-returns Inv-loop μ-loop
 returns c = sym (put-end _ _ _ _ _ _ (omega arith)) ∙ c .before .loop .inv .2
@@ -55,7 +55,7 @@ stations-in-spec =
     Inv-loop
     μ-loop
     loop-holds
-    station-in-requires
+    load-station-requires
     mul-listed
     array-set-from-listed
     add-at

@@ -10,8 +10,8 @@ use mir.Syntax.{w64}
 use mir.Val.{SFits, ofZ, toZ}
 use mir.Facts.{toZ-ofZ}
 use borrow.Author.Needs.{needs}
-use Rattle.units.proofs.Limits.{within-limits}
-use Rattle.units.proofs.Words.{minus-fits}
+use Rattle.turning.proofs.Limits.{within-limits}
+use Rattle.turning.proofs.Words.{minus-fits}
 use Rattle.limits_run.proofs.around.Statement.{statement}
 use Rattle.limits_run.proofs.around.Tie as tie
 

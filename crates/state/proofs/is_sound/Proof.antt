@@ -3,8 +3,9 @@
 use mathlib.Core.Path.{_≡_, sym, _∙_}
 use Prim.Native.Nat.{_≤_}
 use Rattle.whole.proofs.Cases.{holds, fails}
-use Rattle.state.specs.State.{accepted, matrixTop, rightTop, matrixSound, rightsSound, soundState}
-use Rattle.state.proofs.Judged.{tally-small}
+use Rattle.tally.specs.Tally.{accepted}
+use Rattle.tally.proofs.Rows.{tally-small}
+use Rattle.state.specs.State.{matrixTop, rightTop, matrixSound, rightsSound, soundState}
 use borrow.Author.Needs.{needs}
 use Rattle.state.proofs.is_sound.Statement.{statement}
 use Rattle.state.proofs.is_sound.Tie as tie

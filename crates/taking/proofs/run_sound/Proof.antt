@@ -4,14 +4,14 @@ use mathlib.Core.Path.{_≡_, sym, ap, ap₂, _∙_, subst}
 use native.Mathlib.Omega.{arith}
 use Prim.Native.Nat.{_/_, _≤_}
 use Rattle.words.specs.Words.{lay}
-use Rattle.arcread.specs.Kinds.{recordSize}
+use Rattle.arckinds.specs.Kinds.{recordSize}
 use Rattle.account.specs.Machine.{run, answers}
 use lib.ListN.{length, take, drop, length-map}
 use lib.Seq.{length-take-le}
 use Rattle.state.specs.State.{stateOf}
 use mathlib.Core.List.{_++_}
 use Rattle.account.specs.Taking.{frame, frameOf, recordAnswer, recordStep, recordsIn}
-use Rattle.taking.specs.Told.{runBy, answersBy}
+use Rattle.runs.specs.Runs.{runBy, answersBy}
 use Rattle.taking.proofs.Entries.{Handed, part, numbers-16, corrections-16, few-parameters, parameters-few, stations-few, matrix-room, rights-room, prepared, rights-long, frame-is, run-back, answers-back}
 use Rattle.taking.proofs.Answers.{whole-run, state-taken, answers-taken, whole-are, records-are}
 use borrow.Author.Needs.{needs}

@@ -12,11 +12,12 @@ use Rattle.records.specs.Record.{partialsIn}
 use Rattle.whole.specs.Answer.{given}
 use Rattle.refusal.proofs.Apart.{not-none}
 use Rattle.refusal.proofs.Firsts.{answered-given, answered-by}
-use Rattle.state.specs.State.{stateOf, noRow, tallyWith}
+use Rattle.tally.specs.Tally.{noRow, tallyWith}
+use Rattle.state.specs.State.{stateOf}
 use Rattle.judging.specs.Fit.{fitted, judgedLate, toldFit, toldJudgement}
 use Rattle.account.specs.Taking.{frame}
 use Rattle.account.proofs.Kept.{step-books, step-leaves}
-use Rattle.taking.proofs.Steps.{Ready, ready, fit-refused, late-refused, late-taken, booked, weight-small, side-small, square-small, seat-free, level-few, matrix-small, rights-small, square-room}
+use Rattle.runs.proofs.Steps.{Ready, ready, fit-refused, late-refused, late-taken, booked, weight-small, side-small, square-small, seat-free, level-few, matrix-small, rights-small, square-room}
 use borrow.Author.Needs.{needs}
 use Rattle.taking.proofs.take_record.Statement.{statement}
 use Rattle.taking.proofs.take_record.Tie as tie

@@ -6,7 +6,7 @@ use lib.Signed.{leZ}
 use mir.Facts.{toZ-ofZ}
 use borrow.Author.Needs.{needs}
 use Rattle.nearest.proofs.Laws.{tested}
-use Rattle.units.specs.Units.{topOf}
+use Rattle.turning.specs.Turning.{topOf}
 use Rattle.units.proofs.allowed.Statement.{statement}
 use Rattle.units.proofs.allowed.Tie as tie
 

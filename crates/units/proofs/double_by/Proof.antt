@@ -9,8 +9,8 @@ use borrow.Author.Needs.{needs}
 use Rattle.whole.specs.Answer.{given}
 use Rattle.whole.proofs.Cases.{yes, no}
 use Rattle.nearest.specs.Doubles.{fitsIn, quotient}
-use Rattle.units.specs.Units.{topOf}
-use Rattle.units.proofs.Limits.{within-limits, top-small}
+use Rattle.turning.specs.Turning.{topOf}
+use Rattle.turning.proofs.Limits.{within-limits, top-small}
 use Rattle.units.proofs.double_by.Statement.{statement}
 use Rattle.units.proofs.double_by.Tie as tie
 

@@ -8,9 +8,10 @@ use Rattle.whole.specs.Answer.{given, refused}
 use Rattle.whole.specs.Tests.{pick}
 use Rattle.whole.proofs.Cases.{yes, no}
 use Rattle.nearest.specs.Doubles.{fitsIn, quotient}
-use Rattle.units.specs.declared.Row.{Row}
-use Rattle.units.specs.Units.{topOf, doubleOf}
-use Rattle.units.proofs.Rows.{narrow-row}
+use Rattle.types.specs.declared.Row.{Row}
+use Rattle.types.proofs.Rows.{narrow-row}
+use Rattle.turning.specs.Turning.{topOf}
+use Rattle.units.specs.Units.{doubleOf}
 use Rattle.units.proofs.double_of_unit.Statement.{statement}
 use Rattle.units.proofs.double_of_unit.Tie as tie
 

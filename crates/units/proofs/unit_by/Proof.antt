@@ -5,7 +5,8 @@ use mir.Facts.{toZ-ofZ}
 use borrow.Author.Needs.{needs}
 use Rattle.whole.specs.Answer.{given}
 use Rattle.nearest.specs.Doubles.{told}
-use Rattle.units.specs.Units.{onCircle, turned}
+use Rattle.turning.specs.Turning.{onCircle}
+use Rattle.units.specs.Units.{turned}
 use Rattle.units.proofs.unit_by.Statement.{statement}
 use Rattle.units.proofs.unit_by.Tie as tie
 

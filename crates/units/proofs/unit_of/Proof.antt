@@ -4,9 +4,9 @@ use mathlib.Core.Path.{refl, ap, _∙_, sym}
 use borrow.Author.Needs.{needs}
 use Rattle.whole.proofs.Cases.{yes, no}
 use Rattle.nearest.specs.Doubles.{unitWithin}
-use Rattle.units.specs.declared.Row.{Row}
+use Rattle.types.specs.declared.Row.{Row}
+use Rattle.types.proofs.Rows.{narrow-row}
 use Rattle.units.specs.Units.{turned, unitOf}
-use Rattle.units.proofs.Rows.{narrow-row}
 use Rattle.units.proofs.unit_of.Statement.{statement}
 use Rattle.units.proofs.unit_of.Tie as tie
 

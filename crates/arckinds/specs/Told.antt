@@ -1,0 +1,33 @@
+-- The settings section, the first of an arc file, and what the answers of reading one record say.
+use Prim.Native.Nat.{ℕ}
+use mathlib.Core.List.{List}
+use Rattle.whole.specs.Answer.{Judged, good, bad}
+use Rattle.refusal.specs.Number.{numberOf}
+use Rattle.section.specs.Section.{andThen, countAt, judgedAt}
+use Rattle.limits.specs.declared.Settings.{Settings}
+use Rattle.limits.specs.declared.Label.{Label}
+use Rattle.limits.specs.declared.Station.{Station}
+use Rattle.arckinds.specs.Kinds.{settingsKind}
+use Rattle.arckinds.specs.declared.SettingsAnswer.{SettingsAnswer}
+use Rattle.arckinds.specs.declared.SettingsAnswer.the-variants as SettingsAnswers
+use Rattle.arckinds.specs.declared.LabelAnswer.{LabelAnswer}
+use Rattle.arckinds.specs.declared.LabelAnswer.the-variants as LabelAnswers
+use Rattle.arckinds.specs.declared.StationAnswer.{StationAnswer}
+use Rattle.arckinds.specs.declared.StationAnswer.the-variants as StationAnswers
+
+-- the one record of the settings, after its count of four bytes
+unfoldable pub settingsPart : List ℕ → Judged Settings
+settingsPart s = andThen (countAt s 0 1 1) (λ n. judgedAt settingsKind s 4 0)
+
+-- ---- what the answers say
+abbrev pub toldSettings : SettingsAnswer → Judged Settings
+toldSettings (SettingsAnswers.Got a) = good a
+toldSettings (SettingsAnswers.Refused r place) = bad (numberOf r) place
+
+abbrev pub toldLabel : LabelAnswer → Judged Label
+toldLabel (LabelAnswers.Got l) = good l
+toldLabel (LabelAnswers.Refused r place) = bad (numberOf r) place
+
+abbrev pub toldStation : StationAnswer → Judged Station
+toldStation (StationAnswers.Got t) = good t
+toldStation (StationAnswers.Refused r place) = bad (numberOf r) place

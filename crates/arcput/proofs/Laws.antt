@@ -1,0 +1,72 @@
+-- Laws of the bytes of an arc file: their lengths, that its parts laid one after the other are the whole, and what is left to copy of a run.
+-- Assumes nothing.
+use Prim.Native.Nat.{ℕ, suc, _+_, _*_, _/_, _≤_, _<_}
+use mathlib.Core.Path.{_≡_, _∙_, ap}
+use mathlib.Core.List.{List}
+use native.Mathlib.Omega.{arith}
+use native.Mathlib.Numerals.{add-one}
+use native.Mathlib.Nat.{div-lt-iff-lt-mul}
+use lib.ListN.{length, drop, getD, set, length-append, drop-of-length-le}
+use lib.Seq.{drop-cons, length-take-le}
+use Rattle.words.specs.Words.{bytesOf, lay}
+use Rattle.words.proofs.Words.{lay-append, length-bytesOf}
+use Rattle.section.specs.Section.{encoded}
+use Rattle.section.proofs.Trips.{length-encoded}
+use Rattle.heading.specs.Judge.{labelsOf, stationsOf}
+use Rattle.heading.specs.declared.Heading.{Heading}
+use Rattle.arckinds.specs.Kinds.{settingsBytes, labelBytes, stationBytes, recordSize}
+use Rattle.arckinds.proofs.Records.{length-settings, length-label, length-station}
+use Rattle.arcput.specs.Bytes.{recordsIn, arcBytes, neededFor}
+
+-- ---- a run of so few records is short
+pub run-short : (p n : ℕ) → p ≤ 50 → n / recordSize p ≤ 65535 → n < 8650752
+run-short p n few h =
+    let some : 0 < recordSize p = omega arith in
+    let less : n < 65536 * recordSize p = div-lt-iff-lt-mul some .0 (omega arith) in
+    omega arith
+
+-- ---- a loop that copies a run: what is left at each turn
+module _ (out run : List ℕ) (start i : ℕ) where
+  pub run-end : length run ≤ i → lay out (start + i) (drop i run) ≡ out
+  unfolding lay
+  run-end e = rw (drop-of-length-le run e)
+
+  pub run-turn : i < length run
+      → lay out (start + i) (drop i run) ≡ lay (set out (start + i) (getD run i 0)) (start + (i + 1)) (drop (i + 1) run)
+  unfolding lay
+  run-turn more =
+      let next : start + (i + 1) ≡ suc (start + i) = omega arith in
+      rw (drop-cons run i 0 more, next, add-one)
+
+-- ---- the whole file, of a heading whose counts are within its arrays
+module _ (h : Heading) (few : h .parameters ≤ length (h .labels)) (seats : h .stations ≤ length (h .listed)) where
+  pub labels-all : length (encoded labelBytes (labelsOf h)) ≡ 16 * h .parameters
+  unfolding labelsOf
+  labels-all = length-encoded labelBytes 16 length-label (labelsOf h) ∙ ap (λ n. n * 16) (length-take-le _ _ few) ∙ omega arith
+
+  pub stations-all : length (encoded stationBytes (stationsOf h)) ≡ 8 * h .stations
+  unfolding stationsOf
+  stations-all = length-encoded stationBytes 8 length-station (stationsOf h) ∙ ap (λ n. n * 8) (length-take-le _ _ seats) ∙ omega arith
+
+  module _ (run : List ℕ) where
+    pub arc-long : length (arcBytes h run) ≡ neededFor (h .parameters) (h .stations) (length run)
+    unfolding arcBytes
+    arc-long = simp (length-append, length-bytesOf, length-settings, labels-all, stations-all) (omega arith)
+
+    -- its parts laid one after the other, each where the last one ends
+    pub arc-laid : (out : List ℕ)
+        → let stations-at = 20 + 16 * h .parameters in
+        let records-at = stations-at + 4 + 8 * h .stations in
+        let a = lay (lay out 0 (bytesOf 4 1)) 4 (settingsBytes (h .settings)) in
+        let b = lay (lay a 16 (bytesOf 4 (h .parameters))) 20 (encoded labelBytes (labelsOf h)) in
+        let c = lay (lay b stations-at (bytesOf 4 (h .stations))) (stations-at + 4) (encoded stationBytes (stationsOf h)) in
+        lay (lay c records-at (bytesOf 4 (length run / recordSize (h .parameters)))) (records-at + 4) run ≡ lay out 0 (arcBytes h run)
+    unfolding arcBytes recordsIn
+    arc-laid out =
+        lay-append _ _ _ _ _ (simp length-bytesOf)
+        ∙ lay-append _ _ _ _ _ (simp stations-all)
+        ∙ lay-append _ _ _ _ _ (simp length-bytesOf)
+        ∙ lay-append _ _ _ _ _ (simp labels-all)
+        ∙ lay-append _ _ _ _ _ (simp length-bytesOf)
+        ∙ lay-append _ _ _ _ _ (simp length-settings)
+        ∙ lay-append _ _ _ _ _ (simp length-bytesOf)

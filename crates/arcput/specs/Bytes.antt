@@ -1,0 +1,36 @@
+-- Document 01: the bytes of an arc file as it is written, its length by its counts, and what holds where it is put.
+use Prim.Native.Nat.{ℕ, _+_, _*_, _/_, _≤_}
+use mathlib.Core.List.{List, _++_}
+use lib.ListN.{length}
+use Rattle.words.specs.Words.{bytesOf}
+use Rattle.section.specs.Section.{encoded}
+use Rattle.heading.specs.Judge.{labelsOf, stationsOf}
+use Rattle.heading.specs.declared.Heading.{Heading}
+use Rattle.arckinds.specs.Kinds.{settingsBytes, labelBytes, stationBytes, recordSize}
+
+-- how many whole records a run has
+unfoldable pub recordsIn : Heading → List ℕ → ℕ
+recordsIn h run = length run / recordSize (h .parameters)
+
+-- the bytes of the file: four sections, each after its count
+unfoldable pub arcBytes : Heading → List ℕ → List ℕ
+arcBytes h run =
+    bytesOf 4 1
+    ++ (settingsBytes (h .settings)
+    ++ (bytesOf 4 (h .parameters)
+    ++ (encoded labelBytes (labelsOf h)
+    ++ (bytesOf 4 (h .stations)
+    ++ (encoded stationBytes (stationsOf h)
+    ++ (bytesOf 4 (recordsIn h run)
+    ++ run))))))
+
+-- four counts of 4 bytes, the settings' 12, 16 a label, 8 a station, and the run
+abbrev pub neededFor : ℕ → ℕ → ℕ → ℕ
+neededFor p t n = 28 + 16 * p + 8 * t + n
+
+-- the counts are within their limits, and the file within the room
+pub record Writable (h : Heading) (run : List ℕ) (room : ℕ) : Type 0 where
+  pub few : h .parameters ≤ 50
+  pub seats : h .stations ≤ 16
+  pub records : length run / recordSize (h .parameters) ≤ 65535
+  pub fits : neededFor (h .parameters) (h .stations) (length run) ≤ room

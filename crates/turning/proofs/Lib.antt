@@ -1,0 +1,4 @@
+pub mod Words
+pub mod Limits
+pub mod Circle
+pub mod Brought
