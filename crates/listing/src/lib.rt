@@ -67,7 +67,7 @@ fn put_run(
     let t = empty.tally;
     let after = taking::take_run(h, t, matrix, rights, run, told);
     let tally = after.tally;
-    texts::put_arc(room, h, count as u64, told, matrix, rights, tally.square)
+    arctext::put_arc(room, h, count as u64, told, matrix, rights, tally.square)
 }
 
 // The same in room for every arc.

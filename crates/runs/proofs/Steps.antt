@@ -25,8 +25,9 @@ use Rattle.sums.specs.Triangle.{times, triangle, tri}
 use Rattle.records.specs.Record.{partialsIn}
 use Rattle.tally.specs.Tally.{countOf, lastTimes, tallyWith}
 use Rattle.state.specs.State.{State, stateOf}
-use Rattle.judging.specs.Fit.{fitOf, fitted, termsBy, judgedLate}
-use Rattle.judging.specs.declared.Fit.{Fit}
+use Rattle.fitting.specs.Fit.{fitOf, fitted}
+use Rattle.judging.specs.Judged.{termsBy, judgedLate}
+use Rattle.fitting.specs.declared.Fit.{Fit}
 use Rattle.judging.specs.declared.Terms.{Terms}
 use Rattle.account.specs.Taking.{Frame, frame, scaled, weightIn, stationTests, judgedBy, recordNumber, recordAnswer, matrixTerms, rightTerms, squareTerm, book, recordStep}
 use Rattle.account.proofs.Accepted as known

@@ -1,5 +1,5 @@
 // A run of records taken, the heading and the state found sound: each judged, its terms added, its answer written.
-use judging::Fitted;
+use fitting::Fitted;
 use judging::Judgement;
 use limits::Settings;
 use refusal::Refusal;
@@ -91,7 +91,7 @@ pub fn take_all(
     while i < n {
         let e = at + size;
         let bytes = &run[at..e];
-        match judging::fits(settings, p, numbers, corrections, bytes) {
+        match fitting::fits(settings, p, numbers, corrections, bytes) {
             Fitted::Is(x) => {
                 let place = x.place;
                 let row = u.rows[place];

@@ -1,7 +1,7 @@
 // Taking records: one record, or a run of them, into the state of an arc.
+use fitting::Fitted;
 use heading::Heading;
 use heading::Verdict;
-use judging::Fitted;
 use judging::Judgement;
 use limits::Settings;
 use refusal::Refusal;
@@ -42,7 +42,7 @@ fn take_record(
     ensures { λ r. ⌜ toldTake (r .answer) ≡ answered (recordAnswer (frame settings (length (now (rights .entry))) (now (numbers .entry)) (now (corrections .entry))) (now (bytes .entry)) (stateOf (now (matrix .entry)) (now (rights .entry)) t)) tt ⌝ }
     ensures state { λ r. ⌜ stateOf (now (matrix .exit)) (now (rights .exit)) (r .tally) ≡ recordStep (frame settings (length (now (rights .entry))) (now (numbers .entry)) (now (corrections .entry))) (now (bytes .entry)) (stateOf (now (matrix .entry)) (now (rights .entry)) t) ⌝ }
 {
-    match judging::fits(settings, rights.len(), numbers, corrections, bytes) {
+    match fitting::fits(settings, rights.len(), numbers, corrections, bytes) {
         Fitted::Is(x) => {
             let place = x.place;
             let row = t.rows[place];

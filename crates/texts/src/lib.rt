@@ -1,28 +1,15 @@
-// The lines of the arc program's listing, each written into lent room at a place; each function gives the place after its lines.
+// The lines of the arc program's listing, each written into lent room at a place; each function gives the place after its lines. What was
+// answered is `tallies`, the whole listing of an arc `arctext`.
 use heading::Heading;
 use limits::Label;
 ghost use mathlib.Core.Path.{_≡_};
 ghost use Prim.Native.Nat.{_≤_};
 ghost use lib.ListN.{length};
-ghost use Rattle.whole.specs.Tests.{same, pick};
+ghost use Rattle.whole.specs.Tests.{pick};
 ghost use Rattle.decimal.specs.Laid.{laid};
 ghost use Rattle.heading.specs.Judge.{labelsOf};
 ghost use Rattle.sums.specs.Triangle.{tri};
-ghost use Rattle.texts.specs.Lines.{
-  oneLine,
-  twoLine,
-  refusedLine,
-  seenText,
-  unseenText,
-  labelText,
-  sumsText,
-  parameterLine,
-  parameterLines,
-  tallyOf,
-  tallyLine,
-  tallyLines,
-  arcLines,
-};
+ghost use Rattle.texts.specs.Lines.{oneLine, twoLine, refusedLine, seenText, unseenText, labelText, sumsText, parameterLine, parameterLines};
 
 // A text and a number.
 pub fn put_one(room: &mut [u8], at: usize, text: &[u8], n: u64) -> usize
@@ -113,74 +100,4 @@ pub fn put_parameters(
         i += 1;
     }
     whole::least(at, room.len())
-}
-
-// ---- answers
-
-// 1 where an answer is the one asked for.
-fn hit(answer: u8, k: u8) -> u64
-    ensures { λ r. ⌜ (r ≡ pick (same answer k) 1 0) × (r ≤ 1) ⌝ }
-{
-    if answer == k { 1 } else { 0 }
-}
-
-// How many records have an answer.
-pub fn tally(told: &[u8], k: u8) -> u64
-    ensures { λ r. ⌜ r ≡ tallyOf k (now (told .entry)) ⌝ }
-{
-    let mut n: u64 = 0;
-    let mut i: usize = 0;
-    while i < told.len() {
-        n += hit(told[i], k);
-        i += 1;
-    }
-    n
-}
-
-fn put_tally(room: &mut [u8], at: usize, told: &[u8], k: u8) -> usize
-    ensures { λ r. ⌜ (now (room .exit), r) ≡ laid (now (room .entry)) at (tallyLine (now (told .entry)) k) ⌝ }
-{
-    let n = tally(told, k);
-    if n == 0 {
-        whole::least(at, room.len())
-    } else {
-        put_two(room, at, b"", k as u64, b" ", n)
-    }
-}
-
-// A line for each refusal number from 1 to 19 that a record has.
-pub fn put_tallies(room: &mut [u8], start: usize, told: &[u8]) -> usize
-    ensures { λ r. ⌜ (now (room .exit), r) ≡ laid (now (room .entry)) start (tallyLines (now (told .entry)) 19 1) ⌝ }
-{
-    let mut at = start;
-    let mut k: u8 = 1;
-    while k < 20 {
-        at = put_tally(room, at, told, k);
-        k += 1;
-    }
-    whole::least(at, room.len())
-}
-
-// ---- an arc
-
-// The whole listing of an arc: its heading, so many records with their answers, and the sums after them.
-pub fn put_arc(
-    room: &mut [u8],
-    h: Heading,
-    count: u64,
-    told: &[u8],
-    matrix: &[i64],
-    rights: &[i64],
-    square: u64,
-) -> usize
-    requires { ⌜ (h .parameters ≤ 50) × (tri (h .parameters) ≤ length (now matrix)) × (h .parameters ≤ length (now rights)) ⌝ }
-    ensures { λ r. ⌜ (now (room .exit), r) ≡ laid (now (room .entry)) 0 (arcLines h count (now (told .entry)) (now (matrix .entry)) (now (rights .entry)) square) ⌝ }
-{
-    let settings = h.settings;
-    let a = put_one(room, 0, b"arc ", settings.arc as u64);
-    let b = put_one(room, a, b"parameters ", h.parameters as u64);
-    let c = put_parameters(room, b, h, matrix, rights);
-    let d = put_two(room, c, b"records ", count, b" accepted ", tally(told, 0));
-    let e = put_tallies(room, d, told);
-    put_one(room, e, b"square sum ", square)
 }

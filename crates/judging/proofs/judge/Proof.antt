@@ -6,9 +6,9 @@ use mir.Syntax.{w64}
 use mir.ValLaws.{toZ-ofZ}
 use Rattle.whole.specs.Answer.{given}
 use Rattle.rules.specs.Rules.{passesEdit}
-use Rattle.judging.specs.Fit.{termsBy}
+use Rattle.judging.specs.Judged.{termsBy}
 use Rattle.rules.proofs.Bounds.{scaled-bound}
-use Rattle.judging.proofs.Steps.{not-later, no-edit, full, taken}
+use Rattle.judging.proofs.Late.{not-later, no-edit, full, taken}
 use borrow.Author.Needs.{needs}
 use Rattle.judging.proofs.judge.Statement.{statement}
 use Rattle.judging.proofs.judge.Tie as tie

@@ -11,8 +11,8 @@ use mir.ValLaws.{toZ-ofZ, toZ-pos}
 use Rattle.whole.proofs.Ints.{within-fits, natAbs-*}
 use Rattle.rules.specs.Rules.{weightOf}
 use Rattle.rules.proofs.Bounds.{weighted-bound, square-bound}
-use Rattle.judging.specs.Fit.{termsBy}
-use Rattle.judging.proofs.Steps.{scaled-fits}
+use Rattle.judging.specs.Judged.{termsBy}
+use Rattle.judging.proofs.Late.{scaled-fits}
 use borrow.Author.Needs.{needs}
 use Rattle.judging.proofs.terms_of.Statement.{statement}
 use Rattle.judging.proofs.terms_of.Tie as tie

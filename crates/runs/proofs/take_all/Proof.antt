@@ -14,7 +14,8 @@ use Rattle.refusal.proofs.Apart.{not-none}
 use Rattle.sums.specs.Triangle.{times, triangle}
 use Rattle.records.specs.Record.{partialsIn}
 use Rattle.tally.specs.Tally.{noRow, tallyWith}
-use Rattle.judging.specs.Fit.{fitted, judgedLate, toldFit, toldJudgement}
+use Rattle.fitting.specs.Fit.{fitted, toldFit}
+use Rattle.judging.specs.Judged.{judgedLate, toldJudgement}
 use Rattle.account.specs.Taking.{frame, recordStep}
 use Rattle.account.proofs.Kept.{step-books, step-leaves}
 use Rattle.runs.specs.Runs.{runBy, answersBy}

@@ -14,7 +14,8 @@ use Rattle.refusal.proofs.Apart.{not-none}
 use Rattle.refusal.proofs.Firsts.{answered-given, answered-by}
 use Rattle.tally.specs.Tally.{noRow, tallyWith}
 use Rattle.state.specs.State.{stateOf}
-use Rattle.judging.specs.Fit.{fitted, judgedLate, toldFit, toldJudgement}
+use Rattle.fitting.specs.Fit.{fitted, toldFit}
+use Rattle.judging.specs.Judged.{judgedLate, toldJudgement}
 use Rattle.account.specs.Taking.{frame}
 use Rattle.account.proofs.Kept.{step-books, step-leaves}
 use Rattle.runs.proofs.Steps.{Ready, ready, fit-refused, late-refused, late-taken, booked, weight-small, side-small, square-small, seat-free, level-few, matrix-small, rights-small, square-room}
