@@ -38,7 +38,7 @@ fn is_ended(fd: i32) -> bool {
 }
 
 // Reads what stands behind a descriptor, to its end, or until the buffer is full.
-pub fn load(fd: i32, buf: &mut [u8]) -> Loaded
+fn load(fd: i32, buf: &mut [u8]) -> Loaded
     ensures { λ r. ⌜ Counts (r .length) (now (buf .exit)) ⌝ }
 {
     let n = io::read_full(fd, buf);

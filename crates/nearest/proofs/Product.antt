@@ -89,7 +89,7 @@ round-over f s num den q j dp small over h =
     ∙ units-over f s r k (subst (λ (x : ℕ). 2 ^ (low f + suc (emax f)) ≤ x) (sym e3) over)
 
 -- ---- the product with a number whose value is 2 ^ k
-unlike-false : (s : Bool) → unlike s false ≡ s
+pub unlike-false : (s : Bool) → unlike s false ≡ s
 unlike-false true = refl
 unlike-false false = refl
 
