@@ -13,7 +13,8 @@ use Rattle.whole.specs.Sums.{total, plus}
 use Rattle.whole.proofs.Cases.{by-cases, less-true, less-false, is-same, not-same, same-true, same-false}
 use Rattle.whole.proofs.Adding.{length-plus, getD-plus}
 use Rattle.account.specs.Machine.{run, answers}
-use Rattle.account.specs.Mix.{keep, Each, pairs, lastOr, only, told, taken}
+use Rattle.account.specs.Mix.{keep, pairs, lastOr, only, told, taken}
+use Rattle.whole.specs.Lists.{Each}
 use Rattle.account.proofs.Lists.{keep-yes, keep-no}
 use Rattle.account.proofs.Trace.{Stationed}
 

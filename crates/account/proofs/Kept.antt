@@ -17,7 +17,7 @@ use Rattle.whole.proofs.Ints.{square, +-within}
 use Rattle.whole.proofs.Adding.{length-plus, getD-plus}
 use Rattle.sums.specs.Triangle.{tri}
 use Rattle.sums.specs.Sound.{entry}
-use Rattle.sums.proofs.Lists.{tri-within}
+use Rattle.sums.proofs.Places.{tri-within}
 use Rattle.sums.proofs.Entries.{all-within}
 use Rattle.records.specs.Record.{partialsIn}
 use Rattle.counts.specs.Counts.{sumOf}

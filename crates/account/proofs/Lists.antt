@@ -8,7 +8,8 @@ use native.Mathlib.Nat.{not-suc-le-zero}
 use native.Mathlib.Omega.{arith}
 use Rattle.whole.specs.Tests.{same}
 use Rattle.whole.proofs.Cases.{by-cases, not-same, same-true, same-false, yes, no}
-use Rattle.account.specs.Mix.{keep, Each, only, inOrder, Alike}
+use Rattle.account.specs.Mix.{keep, only, inOrder, Alike}
+use Rattle.whole.specs.Lists.{Each}
 
 module _ {A : Type 0} (p : A → Bool) where
   pub keep-yes : (x : A) (l : List A) → p x ≡ true → keep p (x ∷ l) ≡ x ∷ keep p l

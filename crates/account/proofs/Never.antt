@@ -11,12 +11,13 @@ use Rattle.whole.specs.Tests.{upTo, same, both, either, between}
 use Rattle.whole.proofs.Cases.{apart}
 use Rattle.whole.proofs.Ints.{within-fits}
 use Rattle.sums.specs.Triangle.{tri}
-use Rattle.sums.proofs.Lists.{tri-within}
+use Rattle.sums.proofs.Places.{tri-within}
 use Rattle.heading.specs.declared.Heading.{Heading}
 use Rattle.state.specs.State.{roomNumber, started}
 use Rattle.account.specs.Machine.{answers}
 use Rattle.account.specs.Taking.{frameOf, recordAnswer, recordStep}
-use Rattle.account.specs.Mix.{Each, pairs, told}
+use Rattle.whole.specs.Lists.{Each}
+use Rattle.account.specs.Mix.{pairs, told}
 use Rattle.account.specs.Arc.{endOf, toldIn}
 use Rattle.account.specs.Never.{isAnswer, Never}
 use Rattle.account.proofs.Lists.{each-map}

@@ -13,7 +13,7 @@ use Rattle.refusal.proofs.Firsts.{when-true, when-false, unless-true, unless-fa
 use Rattle.residuals.specs.Residuals.{residualOf, residualBy}
 use Rattle.state.specs.State.{State}
 use Rattle.account.specs.Taking.{Frame, stationIn, residualIn, lengthTests, recordTests, stationTests, judgedBy, recordNumber, recordAnswer}
-use Rattle.account.specs.Mix.{Each}
+use Rattle.whole.specs.Lists.{Each}
 use Rattle.account.specs.Never.{isAnswer}
 use Rattle.account.proofs.Accepted.{not-found}
 

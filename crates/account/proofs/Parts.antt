@@ -1,57 +1,25 @@
 -- A sound state by named parts, both ways: what the tests of soundness say, and that they pass.
 -- Assumes nothing.
-use Prim.Native.Nat.{ℕ, zero, suc, _≤_, _<_, zero-le}
+use Prim.Native.Nat.{ℕ, zero, suc, _≤_, _<_}
 use mathlib.Core.Path.{_≡_, refl, sym, ap, _∙_}
 use mathlib.Core.Bool.{Bool, true, false, not, cond}
 use mathlib.Core.List.{List}
 use native.Mathlib.Omega.{arith}
-use borrow.Author.Tests.{ltb-false, le-ltb, eqb-true, eq-eqb, not-true}
+use borrow.Author.Tests.{eqb-true, eq-eqb, not-true}
 use lib.Dec.{eqb}
-use lib.IntN.{ℤ, pos, negsuc, negℤ, natAbs}
+use lib.IntN.{ℤ, pos, natAbs}
 use lib.ListN.{getD}
-use lib.Signed.{ltZ}
 use Rattle.whole.specs.Tests.{less, same, pick, below}
 use Rattle.whole.specs.Lists.{all}
 use Rattle.whole.proofs.Cases.{apart, by-cases, holds, at-once, at-last, not-less, less-false, is-upTo, upTo-true, both-first, both-second, yes, no}
 use Rattle.whole.proofs.Tables.{below-at, below-every}
+use Rattle.sums.proofs.Tests.{zero-true, zero-is, plain-of, plain-is, between-bounds, not-above, not-under}
 use Rattle.sums.specs.Sound.{entry, isZero, breaks, breaksSide}
 use Rattle.counts.specs.Counts.{countsSound}
 use Rattle.tally.specs.Tally.{countOf, lastTimes, accepted, squareTop, rowsSound, tallySound}
 use Rattle.state.specs.State.{State, matrixTop, rightTop, matrixSound, rightsSound, soundState}
 
 -- ---- one sum
--- the judge's two tests of a bound
-pub tests-within : (z : ℤ) (top : ℕ) → ltZ (pos top) z ≡ false → ltZ z (negℤ (pos top)) ≡ false → natAbs z ≤ top
-tests-within (pos n) top a b = ltb-false top n a
-tests-within (negsuc n) zero a b = absurd (apart b)
-tests-within (negsuc n) (suc top) a b = omega (arith, ltb-false top n b)
-
-pub not-over : (z : ℤ) (top : ℕ) → natAbs z ≤ top → ltZ (pos top) z ≡ false
-not-over (pos n) top h = le-ltb top n h
-not-over (negsuc n) top h = refl
-
-pub not-under : (z : ℤ) (top : ℕ) → natAbs z ≤ top → ltZ z (negℤ (pos top)) ≡ false
-not-under (pos n) zero h = le-ltb n 0 zero-le
-not-under (pos n) (suc top) h = refl
-not-under (negsuc n) zero h = absurd (omega arith)
-not-under (negsuc n) (suc top) h = le-ltb top n (omega arith)
-
-pub zero-is : (z : ℤ) → isZero z ≡ true → z ≡ pos 0
-zero-is (pos n) e = ap pos (eqb-true n 0 e)
-zero-is (negsuc n) e = absurd (apart (sym e))
-
-pub is-zero : (z : ℤ) → z ≡ pos 0 → isZero z ≡ true
-is-zero z e = ap isZero e
-
--- not below 0
-pub natural : (z : ℤ) → ltZ z (pos 0) ≡ false → z ≡ pos (natAbs z)
-natural (pos n) e = refl
-natural (negsuc n) e = absurd (apart e)
-
-pub not-below : (z : ℤ) → z ≡ pos (natAbs z) → ltZ z (pos 0) ≡ false
-not-below (pos n) e = le-ltb n 0 zero-le
-not-below (negsuc n) e = absurd (let z : _≡_ {A = ℕ} 0 1 = cc in omega arith)
-
 -- the entry of row i and column j: within its bound, not negative on the diagonal, and 0 beside a diagonal that is 0
 pub record Entry (top : ℕ) (m : List ℤ) (i j : ℕ) : Type 0 where
   pub small : natAbs (entry m i j) ≤ top
@@ -83,15 +51,15 @@ side-tests false false false row e = (refl, refl, λ t. e)
 
 -- a number that is 0 where a diagonal is: by its test
 by-zero : (z d : ℤ) → (isZero z ≡ false → isZero d ≡ false) → d ≡ pos 0 → z ≡ pos 0
-by-zero z d h e = by-cases (isZero z) (λ t. zero-is z t) (λ t. absurd (apart (sym (is-zero d e) ∙ h t)))
+by-zero z d h e = by-cases (isZero z) (λ t. zero-true z t) (λ t. absurd (apart (sym (zero-is d e) ∙ h t)))
 
 pub entry-good : (top : ℕ) (m : List ℤ) (i j : ℕ) → breaks (pos top) m i j ≡ false → Entry top m i j
 unfolding breaks
 entry-good top m i j e =
     let t = entry-tests _ _ _ _ _ _ _ e in
     record {
-      small = tests-within (entry m i j) top (t .0) (t .1);
-      diagonal = λ h. natural (entry m i j) (t .2 (eq-eqb i j h));
+      small = between-bounds top (entry m i j) (t .0) (t .1);
+      diagonal = λ h. plain-of (entry m i j) (t .2 (eq-eqb i j h));
       row = λ z. by-cases (eqb i j)
           (λ h. let same = eqb-true i j h in ap (λ k. entry m i k) (sym same) ∙ z)
           (λ h. by-zero (entry m i j) (entry m i i) (λ n. t .3 h n .0) z);
@@ -104,7 +72,7 @@ pub side-good : (top : ℕ) (m r : List ℤ) (i : ℕ) → breaksSide (pos top) 
 unfolding breaksSide
 side-good top m r i e =
     let t = side-tests _ _ _ _ e in
-    record { small = tests-within (getD r i (pos 0)) top (t .0) (t .1); zero = by-zero (getD r i (pos 0)) (entry m i i) (t .2) }
+    record { small = between-bounds top (getD r i (pos 0)) (t .0) (t .1); zero = by-zero (getD r i (pos 0)) (entry m i i) (t .2) }
 
 -- and back
 all-tests : (over under on below none row column : Bool) → over ≡ false → under ≡ false → (on ≡ true → below ≡ false)
@@ -117,19 +85,19 @@ all-tests false false false below false true column a b c d e = d refl
 all-tests false false false below false false column a b c d e = e refl
 
 not-zero : (z d : ℤ) → (d ≡ pos 0 → z ≡ pos 0) → isZero z ≡ false → isZero d ≡ false
-not-zero z d h e = by-cases (isZero d) (λ t. absurd (apart (sym (is-zero z (h (zero-is d t))) ∙ e))) (λ t. t)
+not-zero z d h e = by-cases (isZero d) (λ t. absurd (apart (sym (zero-is z (h (zero-true d t))) ∙ e))) (λ t. t)
 
 pub entry-sound : (top : ℕ) (m : List ℤ) (i j : ℕ) → Entry top m i j → breaks (pos top) m i j ≡ false
 unfolding breaks
 entry-sound top m i j g =
-    all-tests _ _ _ _ _ _ _ (not-over (entry m i j) top (g .small)) (not-under (entry m i j) top (g .small))
-    (λ t. not-below (entry m i j) (g .diagonal (eqb-true i j t)))
+    all-tests _ _ _ _ _ _ _ (not-above top (entry m i j) (g .small)) (not-under top (entry m i j) (g .small))
+    (λ t. plain-is (entry m i j) (g .diagonal (eqb-true i j t)))
     (not-zero (entry m i j) (entry m i i) (g .row)) (not-zero (entry m i j) (entry m j j) (g .column))
 
 pub side-sound : (top : ℕ) (m r : List ℤ) (i : ℕ) → Side top m r i → breaksSide (pos top) m r i ≡ false
 unfolding breaksSide
 side-sound top m r i g =
-    all-tests _ _ false false _ _ _ (not-over (getD r i (pos 0)) top (g .small)) (not-under (getD r i (pos 0)) top (g .small))
+    all-tests _ _ false false _ _ _ (not-above top (getD r i (pos 0)) (g .small)) (not-under top (getD r i (pos 0)) (g .small))
     (λ t. refl) (λ t. refl) (not-zero (getD r i (pos 0)) (entry m i i) (g .zero))
 
 -- ---- the state

@@ -17,7 +17,8 @@ use Rattle.arckinds.specs.Kinds.{recordSize}
 use Rattle.state.specs.State.{State, capped, roomNumber, started, seenIn, stateNumber}
 use Rattle.account.specs.Machine.{run, answers}
 use Rattle.account.specs.Taking.{frameOf, takeAnswer, takeStep, cut, wholeRecords, recordsIn, runNumber, runState, runAnswers}
-use Rattle.account.specs.Mix.{Each, pairs, told, toldTo, taken}
+use Rattle.whole.specs.Lists.{Each}
+use Rattle.account.specs.Mix.{pairs, told, toldTo, taken}
 use Rattle.account.specs.Arc.{endOf, toldIn}
 use Rattle.account.specs.SumsOver.{partialOf, SumsOver}
 use Rattle.account.specs.Order.{whose}

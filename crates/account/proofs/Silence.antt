@@ -15,12 +15,12 @@ use Rattle.sums.specs.Sound.{entry, isZero}
 use Rattle.heading.specs.declared.Heading.{Heading}
 use Rattle.state.specs.State.{seenIn, roomNumber, started}
 use Rattle.account.specs.Taking.{frameOf, weightIn}
-use Rattle.account.specs.Mix.{Each}
+use Rattle.whole.specs.Lists.{Each}
 use Rattle.account.specs.Arc.{endOf, acceptedIn}
 use Rattle.account.specs.SumsOver.{partialOf, SumsOver}
 use Rattle.account.specs.Silence.{Silence}
 use Rattle.account.proofs.Accepted.{accepted-in, terms}
-use Rattle.account.proofs.Parts.{zero-is, is-zero}
+use Rattle.sums.proofs.Tests.{zero-true, zero-is}
 use Rattle.account.proofs.Kept.{square-is, grows}
 use Rattle.account.proofs.Guarded.{fine, held-heading, started-held}
 use Rattle.account.proofs.SumsOver.{each-accepted, sums-over}
@@ -63,8 +63,8 @@ seen-is m i h = holds _ _ (is-less i 50 h) refl
 
 pub unseen : (m : List ℤ) (i : ℕ) → i < 50 → (seenIn m i ≡ false) ↔ (entry m i i ≡ pos 0)
 unseen m i h = (
-  λ e. zero-is (entry m i i) (not-false _ (seen-is m i h ∙ e)),
-  λ e. sym (seen-is m i h) ∙ ap not (is-zero (entry m i i) e),
+  λ e. zero-true (entry m i i) (not-false _ (seen-is m i h ∙ e)),
+  λ e. sym (seen-is m i h) ∙ ap not (zero-is (entry m i i) e),
 )
 
 -- Demand 2: for every heading that is accepted, with room for its sums

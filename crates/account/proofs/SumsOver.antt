@@ -11,7 +11,7 @@ use Rattle.whole.specs.Sums.{total, plus}
 use Rattle.whole.proofs.Adding.{total-ext}
 use Rattle.sums.specs.Triangle.{tri}
 use Rattle.sums.specs.Sound.{entry}
-use Rattle.sums.proofs.Lists.{tri-within}
+use Rattle.sums.proofs.Places.{tri-within}
 use Rattle.heading.specs.declared.Heading.{Heading}
 use Rattle.counts.specs.Counts.{sumOf}
 use Rattle.tally.specs.Tally.{noRow, countOf, lastTimes, rowWith, tallyWith, emptyTally, accepted}
@@ -19,7 +19,8 @@ use Rattle.tally.specs.declared.Row.{Row}
 use Rattle.state.specs.State.{State, stateOf, cleared, roomNumber, started}
 use Rattle.account.specs.Machine.{run}
 use Rattle.account.specs.Taking.{Frame, frameOf, placeOf, stamp, columnOf, scaled, weightIn, matrixTerms, rightTerms, squareTerm, recordAnswer, recordStep, book}
-use Rattle.account.specs.Mix.{Each, lastOr, only, pairs, taken}
+use Rattle.whole.specs.Lists.{Each}
+use Rattle.account.specs.Mix.{lastOr, only, pairs, taken}
 use Rattle.account.specs.Arc.{endOf, acceptedIn}
 use Rattle.account.specs.SumsOver.{partialOf, SumsOver}
 use Rattle.account.proofs.Accepted.{accepted-in, matrix-at, right-at, square-at}

@@ -9,7 +9,8 @@ use native.Mathlib.Omega.{arith}
 use Rattle.whole.specs.Tests.{less, upTo, same}
 use Rattle.whole.proofs.Cases.{by-cases, less-true, less-false, upTo-true, same-true, same-false, is-same, not-same}
 use Rattle.account.specs.Machine.{run, answers}
-use Rattle.account.specs.Mix.{keep, Each, pairs, only, inOrder, Alike, told, toldTo}
+use Rattle.account.specs.Mix.{keep, pairs, only, inOrder, Alike, told, toldTo}
+use Rattle.whole.specs.Lists.{Each}
 use Rattle.account.proofs.Lists.{keep-yes, keep-no, split, in-order-alike, alike-rest}
 
 module _ {R S : Type 0} (step : R → S → S) where

@@ -11,11 +11,6 @@ unfoldable pub keep : {A : Type 0} → (A → Bool) → List A → List A
 keep p [] = []
 keep p (x ∷ l) = pick (p x) (x ∷ keep p l) (keep p l)
 
--- something holds of each entry
-abbrev pub Each : {A : Type 0} → (A → Type 0) → List A → Type 0
-Each P [] = Unit {0}
-Each P (x ∷ l) = P x × Each P l
-
 -- two lists side by side
 unfoldable pub pairs : {A B : Type 0} → List A → List B → List (A × B)
 pairs [] m = []

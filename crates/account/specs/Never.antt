@@ -11,7 +11,7 @@ use Rattle.whole.specs.Tests.{upTo, same, either, between}
 use Rattle.sums.specs.Sound.{entry}
 use Rattle.heading.specs.declared.Heading.{Heading}
 use Rattle.state.specs.State.{soundState, stateNumber}
-use Rattle.account.specs.Mix.{Each}
+use Rattle.whole.specs.Lists.{Each}
 use Rattle.account.specs.Arc.{endOf, toldIn}
 
 -- what a record may be answered: 0 or 1, 3, 10 to 19

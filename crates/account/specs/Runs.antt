@@ -10,7 +10,8 @@ use lib.ListN.{length}
 use Rattle.heading.specs.declared.Heading.{Heading}
 use Rattle.state.specs.State.{State, started, seenIn, stateNumber}
 use Rattle.account.specs.Taking.{frameOf, recordsIn, runNumber, runState, runAnswers}
-use Rattle.account.specs.Mix.{Each, pairs, toldTo, taken}
+use Rattle.whole.specs.Lists.{Each}
+use Rattle.account.specs.Mix.{pairs, toldTo, taken}
 use Rattle.account.specs.Arc.{endOf, toldIn}
 use Rattle.account.specs.SumsOver.{partialOf, SumsOver}
 use Rattle.account.specs.Order.{whose, Mixes}

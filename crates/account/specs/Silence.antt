@@ -12,7 +12,7 @@ use Rattle.heading.specs.declared.Heading.{Heading}
 use Rattle.tally.specs.Tally.{accepted}
 use Rattle.state.specs.State.{State, seenIn}
 use Rattle.account.specs.Taking.{frameOf}
-use Rattle.account.specs.Mix.{Each}
+use Rattle.whole.specs.Lists.{Each}
 use Rattle.account.specs.Arc.{endOf, acceptedIn}
 use Rattle.account.specs.SumsOver.{partialOf}
 

@@ -77,7 +77,7 @@ pub fn load_label(s: &[u8], at: usize) -> Label
         kind: wordread::read_u16(s, at),
         index: wordread::read_u16(s, at + 2),
         weight: wordread::read_u32(s, at + 4),
-        estimate: wordread::read_i64(s, at + 8),
+        estimate: signedwords::read_i64(s, at + 8),
     }
 }
 
@@ -115,7 +115,7 @@ pub fn load_station(s: &[u8], at: usize) -> Station
 {
     Station {
         number: wordread::read_u16(s, at),
-        correction: wordread::read_i32(s, at + 4),
+        correction: signedwords::read_i32(s, at + 4),
     }
 }
 

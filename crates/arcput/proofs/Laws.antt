@@ -1,13 +1,11 @@
--- Laws of the bytes of an arc file: their lengths, that its parts laid one after the other are the whole, and what is left to copy of a run.
+-- Laws of the bytes of an arc file: their lengths, and that its parts laid one after the other are the whole.
 -- Assumes nothing.
-use Prim.Native.Nat.{ℕ, suc, _+_, _*_, _/_, _≤_, _<_}
+use Prim.Native.Nat.{ℕ, _+_, _*_, _/_, _≤_}
 use mathlib.Core.Path.{_≡_, _∙_, ap}
 use mathlib.Core.List.{List}
 use native.Mathlib.Omega.{arith}
-use native.Mathlib.Numerals.{add-one}
-use native.Mathlib.Nat.{div-lt-iff-lt-mul}
-use lib.ListN.{length, drop, getD, set, length-append, drop-of-length-le}
-use lib.Seq.{drop-cons, length-take-le}
+use lib.ListN.{length, length-append}
+use lib.Seq.{length-take-le}
 use Rattle.words.specs.Words.{bytesOf, lay}
 use Rattle.words.proofs.Words.{lay-append, length-bytesOf}
 use Rattle.section.specs.Section.{encoded}
@@ -16,27 +14,8 @@ use Rattle.heading.specs.Judge.{labelsOf, stationsOf}
 use Rattle.heading.specs.declared.Heading.{Heading}
 use Rattle.arckinds.specs.Kinds.{settingsBytes, labelBytes, stationBytes, recordSize}
 use Rattle.arckinds.proofs.Records.{length-settings, length-label, length-station}
-use Rattle.arcput.specs.Bytes.{recordsIn, arcBytes, neededFor}
-
--- ---- a run of so few records is short
-pub run-short : (p n : ℕ) → p ≤ 50 → n / recordSize p ≤ 65535 → n < 8650752
-run-short p n few h =
-    let some : 0 < recordSize p = omega arith in
-    let less : n < 65536 * recordSize p = div-lt-iff-lt-mul some .0 (omega arith) in
-    omega arith
-
--- ---- a loop that copies a run: what is left at each turn
-module _ (out run : List ℕ) (start i : ℕ) where
-  pub run-end : length run ≤ i → lay out (start + i) (drop i run) ≡ out
-  unfolding lay
-  run-end e = rw (drop-of-length-le run e)
-
-  pub run-turn : i < length run
-      → lay out (start + i) (drop i run) ≡ lay (set out (start + i) (getD run i 0)) (start + (i + 1)) (drop (i + 1) run)
-  unfolding lay
-  run-turn more =
-      let next : start + (i + 1) ≡ suc (start + i) = omega arith in
-      rw (drop-cons run i 0 more, next, add-one)
+use Rattle.arcput.specs.Bytes.{recordsIn, arcBytes}
+use Rattle.arcfields.specs.Sizes.{neededFor}
 
 -- ---- the whole file, of a heading whose counts are within its arrays
 module _ (h : Heading) (few : h .parameters ≤ length (h .labels)) (seats : h .stations ≤ length (h .listed)) where

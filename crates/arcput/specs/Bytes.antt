@@ -1,5 +1,5 @@
--- Document 01: the bytes of an arc file as it is written, its length by its counts, and what holds where it is put.
-use Prim.Native.Nat.{ℕ, _+_, _*_, _/_, _≤_}
+-- Document 01: the bytes of an arc file as it is written, and what holds where it is put.
+use Prim.Native.Nat.{ℕ, _+_, _/_, _≤_}
 use mathlib.Core.List.{List, _++_}
 use lib.ListN.{length}
 use Rattle.words.specs.Words.{bytesOf}
@@ -7,6 +7,7 @@ use Rattle.section.specs.Section.{encoded}
 use Rattle.heading.specs.Judge.{labelsOf, stationsOf}
 use Rattle.heading.specs.declared.Heading.{Heading}
 use Rattle.arckinds.specs.Kinds.{settingsBytes, labelBytes, stationBytes, recordSize}
+use Rattle.arcfields.specs.Sizes.{neededFor}
 
 -- how many whole records a run has
 unfoldable pub recordsIn : Heading → List ℕ → ℕ
@@ -23,10 +24,6 @@ arcBytes h run =
     ++ (encoded stationBytes (stationsOf h)
     ++ (bytesOf 4 (recordsIn h run)
     ++ run))))))
-
--- four counts of 4 bytes, the settings' 12, 16 a label, 8 a station, and the run
-abbrev pub neededFor : ℕ → ℕ → ℕ → ℕ
-neededFor p t n = 28 + 16 * p + 8 * t + n
 
 -- the counts are within their limits, and the file within the room
 pub record Writable (h : Heading) (run : List ℕ) (room : ℕ) : Type 0 where

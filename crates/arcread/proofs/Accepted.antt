@@ -11,13 +11,13 @@ use mir.Val.{SFits}
 use mir.ValLaws.{toZ-fits}
 use lib.Seq.{take-append-seam}
 use Rattle.whole.specs.Answer.{good, given}
-use Rattle.whole.specs.Lists.{all, ascend}
+use Rattle.whole.specs.Lists.{all, ascend, Each}
 use Rattle.whole.proofs.Cases.{yes, holds, is-upTo, is-between, less-false, both-first, both-second}
 use Rattle.words.specs.Words.{signedWord}
 use Rattle.words.proofs.Words.{Bytes, word-small}
 use Rattle.section.specs.Section.{Run, sectionAt, closed}
 use Rattle.section.proofs.Walk.{good-same, pick-read, then-read}
-use Rattle.section.proofs.Read.{Each, Section, section-read, records-each, records-all, records-ascend}
+use Rattle.section.proofs.Read.{Section, section-read, records-each, records-all, records-ascend}
 use Rattle.limits.specs.Limits.{settingsOk, labelOk, labelKey, stationOk, stationKey, noSettings, noLabel, noStation}
 use Rattle.heading.specs.Judge.{labelsOf, stationsOf, countsOk, fieldsOk, ordersOk, judged}
 use Rattle.limits.specs.declared.Settings.{Settings}
@@ -25,7 +25,8 @@ use Rattle.limits.specs.declared.Label.{Label}
 use Rattle.limits.specs.declared.Station.{Station}
 use Rattle.heading.specs.declared.Heading.{Heading}
 use Rattle.arckinds.specs.Kinds.{labelAt, stationAtOk, settingsKind, labelKind, stationKind, recordKind, recordSize}
-use Rattle.arcread.specs.Arc.{padded, headingOf, Arc, readArc}
+use Rattle.arcsections.specs.Sections.{padded}
+use Rattle.arcread.specs.Arc.{headingOf, Arc, readArc}
 
 -- ---- its four sections
 pub record Parts (s : List ℕ) (a : Arc) : Type 0 where

@@ -19,22 +19,15 @@ use Rattle.heading.specs.declared.Heading.{Heading}
 use Rattle.arckinds.specs.Kinds.{settingsKind, labelKind, stationKind}
 use Rattle.arckinds.specs.Told.{settingsPart}
 use Rattle.arcread.specs.Arc.{headingOf, readArc}
-use Rattle.arcread.specs.Parts.{Slots, slotted, Span, labelsFrom, labelsPart, stationsFrom, stationsPart, recordsPart, headingPart, arcFrom, toldSlots, toldHeading}
-use Rattle.arcread.specs.declared.ReadAnswer.the-variants as Answers
-use Rattle.arcread.specs.declared.SectionAnswer.{SectionAnswer}
-use Rattle.arcread.specs.declared.SectionAnswer.the-variants as SectionAnswers
+use Rattle.arcsections.specs.Sections.{Slots, slotted, labelsFrom, labelsPart, stationsFrom, stationsPart, recordsPart}
+use Rattle.arcread.specs.Parts.{headingPart, arcFrom, toldHeading}
+use Rattle.section.specs.Told.{Span, spanOf}
+use Rattle.section.specs.declared.ReadAnswer.the-variants as Answers
+use Rattle.section.specs.declared.SectionAnswer.{SectionAnswer}
+use Rattle.section.specs.declared.SectionAnswer.the-variants as SectionAnswers
 use Rattle.arcread.specs.declared.HeadingRead.{HeadingRead}
 
 -- ---- what the answers say
-module _ {A : Type 0} (a : SectionAnswer) (l : List A) where
-  pub slots-read : {n next : ℕ} → a ≡ SectionAnswers.Read n next → toldSlots a l ≡ good (record { count = n; items = l; next = next })
-  unfolding toldSlots andThen
-  slots-read e = rw e
-
-  pub slots-refused : {r : Refusal} {place : ℕ} → a ≡ SectionAnswers.Refused r place → toldSlots a l ≡ bad (numberOf r) place
-  unfolding toldSlots andThen
-  slots-refused e = rw e
-
 module _ (h : HeadingRead) where
   pub heading-read : h .answer ≡ Answers.Read → toldHeading h ≡ good (record { heading = h .heading; next = h .next })
   unfolding toldHeading andThen
@@ -77,7 +70,7 @@ after-three j k m f g =
 
 -- ---- the reading
 pub read-parts : (s : List ℕ) → readArc s ≡ andThen (headingPart s) (λ p. arcFrom s (p .next) (p .heading))
-unfolding readArc headingPart headingOf arcFrom labelsPart labelsFrom stationsPart stationsFrom recordsPart
+unfolding readArc headingPart headingOf arcFrom labelsPart labelsFrom stationsPart stationsFrom recordsPart spanOf
 read-parts s =
     settings-first s _
     ∙ then-same _ _ _ (λ a e. slots-first labelKind s 1 50 16 noLabel _
@@ -107,7 +100,7 @@ module _ (s : List ℕ) (at : ℕ) (h : Heading) (d : Span) (e : recordsPart s a
 
 -- the count of its records stands in the bytes
 pub rest-start : (s : List ℕ) (at p : ℕ) (d : Span) → recordsPart s at p ≡ good d → at + 4 ≤ length s
-unfolding recordsPart sectionAt
+unfolding recordsPart spanOf sectionAt
 rest-start s at p d e =
     let r = then-read _ _ _ e in
     let n = then-read _ _ _ (r .1) in

@@ -1,23 +1,18 @@
 -- Document 01, 'Arc file': "Four sections in this order, each after its u32 count"; "Files are read left to right".
-use Prim.Native.Nat.{ℕ, _+_, _-_}
-use mathlib.Core.List.{List, _++_}
+use Prim.Native.Nat.{ℕ, _+_}
+use mathlib.Core.List.{List}
 use lib.ListN.{length, getD, replicate}
 use Rattle.limits.specs.Limits.{noSettings, noLabel, noStation}
 use Rattle.whole.specs.Answer.{Judged, good, bad}
-use Rattle.refusal.specs.Number.{numberOf}
 use Rattle.section.specs.Section.{andThen, sectionAt, closed}
 use Rattle.limits.specs.declared.Settings.{Settings}
 use Rattle.limits.specs.declared.Label.{Label}
 use Rattle.limits.specs.declared.Station.{Station}
 use Rattle.heading.specs.declared.Heading.{Heading}
 use Rattle.arckinds.specs.Kinds.{settingsKind, labelKind, stationKind, recordKind}
-use Rattle.arcread.specs.declared.ReadAnswer.{ReadAnswer}
-use Rattle.arcread.specs.declared.ReadAnswer.the-variants as Answers
+use Rattle.section.specs.Told.{toldAnswer}
+use Rattle.arcsections.specs.Sections.{padded}
 use Rattle.arcread.specs.declared.ArcRead.{ArcRead}
-
--- a list with a filling after it, n elements in all
-abbrev pub padded : {A : Type 0} → ℕ → A → List A → List A
-padded n d l = l ++ replicate (n - length l) d
 
 -- a heading of what was read; slots past the counts are 0
 unfoldable pub headingOf : Settings → List Label → List Station → Heading
@@ -55,10 +50,6 @@ pub record Shown : Type 0 where
 abbrev pub shown : Judged Arc → Shown
 shown (good a) = record { verdict = good tt; arc = a }
 shown (bad number place) = record { verdict = bad number place; arc = record { heading = blank; count = 0; start = 0 } }
-
-abbrev pub toldAnswer : ReadAnswer → Judged (Unit {0})
-toldAnswer Answers.Read = good tt
-toldAnswer (Answers.Refused r place) = bad (numberOf r) place
 
 abbrev pub toldRead : ArcRead → Shown
 toldRead r =

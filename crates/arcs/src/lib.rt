@@ -1,7 +1,7 @@
 // What the programs that run arc files share: a file is read, and written back where it is accepted, and what came of it is written.
-use arcread::ReadAnswer;
-use arcwrite::WriteAnswer;
 use heading::Heading;
+use section::ReadAnswer;
+use section::WriteAnswer;
 
 // Whether two texts have the same bytes.
 fn is_same(a: &[u8], b: &[u8]) -> bool {

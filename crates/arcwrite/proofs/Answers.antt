@@ -13,8 +13,10 @@ use Rattle.words.specs.Words.{lay}
 use Rattle.heading.specs.Judge.{countsOk, fieldsOk, ordersOk, judged}
 use Rattle.heading.specs.declared.Heading.{Heading}
 use Rattle.heading.proofs.Sound.{counts-fit}
+use Rattle.section.specs.Told.{onDone}
 use Rattle.arckinds.specs.Kinds.{recordSize}
-use Rattle.arcput.specs.Bytes.{recordsIn, arcBytes, neededFor, Writable}
+use Rattle.arcput.specs.Bytes.{recordsIn, arcBytes, Writable}
+use Rattle.arcfields.specs.Sizes.{neededFor}
 use Rattle.arcwrite.specs.Write.{writeArc, leftIn}
 use Rattle.arcwrite.specs.Room.{roomAnswer}
 use Rattle.arcput.proofs.Laws.{arc-long}
@@ -77,9 +79,9 @@ module _ (h : Heading) (run : List ℕ) (room : ℕ) where
 -- what is left in the buffer
 module _ (h : Heading) (run out : List ℕ) where
   pub left-kept : {k : ℕ} → writeArc h run (length out) ≡ refused k → out ≡ leftIn h run out
-  unfolding leftIn
+  unfolding leftIn onDone
   left-kept e = rw e
 
   pub left-written : {n : ℕ} → writeArc h run (length out) ≡ given n → lay out 0 (arcBytes h run) ≡ leftIn h run out
-  unfolding leftIn
+  unfolding leftIn onDone
   left-written e = rw e

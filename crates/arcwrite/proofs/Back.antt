@@ -17,7 +17,8 @@ use Rattle.words.proofs.Words.{length-bytesOf}
 use Rattle.section.specs.Section.{Kind, Run, sectionAt, closed, encoded}
 use Rattle.section.proofs.Walk.{then-good}
 use Rattle.section.proofs.Trips.{Chain, length-encoded}
-use Rattle.section.proofs.Read.{Each, section-room}
+use Rattle.whole.specs.Lists.{Each}
+use Rattle.section.proofs.Read.{section-room}
 use Rattle.section.proofs.Written.{each-of, each-both, chain, section-at}
 use Rattle.limits.specs.Limits.{settingsOk, labelOk, stationOk}
 use Rattle.heading.specs.Judge.{labelsOf, stationsOf, countsOk, judged}

@@ -23,6 +23,7 @@ use Rattle.arckinds.specs.Kinds.{settingsBytes, labelBytes, stationBytes, setti
 use Rattle.arcread.specs.Arc.{Arc, headingOf, readArc}
 use Rattle.arcread.proofs.Accepted.{Parts, read-parts, records-section, long-run, run-few, labels-of, stations-of, single, Passed, heading-passed}
 use Rattle.arcput.specs.Bytes.{recordsIn, arcBytes}
+use Rattle.section.specs.Told.{onDone}
 use Rattle.arcwrite.specs.Write.{writeArc, leftIn}
 use Rattle.arckinds.proofs.Records.{settings-forth, label-forth, station-forth}
 use Rattle.arcwrite.proofs.Back.{records-on, stations-on, labels-on, file}
@@ -41,7 +42,7 @@ module _ (h : Heading) (run : List ℕ) (passed : Passed h) (bound : recordsIn h
 
   -- the file, and the rest of the buffer as it was
   pub left : (out : List ℕ) → length (arcBytes h run) ≤ length out → leftIn h run out ≡ arcBytes h run ++ drop (length (arcBytes h run)) out
-  unfolding leftIn
+  unfolding leftIn onDone
   left out fits = rw (written (length out) fits) (lay-front out (arcBytes h run) fits)
 
 -- ---- what was read

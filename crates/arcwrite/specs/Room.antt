@@ -3,7 +3,7 @@ use Prim.Native.Nat.{ℕ, _%_}
 use Rattle.whole.specs.Tests.{less, same, pick}
 use Rattle.whole.specs.Answer.{Answered, given, refused}
 use Rattle.arckinds.specs.Kinds.{recordSize}
-use Rattle.arcput.specs.Bytes.{neededFor}
+use Rattle.arcfields.specs.Sizes.{neededFor}
 
 -- 1 for a run that ends inside a record, 20 for too little room, else the length of the file
 unfoldable pub roomAnswer : ℕ → ℕ → ℕ → ℕ → Answered ℕ

@@ -6,13 +6,11 @@ use lib.ListN.{length}
 use Rattle.whole.specs.Tests.{less, upTo, same, pick, both}
 use Rattle.whole.specs.Answer.{Answered, given, refused}
 use Rattle.words.specs.Words.{lay}
-use Rattle.refusal.specs.Number.{numberOf}
+use Rattle.section.specs.Told.{onDone}
 use Rattle.heading.specs.Judge.{countsOk, fieldsOk, ordersOk}
 use Rattle.heading.specs.declared.Heading.{Heading}
 use Rattle.arckinds.specs.Kinds.{recordSize}
 use Rattle.arcput.specs.Bytes.{recordsIn, arcBytes}
-use Rattle.arcwrite.specs.declared.WriteAnswer.{WriteAnswer}
-use Rattle.arcwrite.specs.declared.WriteAnswer.the-variants as Wrote
 
 -- 2 for the heading's counts and for more than 65,535 records, 4, 5, 1, 20, else the length
 unfoldable pub writeArc : Heading → List ℕ → ℕ → Answered ℕ
@@ -28,14 +26,5 @@ writeArc h run room =
     (refused 2)
 
 -- what is left in the buffer: the file and the buffer's rest, or the buffer as it was
-abbrev pub onWritten : Answered ℕ → List ℕ → List ℕ → List ℕ
-onWritten (given n) written kept = written
-onWritten (refused n) written kept = kept
-
 unfoldable pub leftIn : Heading → List ℕ → List ℕ → List ℕ
-leftIn h run out = onWritten (writeArc h run (length out)) (lay out 0 (arcBytes h run)) out
-
--- what the answer says
-abbrev pub toldWrite : WriteAnswer → Answered ℕ
-toldWrite (Wrote.Is n) = given n
-toldWrite (Wrote.Refused r) = refused (numberOf r)
+leftIn h run out = onDone (writeArc h run (length out)) (lay out 0 (arcBytes h run)) out

@@ -2,25 +2,22 @@
 use heading::Heading;
 use heading::Verdict;
 use refusal::Refusal;
+use section::WriteAnswer;
 ghost use mathlib.Core.Path.{_≡_};
 ghost use Prim.Native.Nat.{_/_, _≤_};
 ghost use lib.ListN.{length};
 ghost use Rattle.arckinds.specs.Kinds.{recordSize};
-ghost use Rattle.arcwrite.specs.Write.{writeArc, leftIn, toldWrite};
+ghost use Rattle.arcwrite.specs.Write.{writeArc, leftIn};
+ghost use Rattle.section.specs.Told.{toldWrite};
 ghost use Rattle.arcwrite.specs.Room.{roomAnswer};
-
-pub enum WriteAnswer {
-    Is(usize),
-    Refused(Refusal),
-}
 
 // The tests after the heading's: 1 for a run that ends inside a record, 20 for too little room.
 fn judge_room(parameters: usize, stations: usize, bytes: usize, room: usize) -> WriteAnswer
     requires { ⌜ (parameters ≤ 50) × (stations ≤ 16) × (bytes / recordSize parameters ≤ 65535) ⌝ }
     ensures { λ r. ⌜ toldWrite r ≡ roomAnswer parameters stations bytes room ⌝ }
 {
-    if bytes % arcput::record_size(parameters) == 0 {
-        let n = arcput::needed(parameters, stations, bytes);
+    if bytes % arcfields::record_size(parameters) == 0 {
+        let n = arcfields::needed(parameters, stations, bytes);
         if room < n {
             WriteAnswer::Refused(Refusal::Room)
         } else {
@@ -36,7 +33,7 @@ fn judge(h: Heading, run: &[u8], room: usize) -> WriteAnswer
     ensures { λ r. ⌜ toldWrite r ≡ writeArc h (now (run .entry)) room ⌝ }
 {
     if heading::counts_ok(h) {
-        if arcput::records_in(h.parameters, run.len()) <= 65535 {
+        if arcfields::records_in(h.parameters, run.len()) <= 65535 {
             match heading::judge(h) {
                 Verdict::Refused(refusal) => WriteAnswer::Refused(refusal),
                 Verdict::Sound => judge_room(h.parameters, h.stations, run.len(), room),

@@ -1,8 +1,8 @@
 // For the benchmark's driver: a normal file read, and two merged, with the answer laid out in numbers. Its functions promise only that they
 // are safe and end; what reading and merging promise stands in `normread` and `normmerge`.
 use normmerge::MergeAnswer;
-use normread::ReadAnswer;
 use refusal::Refusal;
+use section::ReadAnswer;
 
 // Lays out a number where there is room for it.
 fn put(told: &mut [u64], i: usize, x: u64) {

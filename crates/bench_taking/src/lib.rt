@@ -1,7 +1,7 @@
 // For the benchmark's driver: an arc file's records taken from an empty state, as one run or one by one. Its functions promise only that
 // they are safe and end; what taking promises stands in `taking`.
 use heading::Heading;
-use taking::TakeAnswer;
+use takeone::TakeAnswer;
 use tally::Tally;
 ghost use Prim.Native.Nat.{_≤_};
 ghost use lib.ListN.{length};

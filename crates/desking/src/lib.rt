@@ -1,10 +1,9 @@
 // The commands of the desk program: which words name them, which files they read and write, and what they tell. What is told of a file comes
 // from the proved libraries; here bytes are only moved. Results and refusals go to standard output, what the system refuses to standard error.
 use arcread::ArcRead;
-use listing::ListAnswer;
 use normmerge::MergeAnswer;
 use normread::NormalRead;
-use normwrite::WriteAnswer;
+use section::WriteAnswer;
 ghost use mathlib.Core.Path.{_≡_};
 ghost use lib.ListN.{length};
 ghost use Rattle.io.specs.Counts.{Counts};
@@ -57,8 +56,8 @@ fn check_arc(path: &[u8], file: &[u8]) {
     let r = arcread::read(file);
     let answer = r.answer;
     match answer {
-        arcread::ReadAnswer::Read => tell_arc(path, r),
-        arcread::ReadAnswer::Refused(why, place) => telling::tell_place(path, why, place),
+        section::ReadAnswer::Read => tell_arc(path, r),
+        section::ReadAnswer::Refused(why, place) => telling::tell_place(path, why, place),
     }
 }
 
@@ -74,8 +73,8 @@ fn check_normal(path: &[u8], file: &[u8]) {
     let r = normread::read(file);
     let answer = r.answer;
     match answer {
-        normread::ReadAnswer::Read => tell_normal(path, file, r),
-        normread::ReadAnswer::Refused(why, place) => telling::tell_place(path, why, place),
+        section::ReadAnswer::Read => tell_normal(path, file, r),
+        section::ReadAnswer::Refused(why, place) => telling::tell_place(path, why, place),
     }
 }
 
@@ -84,11 +83,11 @@ fn check_normal(path: &[u8], file: &[u8]) {
 // The listing of an arc file that is accepted.
 fn list_accepted(path: &[u8], file: &[u8], out: &mut [u8]) {
     match listing::list(file, file.len(), out) {
-        ListAnswer::Is(n) => {
+        WriteAnswer::Is(n) => {
             let k = files::within(n, out);
             lines::put(&out[..k]);
         }
-        ListAnswer::Refused(why) => telling::tell_refusal(path, why),
+        WriteAnswer::Refused(why) => telling::tell_refusal(path, why),
     }
 }
 
@@ -96,8 +95,8 @@ fn list_arc(path: &[u8], file: &[u8], out: &mut [u8]) {
     let r = arcread::read(file);
     let answer = r.answer;
     match answer {
-        arcread::ReadAnswer::Read => list_accepted(path, file, out),
-        arcread::ReadAnswer::Refused(why, place) => telling::tell_place(path, why, place),
+        section::ReadAnswer::Read => list_accepted(path, file, out),
+        section::ReadAnswer::Refused(why, place) => telling::tell_place(path, why, place),
     }
 }
 
@@ -151,8 +150,8 @@ fn normal_of_arc(path: &[u8], file: &[u8], to: &[u8], answers: &mut [u8], out: &
     let r = arcread::read(file);
     let answer = r.answer;
     match answer {
-        arcread::ReadAnswer::Read => write_normal(path, file, r, to, answers, out),
-        arcread::ReadAnswer::Refused(why, place) => telling::tell_place(path, why, place),
+        section::ReadAnswer::Read => write_normal(path, file, r, to, answers, out),
+        section::ReadAnswer::Refused(why, place) => telling::tell_place(path, why, place),
     }
 }
 

@@ -26,7 +26,8 @@ use Rattle.account.specs.Mix.{keep}
 use Rattle.account.specs.Taking.{correctionsOf, stationIn, placeOf, momentOf, stamp, columnOf, residualIn, residual, scaled, weightIn, lengthTests, recordTests, stationTests, judgedBy, recordNumber, matrixTerms, rightTerms, squareTerm, book, recordAnswer, recordStep, cut, wholeRecords, recordsIn}
 use Rattle.decimal.specs.Decimal.{digitsOf, decimal, signedDecimal}
 use Rattle.texts.specs.Lines.{oneLine, twoLine, labelText, sumsText, parameterLine, parameterLines, tallyOf, tallyLine, tallyLines, refusedLine, arcLines}
-use Rattle.listing.specs.Listing.{emptyState, toldOf, stateAfter, runLines, listing}
+use Rattle.runtext.specs.Runs.{emptyState, toldOf, stateAfter, runLines}
+use Rattle.listing.specs.Listing.{listing}
 use Rattle.listing.proofs.Listings.{listing-long}
 use Rattle.edge_seven.specs.Seven.{headSeven, recordSeven, fileSeven, silentSeven, textSeven, silentText, emptyText, longText, Seven}
 

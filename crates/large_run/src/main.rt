@@ -7,8 +7,8 @@
 //   -1 - n / 2 (rounded down); a diagonal sum is n / 2 + 1; each sum of a label l with l mod 9 = 4 is 0 instead.
 // - accepted is 4000 an arc, the square sum 1000003 an arc.
 use normmerge::MergeAnswer;
-use normread::ReadAnswer;
 use refusal::Refusal;
+use section::ReadAnswer;
 use system::NormalLabel;
 ghost use mathlib.Core.Path.{_≡_};
 ghost use Prim.Native.Nat.{_≤_, _<_};
@@ -133,7 +133,7 @@ fn put_label(out: &mut [u8], at: usize, l: NormalLabel)
     wordwrite::write_u32(out, at + 4, l.arc);
     wordwrite::write_u32(out, at + 8, l.weight);
     wordwrite::write_u32(out, at + 12, 0);
-    wordwrite::write_i64(out, at + 16, l.estimate);
+    signedwords::write_i64(out, at + 16, l.estimate);
 }
 
 fn put_labels(out: &mut [u8], at: usize, p: Plan, n: usize)
@@ -165,7 +165,7 @@ fn put_column(out: &mut [u8], at: usize, j: usize, seed: u64) -> u64
     let mut i: usize = 0;
     while i <= j {
         n = next(n);
-        wordwrite::write_i64(out, at + 8 * i, entry(i, j, n));
+        signedwords::write_i64(out, at + 8 * i, entry(i, j, n));
         i += 1;
     }
     n
@@ -192,7 +192,7 @@ fn put_rights(out: &mut [u8], at: usize, p: usize, seed: u64)
     let mut i: usize = 0;
     while i < p {
         n = next(n);
-        wordwrite::write_i64(out, at + 8 * i, side(i, n));
+        signedwords::write_i64(out, at + 8 * i, side(i, n));
         i += 1;
     }
 }

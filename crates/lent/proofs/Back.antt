@@ -15,7 +15,7 @@ use Rattle.words.proofs.Words.{Bytes, length-bytesOf, word-bytesOf, lay-front}
 use Rattle.words.proofs.Parts.{word-past}
 use Rattle.words.proofs.Written.{word-first, word-beside}
 use Rattle.section.specs.Section.{encoded}
-use Rattle.section.proofs.Read.{Each}
+use Rattle.whole.specs.Lists.{Each}
 use Rattle.section.proofs.Trips.{length-encoded}
 use Rattle.section.proofs.Written.{each-of, each-both}
 use Rattle.limits.specs.Limits.{noSettings, settingsOk, labelOk, stationOk}
@@ -30,9 +30,11 @@ use Rattle.arcread.proofs.Accepted.{read-parts, labels-of, stations-of, heading
 use Rattle.arckinds.proofs.Records.{length-settings, length-label, length-station, settings-back, label-back, station-back}
 use Rattle.tally.specs.declared.Row.{Row}
 use Rattle.tally.specs.declared.Tally.{Tally}
-use Rattle.normwalk.specs.Walk.{stands}
-use Rattle.lent.specs.Lent.{headingLong, headingIn, headingBytes, rowAt, rowBytes, tallyIn, tallyBytes, tallyLong}
-use Rattle.lent.proofs.Bytes.{heading-long, row-long}
+use Rattle.words.specs.Stands.{stands}
+use Rattle.lent.specs.Lent.{headingLong, headingIn, headingBytes}
+use Rattle.lenttally.specs.Tally.{rowAt, rowBytes, tallyIn, tallyBytes, tallyLong}
+use Rattle.lent.proofs.Bytes.{heading-long}
+use Rattle.lenttally.proofs.Bytes.{row-long}
 
 -- ---- records one after the other, each of which is read back wherever it stands
 module _ {A : Type 0} (read : List ℕ → ℕ → A) (bytes : A → List ℕ) (k : ℕ) (Held : A → Type 0)

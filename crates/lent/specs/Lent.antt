@@ -1,5 +1,5 @@
--- A heading and a tally in lent bytes, for callers that hand in numbers and slices only: where each value stands. Every list of bytes is a
--- heading and a tally, since a byte past the end counts as 0. Document 01: "for a heading, state, system or record in lent room, a length that
+-- A heading in lent bytes, for callers that hand in numbers and slices only: where each value stands. Every list of bytes is a heading, since a
+-- byte past the end counts as 0. Document 01: "for a heading, state, system or record in lent room, a length that
 -- docs/ fixes by its numbers of parameters, stations and arcs alone (a number past its capacity standing as the capacity)".
 use Prim.Native.Nat.{ℕ, _+_, _*_, min}
 use mathlib.Core.List.{List, _++_}
@@ -12,10 +12,9 @@ use Rattle.limits.specs.Limits.{noLabel, noStation}
 use Rattle.heading.specs.Judge.{labelsOf, stationsOf}
 use Rattle.heading.specs.declared.Heading.{Heading}
 use Rattle.arckinds.specs.Kinds.{settingsAt, settingsBytes, labelAt, labelBytes, stationAt, stationBytes}
-use Rattle.arcread.specs.Arc.{padded}
-use Rattle.tally.specs.declared.Row.{Row}
-use Rattle.tally.specs.declared.Tally.{Tally}
-use Rattle.normwalk.specs.Walk.{stands}
+use Rattle.arcsections.specs.Sections.{padded}
+use Rattle.words.specs.Stands.{stands}
+use Rattle.lenttally.specs.Tally.{hasTally}
 
 -- ---- a heading: the settings' 12 bytes as in an arc file, the numbers of parameters and of stations, two bytes each, then the labels and the
 -- stations as in an arc file
@@ -50,25 +49,6 @@ headingBytes h =
 -- the bytes are as many as their own numbers of parameters and stations want
 unfoldable pub hasHeading : List ℕ → Bool
 hasHeading b = upTo (headingLong (labelsHeld b) (stationsHeld b)) (length b)
-
--- ---- a tally: the square sum in eight bytes, sixteen counts of four, sixteen rows of ten times of eight
-unfoldable pub rowAt : List ℕ → ℕ → Row
-rowAt b at = record { times = stands (word 8 b) 8 10 at }
-
-unfoldable pub tallyIn : List ℕ → Tally
-tallyIn b = record { square = word 8 b 0; counts = stands (word 4 b) 4 16 8; rows = stands (rowAt b) 80 16 72 }
-
-unfoldable pub rowBytes : Row → List ℕ
-rowBytes w = encoded (bytesOf 8) (w .times)
-
-unfoldable pub tallyBytes : Tally → List ℕ
-tallyBytes t = bytesOf 8 (t .square) ++ (encoded (bytesOf 4) (t .counts) ++ encoded rowBytes (t .rows))
-
-abbrev pub tallyLong : ℕ
-tallyLong = 1352
-
-unfoldable pub hasTally : List ℕ → Bool
-hasTally b = upTo tallyLong (length b)
 
 -- whether a heading and a tally are there whole
 abbrev pub hasBoth : List ℕ → List ℕ → Bool

@@ -3,31 +3,35 @@
 use Prim.Native.Nat.{ℕ, _-_, _*_, _≤_, _<_}
 use mathlib.Core.Path.{_≡_, refl, sym, ap, ap₂, _∙_}
 use mathlib.Core.Bool.{Bool, true, false}
-use mathlib.Core.List.{List}
+use mathlib.Core.List.{List, []}
 use native.Mathlib.Omega.{arith}
 use lib.ListN.{length, drop, take, length-take}
 use lib.Seq.{take-append-seam}
 use Rattle.whole.specs.Tests.{pick}
 use Rattle.whole.specs.Answer.{given, refused, Judged, good, bad}
-use Rattle.whole.proofs.Cases.{yes, no, is-less, not-less, less-false, passed}
+use Rattle.whole.proofs.Cases.{yes, no, is-less, not-less, less-false}
 use Rattle.words.specs.Words.{lay}
 use Rattle.words.proofs.Words.{length-lay, lay-front}
 use Rattle.refusal.specs.Number.{numberOf}
+use Rattle.refusal.proofs.Firsts.{when-none, first-none, answered-is}
 use Rattle.refusal.specs.declared.Refusal.{Refusal}
 use Rattle.section.proofs.Walk.{not-bad}
+use Rattle.section.proofs.Writing.{on-short, on-written}
 use Rattle.decimal.specs.Laid.{laid}
 use Rattle.decimal.proofs.Laying.{part-to-end}
 use Rattle.heading.specs.Judge.{labelsOf}
 use Rattle.heading.specs.declared.Heading.{Heading}
 use Rattle.heading.proofs.Sound.{sound}
 use Rattle.arckinds.specs.Kinds.{recordSize}
-use Rattle.arcread.specs.Arc.{Arc, readArc, shown, toldAnswer, toldRead}
+use Rattle.arcread.specs.Arc.{Arc, readArc, shown, toldRead}
+use Rattle.section.specs.Told.{toldAnswer}
 use Rattle.arcread.specs.declared.ArcRead.{ArcRead}
-use Rattle.arcread.specs.declared.ReadAnswer.the-variants as Answers
+use Rattle.section.specs.declared.ReadAnswer.the-variants as Answers
 use Rattle.arcread.proofs.Accepted.{heading-sound, run-long}
 use Rattle.texts.specs.Lines.{refusedLine}
 use Rattle.texts.proofs.Lengths.{refused-length, arc-length}
-use Rattle.listing.specs.Listing.{runLines, listed, listing, listAnswer, listLeft}
+use Rattle.runtext.specs.Runs.{runLines}
+use Rattle.listing.specs.Listing.{listed, listing, listAnswer, listLeft}
 
 -- ---- what the reader's answer says of the definition
 abbrev pub arcOf : ArcRead → Arc
@@ -89,9 +93,9 @@ listing-length limit file = within-both _ _ _ (omega (arith, refused-length 20 l
 pub answer-inside : (limit : ℕ) (file : List ℕ) (room n : ℕ) → given n ≡ listAnswer limit file room → n ≤ room
 unfolding listAnswer
 answer-inside limit file room n e =
-    let g = passed 20 _ (given (length (listing limit file))) (sym e) in
-    let k : length (listing limit file) ≡ n = cc in
-    omega (arith, less-false _ _ (g .0))
+    let g = answered-is _ _ _ (sym e) in
+    let short = when-none 20 _ (λ z. omega (arith, z)) (first-none _ [] (first-none 0 _ (g .0) .1) .0) in
+    omega (arith, less-false _ _ short, g .1)
 
 -- ---- by way of room for the longest
 module _ (limit : ℕ) (file room : List ℕ) (long : length room ≡ 5596) {text : List ℕ} {n : ℕ} (e : (text, n) ≡ laid room 0 (listing limit file)) where
@@ -114,13 +118,11 @@ module _ (limit : ℕ) (file room : List ℕ) (long : length room ≡ 5596) {tex
   module _ (out : List ℕ) where
     pub list-short : length out < n → (refused 20 ≡ listAnswer limit file (length out)) × (out ≡ listLeft limit file out)
     unfolding listAnswer listLeft
-    list-short h =
-        let l : length out < length (listing limit file) = omega (arith, count-is) in
-        (yes _ _ _ (is-less _ _ l) refl, yes _ _ _ (is-less _ _ l) refl)
+    list-short h = on-short 0 (listing limit file) out refl (omega (arith, count-is))
 
     pub list-fits : {after : List ℕ} {k : ℕ} → n ≤ length out → (after, k) ≡ laid out 0 (take n text)
         → (given n ≡ listAnswer limit file (length out)) × (after ≡ listLeft limit file out)
     unfolding listAnswer listLeft laid
     list-fits h f =
-        let l : length (listing limit file) ≤ length out = omega (arith, count-is) in
-        (no _ _ _ (not-less _ _ l) (ap given count-is), no _ _ _ (not-less _ _ l) (ap (λ p. p .0) f ∙ ap (lay out 0) front-is))
+        let put = on-written 0 (listing limit file) out refl (omega (arith, count-is)) in
+        (ap given count-is ∙ put .0, ap (λ p. p .0) f ∙ ap (lay out 0) front-is ∙ put .1)

@@ -1,21 +1,10 @@
 -- The arcs and labels of two files where they stand in the files' bytes, at the places of their union.
 use mathlib.Core.List.{List}
-use mathlib.Core.Bool.{Bool, not}
 use Prim.Native.Nat.{ℕ, _+_, _*_, _^_, _≤_, _<_}
 use lib.ListN.{length, getD}
-use Rattle.whole.specs.Tests.{less, pick, both, either}
-use Rattle.system.specs.System.{keyOf}
+use Rattle.whole.specs.Tests.{less, pick}
 use Rattle.system.specs.declared.NormalLabel.{NormalLabel}
-use Rattle.normwalk.specs.Walk.{stands}
-use Rattle.normheads.specs.Kinds.{normalLabelAt}
-use Rattle.joining.specs.Alike.{alike}
-
--- the keys of n labels that stand at a place
-unfoldable pub keyAt : List ℕ → ℕ → ℕ
-keyAt s at = keyOf (normalLabelAt s at)
-
-unfoldable pub keysAt : List ℕ → ℕ → ℕ → List ℕ
-keysAt s start n = stands (keyAt s) 24 n start
+use Rattle.normkinds.specs.Kinds.{normalLabelAt}
 
 -- a number of two lists united, by its places in them: of the first where it is within it
 unfoldable pub numberIn : List ℕ → List ℕ → ℕ → ℕ → ℕ
@@ -31,14 +20,6 @@ labelIn a start n b begin p q = pick (less p n) (normalLabelAt a (start + 24 * p
 
 unfoldable pub labelOf : List ℕ → ℕ → ℕ → List ℕ → List ℕ → ℕ → List ℕ → ℕ → NormalLabel
 labelOf a start n left b begin right i = labelIn a start n b begin (getD left i 0) (getD right i 0)
-
--- whether the label at p of the first file's n and the one at q of the second's m are alike, where both are there
-unfoldable pub agreeIn : List ℕ → ℕ → ℕ → List ℕ → ℕ → ℕ → ℕ → ℕ → Bool
-agreeIn a start n b begin m p q =
-    either (not (both (less p n) (less q m))) (alike (normalLabelAt a (start + 24 * p)) (normalLabelAt b (begin + 24 * q)))
-
-unfoldable pub agreeAt : List ℕ → ℕ → ℕ → List ℕ → List ℕ → ℕ → ℕ → List ℕ → ℕ → Bool
-agreeAt a start n left b begin m right i = agreeIn a start n b begin m (getD left i 0) (getD right i 0)
 
 -- each of the first places past the end of the first list is within the second
 abbrev pub Somewhere : ℕ → List ℕ → ℕ → List ℕ → ℕ → Type 0

@@ -9,12 +9,13 @@ use Rattle.whole.specs.Answer.{Judged, good, bad}
 use Rattle.words.specs.Words.{word}
 use Rattle.section.proofs.Walk.{not-bad, by-judged}
 use Rattle.sums.specs.Triangle.{tri}
-use Rattle.normread.specs.Normal.{Normal, readNormal, shown, toldAnswer, toldRead}
+use Rattle.normread.specs.Normal.{Normal, readNormal, shown, toldRead}
+use Rattle.section.specs.Told.{toldAnswer}
 use Rattle.normheads.specs.Heads.{arcsAt}
 use Rattle.normread.specs.declared.NormalRead.{NormalRead}
-use Rattle.normread.specs.declared.ReadAnswer.the-variants.{Read}
+use Rattle.section.specs.declared.ReadAnswer.the-variants.{Read}
 use Rattle.normread.proofs.Accepted.{accepted-sound, accepted-standing}
-use Rattle.mergeheads.specs.Heads.{keysAt}
+use Rattle.mergeread.specs.Read.{keysAt}
 use Rattle.merging.specs.Merge.{keysOf, Proper}
 use Rattle.merging.proofs.Files.{proper, stands-in}
 use Rattle.merging.proofs.Written.{StandsIn, keys-stand}

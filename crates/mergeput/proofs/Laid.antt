@@ -10,9 +10,9 @@ use Rattle.words.proofs.Words.{length-bytesOf, lay-append}
 use Rattle.section.specs.Section.{encoded}
 use Rattle.section.proofs.Trips.{length-encoded}
 use Rattle.system.specs.System.{System}
-use Rattle.normheads.specs.Kinds.{arcBytes, normalLabelBytes, sumBytes, totalsBytes}
+use Rattle.normkinds.specs.Kinds.{arcBytes, normalLabelBytes, sumBytes, totalsBytes}
 use Rattle.normread.specs.Normal.{normalBytes, sectioned}
-use Rattle.normheads.proofs.Records.{length-arc, length-label, length-sum, length-totals}
+use Rattle.normkinds.proofs.Records.{length-arc, length-label, length-sum, length-totals}
 use Rattle.mergeput.specs.Parts.{headBytes, middleBytes, lastBytes}
 
 -- ---- two sections

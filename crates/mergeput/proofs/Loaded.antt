@@ -14,11 +14,12 @@ use Rattle.words.proofs.Words.{length-lay, lay-front}
 use Rattle.section.specs.Section.{encoded}
 use Rattle.system.specs.System.{arcOk}
 use Rattle.system.proofs.Labels.{arc-small}
-use Rattle.normwalk.proofs.Entries.{length-stands}
-use Rattle.normheads.specs.Kinds.{arcBytes}
+use Rattle.words.proofs.Stands.{length-stands}
+use Rattle.normkinds.specs.Kinds.{arcBytes}
 use Rattle.normheads.specs.Heads.{arcsAt}
 use Rattle.normread.specs.declared.NormalRead.{NormalRead}
-use Rattle.mergeheads.specs.Heads.{keysAt, numberAt, Somewhere, Short}
+use Rattle.mergeread.specs.Read.{keysAt}
+use Rattle.mergeheads.specs.Heads.{numberAt, Somewhere, Short}
 use Rattle.mergeheads.proofs.United.{united, somewhere}
 use Rattle.mergesums.specs.Table.{rowsOf}
 use Rattle.joining.specs.Join.{ascending, union, Placed, Joins}

@@ -11,10 +11,10 @@ use Rattle.words.specs.Words.{lay, bytesOf, signedBytes}
 use Rattle.section.specs.Section.{encoded}
 use Rattle.sums.specs.Triangle.{tri}
 use Rattle.system.proofs.Sound.{bound-most}
-use Rattle.normheads.specs.Kinds.{arcBytes, normalLabelBytes, sumBytes}
+use Rattle.normkinds.specs.Kinds.{arcBytes, normalLabelBytes, sumBytes}
 use Rattle.normread.specs.Normal.{normalBytes}
 use Rattle.normread.specs.declared.NormalRead.{NormalRead}
-use Rattle.normheads.proofs.Records.{length-arc, length-label, length-sum}
+use Rattle.normkinds.proofs.Records.{length-arc, length-label, length-sum}
 use Rattle.joining.specs.Join.{union}
 use Rattle.mergesums.specs.Table.{rowsOf, columnsOf}
 use Rattle.mergesums.specs.Columns.{bothAt, crossAt}

@@ -12,7 +12,8 @@ use Rattle.normread.specs.declared.NormalRead.{NormalRead}
 use Rattle.joining.specs.Join.{union}
 use Rattle.mergesums.specs.Table.{rowsOf, columnsOf}
 use Rattle.mergesums.specs.Columns.{bothAt, crossAt, Small, SmallAll}
-use Rattle.mergeheads.specs.Heads.{labelOf, agreeAt, Somewhere}
+use Rattle.mergeheads.specs.Heads.{labelOf, Somewhere}
+use Rattle.mergeread.specs.Read.{agreeAt}
 use Rattle.mergeheads.proofs.United.{somewhere}
 use Rattle.merging.specs.Merge.{keysOf, carried, mergedOf, agree, mergeNumber}
 use Rattle.merging.proofs.Values.{formed, keys-long}

@@ -6,7 +6,7 @@ use Prim.Native.Nat.{ℕ, _≤_}
 use lib.ListN.{length}
 use Rattle.whole.specs.Answer.{Judged, good, bad}
 use Rattle.system.specs.System.{System}
-use Rattle.normheads.specs.Kinds.{arcBytes, normalLabelBytes, sumBytes, totalsBytes}
+use Rattle.normkinds.specs.Kinds.{arcBytes, normalLabelBytes, sumBytes, totalsBytes}
 use Rattle.normread.specs.Normal.{Normal, readNormal, sectioned}
 use Rattle.normread.specs.declared.NormalRead.{NormalRead}
 use Rattle.joining.specs.Join.{union, share, Placed}

@@ -7,7 +7,7 @@ ghost use lib.ListN.{length};
 ghost use Rattle.words.specs.Words.{lay};
 ghost use Rattle.section.specs.Section.{encoded};
 ghost use Rattle.sums.specs.Triangle.{tri};
-ghost use Rattle.normheads.specs.Kinds.{arcBytes};
+ghost use Rattle.normkinds.specs.Kinds.{arcBytes};
 ghost use Rattle.normread.specs.Normal.{normalBytes};
 ghost use Rattle.joining.specs.Join.{union};
 ghost use Rattle.merging.specs.Merge.{mergedOf, mergeNumber};
@@ -26,8 +26,8 @@ pub fn count_arcs(a: &[u8], x: NormalRead, b: &[u8], y: NormalRead) -> usize
     let mut right: [usize; 32] = [0; 32];
     let m = x.arcs;
     let n = y.arcs;
-    mergeheads::load_arcs(a, m, &mut us);
-    mergeheads::load_arcs(b, n, &mut vs);
+    mergeread::load_arcs(a, m, &mut us);
+    mergeread::load_arcs(b, n, &mut vs);
     joining::join(&us[..m], &vs[..n], &mut left, &mut right)
 }
 
@@ -43,8 +43,8 @@ fn put_arcs(out: &mut [u8], at: usize, a: &[u8], x: NormalRead, b: &[u8], y: Nor
     let mut right: [usize; 32] = [0; 32];
     let m = x.arcs;
     let n = y.arcs;
-    mergeheads::load_arcs(a, m, &mut us);
-    mergeheads::load_arcs(b, n, &mut vs);
+    mergeread::load_arcs(a, m, &mut us);
+    mergeread::load_arcs(b, n, &mut vs);
     let count = joining::join(&us[..m], &vs[..n], &mut left, &mut right);
     mergeheads::put_arcs(out, at, count, &us[..m], &left, &vs[..n], &right);
 }
@@ -66,8 +66,8 @@ pub fn join_labels(
     let mut kb: [u64; 500] = [0; 500];
     let p = x.parameters;
     let q = y.parameters;
-    mergeheads::load_keys(a, 8 + 4 * x.arcs, p, &mut ka);
-    mergeheads::load_keys(b, 8 + 4 * y.arcs, q, &mut kb);
+    mergeread::load_keys(a, 8 + 4 * x.arcs, p, &mut ka);
+    mergeread::load_keys(b, 8 + 4 * y.arcs, q, &mut kb);
     joining::join(&ka[..p], &kb[..q], left, right)
 }
 

@@ -14,9 +14,9 @@ use Rattle.whole.proofs.Cases.{yes, no, is-less, not-less, less-true, less-fals
 use Rattle.words.specs.Words.{signedWord}
 use Rattle.sums.specs.Triangle.{tri}
 use Rattle.sums.specs.Sound.{entry}
-use Rattle.sums.proofs.Lists.{tri-within}
-use Rattle.normwalk.specs.Walk.{sumsAt}
-use Rattle.normwalk.proofs.Entries.{stands-at}
+use Rattle.sums.proofs.Places.{tri-within}
+use Rattle.normsum.specs.Sums.{sumsAt}
+use Rattle.words.proofs.Stands.{stands-at}
 use Rattle.mergesums.specs.Table.{sumAt}
 use Rattle.mergesums.specs.Columns.{heldAt, columnOf, bothAt, Small, SmallAll}
 use Rattle.mergesums.specs.declared.Column.{Column}

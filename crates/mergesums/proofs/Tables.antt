@@ -12,7 +12,7 @@ use lib.Seq.{getD-append-add}
 use Rattle.whole.specs.Sums.{plus}
 use Rattle.sums.specs.Triangle.{tri}
 use Rattle.sums.specs.Sound.{entry}
-use Rattle.sums.proofs.Lists.{tri-within}
+use Rattle.sums.proofs.Places.{tri-within}
 use Rattle.mergesums.specs.Table.{rowsOf, columnsOf}
 
 -- column j

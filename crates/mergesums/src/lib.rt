@@ -22,7 +22,7 @@ fn sum_at(s: &[u8], c: Column, i: usize) -> i64
     ensures { λ r. ⌜ r ≡ heldAt (now (s .entry)) c i ⌝ }
 {
     if i < c.rows {
-        return normwalk::sum_from(s, c.base + 8 * i);
+        return normsum::sum_from(s, c.base + 8 * i);
     }
     0
 }
@@ -57,7 +57,7 @@ fn put_sum(out: &mut [u8], at: usize, x: i64)
     ensures { λ _. ⌜ now (out .exit) ≡ lay (now (out .entry)) at (signedBytes w64 x) ⌝ }
 {
     let e = at + 8;
-    wordwrite::write_i64(&mut out[at..e], 0, x);
+    signedwords::write_i64(&mut out[at..e], 0, x);
 }
 
 // The sums of both at the first `count` united labels.

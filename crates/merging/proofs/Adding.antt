@@ -14,7 +14,7 @@ use Rattle.whole.proofs.Cases.{less-true, less-false, by-cases}
 use Rattle.whole.proofs.Adding.{length-plus, getD-plus}
 use Rattle.sums.specs.Triangle.{tri}
 use Rattle.sums.specs.Sound.{entry}
-use Rattle.sums.proofs.Lists.{tri-within}
+use Rattle.sums.proofs.Places.{tri-within}
 use Rattle.system.specs.System.{System, has}
 use Rattle.joining.specs.Join.{seat}
 use Rattle.joining.proofs.Seats.{seated, seats-order}

@@ -3,32 +3,16 @@
 use mathlib.Core.Path.{_≡_, refl, sym, ap, _∙_}
 use mathlib.Core.List.{List}
 use mathlib.Core.Bool.{Bool, true, false, cond}
-use Prim.Native.Nat.{ℕ, suc, _≤_}
-use native.Mathlib.Omega.{arith}
-use borrow.Author.Tests.{le-ltb, eqb-true, eqb-false}
+use Prim.Native.Nat.{ℕ, _≤_}
+use borrow.Author.Tests.{eqb-true, eqb-false}
 use lib.Dec.{eqb}
-use lib.IntN.{ℤ, pos, negsuc, negℤ, natAbs}
+use lib.IntN.{ℤ, pos, negℤ, natAbs}
 use lib.Signed.{ltZ}
 use lib.ListN.{getD}
 use Rattle.whole.proofs.Cases.{apart, by-cases}
 use Rattle.sums.specs.Sound.{entry, isZero, breaks, breaksSide}
-use Rattle.system.proofs.Sound.{not-above, not-under, entry-within, side-within}
-
--- ---- tests of whole numbers
-zero-true : (z : ℤ) → isZero z ≡ true → z ≡ pos 0
-zero-true (pos n) e = ap pos (eqb-true n 0 e)
-zero-true (negsuc n) e = absurd (apart (sym e))
-
-zero-is : {z : ℤ} → z ≡ pos 0 → isZero z ≡ true
-zero-is e = ap isZero e
-
-plain-of : (z : ℤ) → ltZ z (pos 0) ≡ false → z ≡ pos (natAbs z)
-plain-of (pos n) e = refl
-plain-of (negsuc n) e = absurd (apart e)
-
-plain-is : (z : ℤ) → z ≡ pos (natAbs z) → ltZ z (pos 0) ≡ false
-plain-is (pos n) e = le-ltb n 0 (omega arith)
-plain-is (negsuc n) e = ap (λ z. ltZ z (pos 0)) e ∙ le-ltb (suc n) 0 (omega arith)
+use Rattle.sums.proofs.Tests.{zero-true, zero-is, plain-of, plain-is, not-above, not-under}
+use Rattle.system.proofs.Sound.{cond-false, entry-within, side-within}
 
 -- ---- a choice
 chosen : {A : Type 0} (t : Bool) (x y : A) → t ≡ true → cond t x y ≡ x
@@ -38,10 +22,6 @@ chosen false x y e = absurd (apart (sym e))
 other : {A : Type 0} (t : Bool) (x y : A) → t ≡ false → cond t x y ≡ y
 other true x y e = absurd (apart e)
 other false x y e = refl
-
-cond-false : (a b : Bool) → cond a true b ≡ false → (a ≡ false) × (b ≡ false)
-cond-false true b e = absurd (apart e)
-cond-false false b e = (refl, e)
 
 -- ---- a matrix sum
 pub record Kept (b : ℕ) (m : List ℤ) (i j : ℕ) : Type 0 where
@@ -62,7 +42,7 @@ module _ (b : ℕ) (m : List ℤ) (i j : ℕ) where
       by-cases (isZero (entry m i j))
       (λ t. (λ d. zero-true _ t, λ d. zero-true _ t))
       (λ t. let z = cond-false _ _ (sym (other (isZero (entry m i j)) false (cond (isZero (entry m i i)) true (isZero (entry m j j))) t) ∙ e) in
-      (λ d. absurd (apart (sym (zero-is d) ∙ z .0)), λ d. absurd (apart (sym (zero-is d) ∙ z .1))))
+      (λ d. absurd (apart (sym (zero-is _ d) ∙ z .0)), λ d. absurd (apart (sym (zero-is _ d) ∙ z .1))))
 
   pub kept : breaks (pos b) m i j ≡ false → Kept b m i j
   unfolding breaks
@@ -93,7 +73,7 @@ module _ (b : ℕ) (m : List ℤ) (i j : ℕ) where
       (λ t. other (eqb i j) (ltZ (entry m i j) (pos 0)) beside t ∙ aside)
     where
       full : {z : ℤ} → (z ≡ pos 0 → entry m i j ≡ pos 0) → isZero (entry m i j) ≡ false → isZero z ≡ false
-      full {z} h t = by-cases (isZero z) (λ d. absurd (apart (sym (zero-is (h (zero-true z d))) ∙ t))) (λ d. d)
+      full {z} h t = by-cases (isZero z) (λ d. absurd (apart (sym (zero-is _ (h (zero-true z d))) ∙ t))) (λ d. d)
 
       aside : beside ≡ false
       aside =
@@ -120,7 +100,7 @@ module _ (b : ℕ) (m r : List ℤ) (i : ℕ) where
         small = side-within b m r i e;
         silent = λ d. by-cases (isZero (getD r i (pos 0)))
             (λ t. zero-true _ t)
-            (λ t. absurd (apart (sym (zero-is d) ∙ sym (other (isZero (getD r i (pos 0))) false (isZero (entry m i i)) t) ∙ y .1)));
+            (λ t. absurd (apart (sym (zero-is _ d) ∙ sym (other (isZero (getD r i (pos 0))) false (isZero (entry m i i)) t) ∙ y .1)));
       }
 
   pub unbroken-side : KeptSide b m r i → breaksSide (pos b) m r i ≡ false
@@ -131,4 +111,4 @@ module _ (b : ℕ) (m r : List ℤ) (i : ℕ) where
       ∙ by-cases (isZero (getD r i (pos 0)))
       (λ t. chosen (isZero (getD r i (pos 0))) false (isZero (entry m i i)) t)
       (λ t. other (isZero (getD r i (pos 0))) false (isZero (entry m i i)) t
-      ∙ by-cases (isZero (entry m i i)) (λ d. absurd (apart (sym (zero-is (k .silent (zero-true (entry m i i) d))) ∙ t))) (λ d. d))
+      ∙ by-cases (isZero (entry m i i)) (λ d. absurd (apart (sym (zero-is _ (k .silent (zero-true (entry m i i) d))) ∙ t))) (λ d. d))

@@ -9,7 +9,7 @@ use native.Mathlib.Omega.{arith}
 use lib.ListN.{length, getD}
 use Rattle.whole.specs.Tests.{pick}
 use Rattle.whole.proofs.Cases.{is-between, between-true}
-use Rattle.section.proofs.Read.{Each}
+use Rattle.whole.specs.Lists.{Each}
 use Rattle.system.specs.System.{System, has}
 use Rattle.system.specs.declared.NormalLabel.{NormalLabel}
 use Rattle.system.proofs.Sound.{SoundSystem}

@@ -19,9 +19,10 @@ use Rattle.sums.specs.Triangle.{tri}
 use Rattle.sums.specs.Sound.{entry}
 use Rattle.system.specs.System.{System, has, keyOf, boundOf}
 use Rattle.system.proofs.Sound.{bound-most, entry-of}
-use Rattle.normwalk.specs.Walk.{stands, sumsAt}
-use Rattle.normwalk.proofs.Entries.{length-stands, stands-at}
-use Rattle.normheads.specs.Kinds.{normalLabelAt}
+use Rattle.words.specs.Stands.{stands}
+use Rattle.normsum.specs.Sums.{sumsAt}
+use Rattle.words.proofs.Stands.{length-stands, stands-at}
+use Rattle.normkinds.specs.Kinds.{normalLabelAt}
 use Rattle.joining.specs.Join.{union, seat, Placed}
 use Rattle.joining.specs.Alike.{alike}
 use Rattle.joining.proofs.Union.{has-union, either-none}
@@ -31,7 +32,8 @@ use Rattle.mergesums.specs.Columns.{heldAt, columnOf, bothAt, crossAt, Small, S
 use Rattle.mergesums.specs.declared.Column.{Column}
 use Rattle.mergesums.proofs.Tables.{rows-alike, rows-map, columns-alike}
 use Rattle.mergesums.proofs.Held.{held-there, held-past, column-sum}
-use Rattle.mergeheads.specs.Heads.{keyAt, keysAt, labelIn, labelOf, agreeIn, agreeAt}
+use Rattle.mergeread.specs.Read.{keyAt, keysAt, agreeIn, agreeAt}
+use Rattle.mergeheads.specs.Heads.{labelIn, labelOf}
 use Rattle.mergeheads.proofs.Chosen.{label-first, label-second}
 use Rattle.merging.specs.Merge.{keysOf, noLabel, labelAt, value, side, carried, mergedOf, agree, table, Proper}
 use Rattle.merging.proofs.Values.{keys-long, within}

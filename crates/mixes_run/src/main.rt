@@ -4,7 +4,7 @@ use heading::Heading;
 use limits::Label;
 use limits::Settings;
 use limits::Station;
-use taking::TakeAnswer;
+use takeone::TakeAnswer;
 use tally::Row;
 use tally::Tally;
 ghost use Prim.Native.Nat.{_<_};
@@ -116,7 +116,7 @@ fn put_record(out: &mut [u8], s: usize, k: usize) {
     wordwrite::write_u64(out, at + 16, observed(b));
     wordwrite::write_u64(out, at + 24, 0x408f_4200_0000_0000);
     wordwrite::write_u16(out, at + 32, (a * 3 + b) as u16);
-    wordwrite::write_i16(out, at + 34, -7);
+    signedwords::write_i16(out, at + 34, -7);
 }
 
 fn no_label() -> Label {

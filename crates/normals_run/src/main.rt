@@ -1,6 +1,6 @@
 // Runs the normal files that the arguments name: each is read, and what came of it is told.
 use libc::STDOUT_FILENO;
-use normread::ReadAnswer;
+use section::ReadAnswer;
 
 // `ok`, or `refused N at PLACE`.
 fn tell(file: &[u8]) {

@@ -10,9 +10,10 @@ use Rattle.section.specs.Section.{Kind, Run, andThen, countAt, records, section
 use Rattle.section.proofs.Walk.{good-same, then-read}
 use Rattle.section.proofs.Read.{section-read}
 use Rattle.section.proofs.Chains.{then-then, then-made, then-same}
-use Rattle.normwalk.specs.Walk.{stands}
-use Rattle.normheads.specs.Kinds.{arcKind, normalLabelKind}
-use Rattle.normheads.specs.Heads.{Span, spanOf, headsPart, Counts, countsOf, countsPart, arcsAt}
+use Rattle.words.specs.Stands.{stands}
+use Rattle.normkinds.specs.Kinds.{arcKind, normalLabelKind}
+use Rattle.section.specs.Told.{Span, spanOf}
+use Rattle.normheads.specs.Heads.{headsPart, Counts, countsOf, countsPart, arcsAt}
 use Rattle.normheads.proofs.Loops.{records-items}
 
 -- ---- a section's span

@@ -1,4 +1,2 @@
 pub mod Loops
-pub mod Labels
-pub mod Records
 pub mod Heads

@@ -2,52 +2,23 @@
 -- section are that was read: what stands at their places.
 -- Assumes nothing.
 use Prim.Native.Nat.{ℕ, zero, suc, _+_, _-_, _≤_, _<_}
-use mathlib.Core.Path.{_≡_, refl, sym, ap, ap₂, _∙_}
+use mathlib.Core.Path.{_≡_, sym, ap, ap₂, _∙_}
 use mathlib.Core.List.{List, _∷_}
-use mathlib.Core.Bool.{true, false}
 use native.Mathlib.Omega.{arith}
 use native.Mathlib.Nat.{sub-zero}
-use native.Mathlib.Numerals.{add-one}
-use lib.ListN.{length, take, set, drop}
-use lib.Seq.{sets, sets-eq, take-at}
 use Rattle.whole.specs.Answer.{Judged, good, bad}
-use Rattle.whole.proofs.Cases.{yes, no, is-less, not-less, is-upTo, not-upTo}
-use Rattle.section.specs.Section.{Kind, Run, andThen, judgedAt, records}
+use Rattle.section.specs.Section.{Kind, Run, andThen, records}
 use Rattle.section.proofs.Walk.{good-same, then-good, then-bad, then-read, judged-read, records-end, records-good, records-bad, records-next}
 use Rattle.section.proofs.Chains.{then-made, then-same}
-use Rattle.normwalk.specs.Walk.{stands}
-use Rattle.normwalk.proofs.Entries.{length-stands}
-use Rattle.normheads.specs.Heads.{Span, spanOf, floorAt}
+use Rattle.words.specs.Stands.{stands}
+use Rattle.section.specs.Told.{Span, spanOf}
+use Rattle.normkinds.specs.Told.{floorAt}
 
 -- ---- a refusal of a record comes from its judgement
 pub then-told : {A B : Type 0} (j : Judged A) (f : A → B) (number place : ℕ) → andThen j (λ a. good (f a)) ≡ bad number place → j ≡ bad number place
 unfolding andThen
 then-told (good a) f number place e = let z : _≡_ {A = ℕ} 0 1 = cc in absurd (omega arith)
 then-told (bad n p) f number place e = cc
-
--- ---- one record, by the tests that the code makes
-module _ {A : Type 0} (K : Kind A) (s : List ℕ) (at floor : ℕ) where
-  pub floor-short : length s - at < K .size → bad 1 (length s) ≡ floorAt K s at floor
-  unfolding floorAt judgedAt
-  floor-short h = sym (then-bad _ _ (sym (yes _ _ _ (is-less _ _ h) refl)))
-
-  module _ (room : K .size ≤ length s - at) where
-    pub floor-limits : K .fieldsOk s at ≡ false → bad 4 at ≡ floorAt K s at floor
-    unfolding floorAt judgedAt
-    floor-limits e = sym (then-bad _ _ (sym (no _ _ _ (not-less _ _ room) (no _ _ _ e refl))))
-
-    module _ (ok : K .fieldsOk s at ≡ true) (a : A) (is : a ≡ K .decode s at) where
-      pub floor-order : K .key a < floor → bad 5 at ≡ floorAt K s at floor
-      unfolding floorAt judgedAt
-      floor-order h =
-          let h₁ = rw is at h in
-          sym (then-bad _ _ (sym (no _ _ _ (not-less _ _ room) (yes _ _ _ ok (no _ _ _ (not-upTo _ _ h₁) refl)))))
-
-      pub floor-next : floor ≤ K .key a → good (K .after a) ≡ floorAt K s at floor
-      unfolding floorAt judgedAt
-      floor-next h =
-          let h₁ = rw is at h in
-          rw is (sym (then-good _ _ (sym (no _ _ _ (not-less _ _ room) (yes _ _ _ ok (yes _ _ _ (is-upTo _ _ h₁) refl))))))
 
 -- ---- the loop: n records, of which some are left
 unfoldable pub reaching : {A : Type 0} → ℕ → Judged (Run A) → Judged Span
@@ -90,20 +61,3 @@ module _ {A : Type 0} (K : Kind A) (s : List ℕ) where
       let first = judged-read K s at floor (one .0) (one .1) .is in
       sym (ap (λ x. x .items) (good-same (rest .2)))
       ∙ ap₂ (λ x l. x ∷ l) (sym first) (records-items n (at + K .size) (K .after (one .0)) (rest .0) (rest .1))
-
--- ---- what stands at n places put into an array, i of them done
-module _ {A : Type 0} (f : ℕ → A) (size : ℕ) (l : List A) (n i at : ℕ) where
-  pub put-end : n ≤ i → sets l i (stands f size (n - i) at) ≡ l
-  unfolding stands
-  put-end e = let z : n - i ≡ zero = omega arith in rw z
-
-  pub put-turn : i < n → sets l i (stands f size (n - i) at) ≡ sets (set l i (f at)) (i + 1) (stands f size (n - (i + 1)) (at + size))
-  unfolding stands
-  put-turn more = let one : n - i ≡ suc (n - (i + 1)) = omega arith in rw (one, add-one i)
-
--- the whole of it is what the array begins with
-pub put-all : {A : Type 0} (f : ℕ → A) (size n at : ℕ) (l : List A) → n ≤ length l → take n (sets l 0 (stands f size n at)) ≡ stands f size n at
-put-all f size n at l h =
-    let xs = stands f size n at in
-    let long : length xs ≡ n = length-stands f size n at in
-    ap (take n) (sets-eq xs l 0 (omega arith)) ∙ take-at xs (drop (0 + length xs) l) n long

@@ -5,29 +5,12 @@ use lib.ListN.{length}
 use Rattle.whole.specs.Answer.{Judged, good, bad}
 use Rattle.words.specs.Words.{word}
 use Rattle.refusal.specs.Number.{numberOf}
-use Rattle.section.specs.Section.{Kind, Run, andThen, judgedAt, sectionAt}
+use Rattle.section.specs.Section.{Run, andThen, sectionAt}
 use Rattle.system.specs.declared.NormalLabel.{NormalLabel}
-use Rattle.normwalk.specs.Walk.{stands}
-use Rattle.normheads.specs.Kinds.{arcKind, normalLabelKind}
-use Rattle.normheads.specs.declared.FloorAnswer.{FloorAnswer}
-use Rattle.normheads.specs.declared.FloorAnswer.the-variants as FloorAnswers
-use Rattle.normheads.specs.declared.SectionAnswer.{SectionAnswer}
-use Rattle.normheads.specs.declared.SectionAnswer.the-variants as SectionAnswers
+use Rattle.words.specs.Stands.{stands}
+use Rattle.normkinds.specs.Kinds.{arcKind, normalLabelKind}
 use Rattle.normheads.specs.declared.HeadsAnswer.{HeadsAnswer}
 use Rattle.normheads.specs.declared.HeadsAnswer.the-variants as HeadsAnswers
-
--- ---- records that no one keeps
--- how many, and the place after the section
-pub record Span : Type 0 where
-  pub count : ℕ
-  pub next : ℕ
-
-unfoldable pub spanOf : {A : Type 0} → Judged (Run A) → Judged Span
-spanOf j = andThen j (λ r. good (record { count = length (r .items); next = r .next }))
-
--- one record: the least key that may follow it
-unfoldable pub floorAt : {A : Type 0} → Kind A → List ℕ → ℕ → ℕ → Judged ℕ
-floorAt K s at floor = andThen (judgedAt K s at floor) (λ a. good (K .after a))
 
 -- ---- the arcs and the labels
 pub record Heads : Type 0 where
@@ -57,14 +40,6 @@ abbrev pub arcsAt : List ℕ → ℕ → List ℕ
 arcsAt s n = stands (word 4 s) 4 n 4
 
 -- ---- what the answers say
-abbrev pub toldFloor : FloorAnswer → Judged ℕ
-toldFloor (FloorAnswers.Next n) = good n
-toldFloor (FloorAnswers.Refused r place) = bad (numberOf r) place
-
-abbrev pub toldSection : SectionAnswer → Judged Span
-toldSection (SectionAnswers.Read n next) = good (record { count = n; next = next })
-toldSection (SectionAnswers.Refused r place) = bad (numberOf r) place
-
 abbrev pub toldHeads : HeadsAnswer → Judged Counts
 toldHeads (HeadsAnswers.Read arcs parameters next) = good (record { arcs = arcs; parameters = parameters; next = next })
 toldHeads (HeadsAnswers.Refused r place) = bad (numberOf r) place

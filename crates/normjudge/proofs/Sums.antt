@@ -1,12 +1,10 @@
 -- Whether no sum is unsound, one section after another, from what the walks over the sums find.
 -- Assumes nothing.
-use Prim.Native.Nat.{ℕ, _+_, _*_, _≤_, zero-le}
+use Prim.Native.Nat.{ℕ, _+_, _*_, _≤_}
 use mathlib.Core.Path.{_≡_, sym, ap, _∙_}
 use mathlib.Core.List.{List}
 use mathlib.Core.Bool.{false}
-use lib.Dec.{le→leb}
 use lib.IntN.{ℤ, pos}
-use lib.Signed.{_≤ℤ_, leZ-yes}
 use lib.ListN.{length, getD, take}
 use lib.Seq.{length-take-le}
 use Rattle.whole.proofs.Cases.{apart}
@@ -15,11 +13,8 @@ use Rattle.sums.specs.Sound.{breaks, breaksSide, Right, RightSides}
 use Rattle.sums.specs.declared.Walked.the-variants.{Sound, Unsound}
 use Rattle.system.specs.System.{Where, firstFrom, columnsFrom, afterMatrix, afterRights, sumsWhere, unsoundIn}
 use Rattle.system.proofs.Firsts.{by-found, first-none, first-sound, columns-none, columns-sound}
-use Rattle.normwalk.proofs.Entries.{length-stands}
+use Rattle.words.proofs.Stands.{length-stands}
 use Rattle.normroom.specs.Room.{labelIn, systemIn, isNowhere, sumsFit}
-
-pub not-below : (n : ℕ) → pos 0 ≤ℤ pos n
-not-below n = leZ-yes (le→leb 0 n zero-le)
 
 module _ (b : ℕ) (m : List ℤ) (p : ℕ) (w : Where) where
   -- ---- the matrix sums, then what follows

@@ -15,7 +15,7 @@ use Rattle.normread.specs.Normal.{normalBytes}
 use Rattle.normread.specs.declared.NormalRead.{NormalRead}
 use Rattle.joining.specs.Join.{union, share}
 use Rattle.joining.proofs.Shared.{share-counted}
-use Rattle.mergeheads.specs.Heads.{agreeAt}
+use Rattle.mergeread.specs.Read.{agreeAt}
 use Rattle.merging.specs.Merge.{keysOf, mergedOf, agree, mergeNumber}
 use Rattle.merging.proofs.Numbers.{gives-21, gives-22, gives-23, gives-24, gives-none}
 use Rattle.mergeput.specs.Parts.{systemIn, Joined, ArcsFit}

@@ -17,7 +17,7 @@ use Rattle.whole.proofs.Ints.{within-fits}
 use Rattle.words.specs.Words.{lay}
 use Rattle.words.proofs.Words.{Bytes}
 use Rattle.refusal.specs.First.{when, first}
-use Rattle.section.proofs.Read.{Each}
+use Rattle.whole.specs.Lists.{Each}
 use Rattle.system.specs.System.{System, has}
 use Rattle.normread.specs.Normal.{readNormal, normalBytes}
 use Rattle.normread.proofs.Accepted.{accepted-estimates}

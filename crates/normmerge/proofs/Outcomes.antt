@@ -15,9 +15,10 @@ use Rattle.refusal.proofs.Firsts.{when-true, when-false, first-pass, first-stop
 use Rattle.refusal.specs.declared.Refusal.{Refusal}
 use Rattle.section.proofs.Walk.{not-bad}
 use Rattle.system.specs.System.{System}
-use Rattle.normread.specs.Normal.{Normal, readNormal, shown, toldAnswer, toldRead}
+use Rattle.normread.specs.Normal.{Normal, readNormal, shown, toldRead}
+use Rattle.section.specs.Told.{toldAnswer}
 use Rattle.normread.specs.declared.NormalRead.{NormalRead}
-use Rattle.normread.specs.declared.ReadAnswer.the-variants.{Refused}
+use Rattle.section.specs.declared.ReadAnswer.the-variants.{Refused}
 use Rattle.merging.specs.Merge.{mergeNumber}
 use Rattle.normmerge.specs.Files.{Merging, written, inFile, refusing, mergedBytes, pairNumber, pairAnswer, pairLeft, fromFile, mergeAnswer, mergeLeft}
 use Rattle.mergeput.specs.Parts.{normalIn, systemIn, Taken}

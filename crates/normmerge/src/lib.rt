@@ -1,7 +1,7 @@
 // Two normal files merged: the merged file's bytes into lent room, or the first refusal, which changes nothing.
 use normread::NormalRead;
-use normread::ReadAnswer;
 use refusal::Refusal;
+use section::ReadAnswer;
 ghost use mathlib.Core.Path.{_≡_};
 ghost use Prim.Native.Nat.{_≤_};
 ghost use lib.ListN.{length};
@@ -62,7 +62,7 @@ fn merge_agreed(
 {
     let begin = 8 + 4 * x.arcs;
     let start = 8 + 4 * y.arcs;
-    if mergeheads::agree(
+    if mergeread::agree(
         a,
         begin,
         x.parameters,

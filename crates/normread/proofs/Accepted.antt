@@ -16,13 +16,15 @@ use Rattle.words.specs.Words.{word, signedWord}
 use Rattle.words.proofs.Words.{Bytes, word-small}
 use Rattle.section.specs.Section.{Kind, Run, sectionAt, closed}
 use Rattle.section.proofs.Walk.{good-same, not-bad, pick-read, then-read}
-use Rattle.section.proofs.Read.{Each, section-read, records-each, records-all, records-ascend}
+use Rattle.whole.specs.Lists.{Each}
+use Rattle.section.proofs.Read.{section-read, records-each, records-all, records-ascend}
 use Rattle.sums.specs.Triangle.{tri}
 use Rattle.system.specs.System.{arcOk, normalLabelOk, Where, nowhere, inMatrix, inRights, inAccepted, inSquare, unsoundIn}
 use Rattle.system.specs.declared.NormalLabel.{NormalLabel}
 use Rattle.system.proofs.Sound.{SoundSystem}
-use Rattle.normwalk.specs.Walk.{stands, sumsAt}
-use Rattle.normheads.specs.Kinds.{arcKind, normalLabelAt, normalLabelAtOk, normalLabelKind, sumKind, Totals, noTotals, totalsAt, totalsKind}
+use Rattle.words.specs.Stands.{stands}
+use Rattle.normsum.specs.Sums.{sumsAt}
+use Rattle.normkinds.specs.Kinds.{arcKind, normalLabelAt, normalLabelAtOk, normalLabelKind, sumKind, Totals, noTotals, totalsAt, totalsKind}
 use Rattle.normread.specs.Normal.{Normal, systemOf, exactly, atWhere, soundly, readNormal}
 use Rattle.normheads.specs.Heads.{arcsAt}
 use Rattle.normheads.proofs.Heads.{section-items}

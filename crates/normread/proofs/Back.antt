@@ -11,22 +11,21 @@ use lib.ListN.{length, getD, length-append}
 use mir.Syntax.{w64}
 use mir.Val.{SFits}
 use Rattle.whole.specs.Answer.{good}
-use Rattle.whole.specs.Lists.{all}
+use Rattle.whole.specs.Lists.{all, Each}
 use Rattle.whole.proofs.Cases.{no, not-less}
 use Rattle.words.proofs.Words.{length-bytesOf}
 use Rattle.section.specs.Section.{Kind, sectionAt, closed, encoded}
 use Rattle.section.proofs.Walk.{then-good}
 use Rattle.section.proofs.Trips.{Chain, length-encoded}
-use Rattle.section.proofs.Read.{Each}
 use Rattle.section.proofs.Written.{each-of, chain, section-at}
 use Rattle.sums.specs.Triangle.{tri}
-use Rattle.sums.proofs.Entries.{tri-twice}
+use Rattle.sums.proofs.Places.{tri-twice}
 use Rattle.system.specs.System.{System, arcOk, normalLabelOk}
 use Rattle.system.specs.declared.NormalLabel.{NormalLabel}
 use Rattle.system.proofs.Sound.{SoundSystem, matrix-fits, rights-fit, accepted-fits, square-fits}
-use Rattle.normheads.specs.Kinds.{arcBytes, arcKind, normalLabelBytes, normalLabelKind, sumBytes, sumKind, Totals, totalsBytes, totalsKind}
+use Rattle.normkinds.specs.Kinds.{arcBytes, arcKind, normalLabelBytes, normalLabelKind, sumBytes, sumKind, Totals, totalsBytes, totalsKind}
 use Rattle.normread.specs.Normal.{Normal, atWhere, soundly, readNormal, sectioned, normalBytes}
-use Rattle.normheads.proofs.Records.{length-arc, length-label, length-sum, length-totals, arc-back, Labelled, label-back, sum-back, totals-back}
+use Rattle.normkinds.proofs.Records.{length-arc, length-label, length-sum, length-totals, arc-back, Labelled, label-back, sum-back, totals-back}
 
 -- ---- lists of records that may stand in a section
 -- what holds at each place holds of each element

@@ -8,11 +8,11 @@ use Rattle.whole.specs.Answer.{good}
 use Rattle.words.proofs.Words.{Bytes}
 use Rattle.section.proofs.Read.{section-forth}
 use Rattle.sums.specs.Triangle.{tri}
-use Rattle.normwalk.specs.Walk.{stands}
-use Rattle.normheads.specs.Kinds.{arcBytes, arcKind, normalLabelBytes, normalLabelKind, sumBytes, sumKind, noTotals, totalsAt, totalsBytes, totalsKind}
+use Rattle.words.specs.Stands.{stands}
+use Rattle.normkinds.specs.Kinds.{arcBytes, arcKind, normalLabelBytes, normalLabelKind, sumBytes, sumKind, noTotals, totalsAt, totalsBytes, totalsKind}
 use Rattle.normread.specs.Normal.{Normal, readNormal, sectioned, normalBytes}
 use Rattle.normread.proofs.Parts.{exactly-items}
-use Rattle.normheads.proofs.Records.{arc-forth, label-forth, sum-forth, totals-forth}
+use Rattle.normkinds.proofs.Records.{arc-forth, label-forth, sum-forth, totals-forth}
 use Rattle.normread.proofs.Accepted.{Sections, read-sections}
 
 module _ (s : List ℕ) (x : Normal) (q : Sections s x) (bounded : Bytes s) where

@@ -15,12 +15,14 @@ use Rattle.section.proofs.Read.{section-read}
 use Rattle.section.proofs.Chains.{then-then, then-made, then-same}
 use Rattle.sums.specs.Triangle.{tri}
 use Rattle.system.specs.System.{Where, nowhere, inMatrix, inRights, inAccepted, inSquare, unsoundIn}
-use Rattle.normwalk.specs.Walk.{stands, unsoundAt}
-use Rattle.normheads.specs.Kinds.{sumKind, Totals, noTotals, totalsAt, totalsKind}
+use Rattle.words.specs.Stands.{stands}
+use Rattle.normwalk.specs.Walk.{unsoundAt}
+use Rattle.normkinds.specs.Kinds.{sumKind, Totals, noTotals, totalsAt, totalsKind}
 use Rattle.normread.specs.Normal.{Normal, systemOf, exactly, atWhere, soundly, readNormal, shown}
 use Rattle.normheads.specs.Heads.{Heads, headsPart, Counts, countsPart}
 use Rattle.normheads.proofs.Heads.{section-items}
-use Rattle.normread.specs.Parts.{plainPart, Places, totalsPart, sumsPart, shownBad, shownWhere, shownSums, shownRest}
+use Rattle.normsections.specs.Sums.{plainPart, Places, totalsPart, sumsPart}
+use Rattle.normread.specs.Parts.{shownBad, shownWhere, shownSums, shownRest}
 use Rattle.normheads.proofs.Loops.{then-told}
 use Rattle.normread.proofs.Plain.{plain-section}
 

@@ -6,14 +6,12 @@ use lib.IntN.{ℤ}
 use lib.ListN.{length, getD}
 use Rattle.whole.specs.Answer.{Judged, good, bad}
 use Rattle.words.specs.Words.{bytesOf}
-use Rattle.refusal.specs.Number.{numberOf}
 use Rattle.section.specs.Section.{Kind, Run, andThen, sectionAt, closed, encoded}
 use Rattle.sums.specs.Triangle.{tri}
 use Rattle.system.specs.System.{System, Where, nowhere, inMatrix, inRights, inAccepted, inSquare, unsoundIn}
 use Rattle.system.specs.declared.NormalLabel.{NormalLabel}
-use Rattle.normheads.specs.Kinds.{arcBytes, arcKind, normalLabelBytes, normalLabelKind, sumBytes, sumKind, Totals, noTotals, totalsBytes, totalsKind}
-use Rattle.normread.specs.declared.ReadAnswer.{ReadAnswer}
-use Rattle.normread.specs.declared.ReadAnswer.the-variants as Answers
+use Rattle.normkinds.specs.Kinds.{arcBytes, arcKind, normalLabelBytes, normalLabelKind, sumBytes, sumKind, Totals, noTotals, totalsBytes, totalsKind}
+use Rattle.section.specs.Told.{toldAnswer}
 use Rattle.normread.specs.declared.NormalRead.{NormalRead}
 
 -- what a normal file holds, and where the records of its last three sections begin
@@ -94,10 +92,6 @@ shown (good x) =
     }
 shown (bad number place) =
     record { verdict = bad number place; arcs = 0; parameters = 0; matrix = 0; rights = 0; totals = 0 }
-
-abbrev pub toldAnswer : ReadAnswer → Judged (Unit {0})
-toldAnswer Answers.Read = good tt
-toldAnswer (Answers.Refused r place) = bad (numberOf r) place
 
 abbrev pub toldRead : NormalRead → Shown
 toldRead r =

@@ -11,14 +11,13 @@ use lib.Seq.{take-at, getD-append-add}
 use mir.Syntax.{w64}
 use mir.Val.{SFits, toZ}
 use mir.ValLaws.{toZ-ofZ}
-use Rattle.whole.specs.Lists.{over}
+use Rattle.whole.specs.Lists.{over, Each}
 use Rattle.section.specs.Section.{encoded}
-use Rattle.section.proofs.Read.{Each}
 use Rattle.section.proofs.Trips.{length-encoded}
 use Rattle.sums.specs.Triangle.{tri}
 use Rattle.system.specs.System.{System}
 use Rattle.system.specs.declared.NormalLabel.{NormalLabel}
-use Rattle.normwalk.specs.Walk.{stands}
+use Rattle.words.specs.Stands.{stands}
 use Rattle.normroom.specs.Room.{labelIn, systemIn, labelNumbers, headsOf}
 
 -- ---- one label

@@ -15,7 +15,7 @@ use Rattle.refusal.specs.First.{unless, first}
 use Rattle.sums.specs.Triangle.{tri}
 use Rattle.system.specs.System.{System, arcOk, normalLabelOk, keyOf, Where, nowhere, inMatrix, inRights, inAccepted, inSquare, unsoundIn}
 use Rattle.system.specs.declared.NormalLabel.{NormalLabel}
-use Rattle.normwalk.specs.Walk.{stands}
+use Rattle.words.specs.Stands.{stands}
 
 -- ---- what stands where
 -- the heads: each arc, then for each label its kind, index, arc, prior weight and estimate, then accepted and the square sum, an element each;
@@ -52,6 +52,11 @@ labelNumbers l = l .kind ∷ l .index ∷ l .arc ∷ l .weight ∷ ofZ w64 (l .e
 
 unfoldable pub headsOf : System → List ℕ
 headsOf x = x .arcs ++ (encoded labelNumbers (x .labels) ++ (x .accepted ∷ x .square ∷ []))
+
+-- ---- a file
+-- five counts of 4 bytes, 4 an arc, 24 a label, 8 a matrix sum and a right side, and the totals' 16
+abbrev pub fileLong : ℕ → ℕ → ℕ
+fileLong a p = 36 + 4 * a + 32 * p + 8 * tri p
 
 -- ---- judging
 -- 20: each room has the length that the numbers of arcs and parameters want, a number past its capacity standing as the capacity

@@ -8,9 +8,8 @@ use native.Mathlib.Omega.{arith}
 use mir.Syntax.{w64}
 use mir.Val.{SFits}
 use Rattle.whole.specs.Tests.{upTo, same}
-use Rattle.whole.specs.Lists.{all, ascend}
+use Rattle.whole.specs.Lists.{all, ascend, Each}
 use Rattle.whole.proofs.Cases.{by-cases, yes, no, holds, at-once, is-same, is-upTo, same-true, same-false, upTo-true, both-first, both-second}
-use Rattle.section.proofs.Read.{Each}
 use Rattle.limits.specs.Limits.{labelOk, labelKey}
 use Rattle.limits.specs.declared.Label.{Label}
 use Rattle.limits.proofs.Small.{index-small}

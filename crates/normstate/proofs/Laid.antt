@@ -15,9 +15,10 @@ use Rattle.heading.specs.declared.Heading.{Heading}
 use Rattle.sums.specs.Triangle.{tri}
 use Rattle.tally.specs.Tally.{accepted}
 use Rattle.state.specs.State.{State}
-use Rattle.normheads.specs.Kinds.{arcBytes, normalLabelBytes}
-use Rattle.normroom.specs.Bytes.{fileLong, nameBytes, counted, tailBytes}
-use Rattle.normroom.proofs.Laid.{length-name, file-laid, file-long}
+use Rattle.normkinds.specs.Kinds.{arcBytes, normalLabelBytes}
+use Rattle.normroom.specs.Room.{fileLong}
+use Rattle.normput.specs.Bytes.{nameBytes, counted, tailBytes}
+use Rattle.normput.proofs.Laid.{length-name, file-laid, file-long}
 use Rattle.normstate.specs.OfState.{arcFor, labelOf, systemOf, stateBytes}
 
 -- a label: its name, then its estimate

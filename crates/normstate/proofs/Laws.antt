@@ -8,9 +8,8 @@ use lib.ListN.{length}
 use mir.Syntax.{w64}
 use mir.Val.{SFits}
 use Rattle.whole.specs.Answer.{good}
-use Rattle.whole.specs.Lists.{all, ascend}
+use Rattle.whole.specs.Lists.{all, ascend, Each}
 use Rattle.whole.proofs.Cases.{holds, is-upTo, both-first, between-true}
-use Rattle.section.proofs.Read.{Each}
 use Rattle.refusal.proofs.Firsts.{unless-none, first-none}
 use Rattle.limits.specs.Limits.{settingsOk}
 use Rattle.heading.specs.Judge.{labelsOf}

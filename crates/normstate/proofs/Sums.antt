@@ -15,7 +15,7 @@ use Rattle.whole.proofs.Cases.{by-cases, yes, no, same-true, upTo-true, both-fi
 use Rattle.whole.proofs.Tables.{below-at}
 use Rattle.sums.specs.Triangle.{tri}
 use Rattle.sums.specs.Sound.{entry, breaks, breaksSide}
-use Rattle.sums.proofs.Lists.{tri-within}
+use Rattle.sums.proofs.Places.{tri-within}
 use Rattle.system.specs.System.{boundOf}
 use Rattle.system.proofs.Sound.{SoundSums, entry-wider, side-wider}
 use Rattle.counts.proofs.Totals.{sum-le}

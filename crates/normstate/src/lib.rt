@@ -2,8 +2,8 @@
 use heading::Heading;
 use heading::Verdict;
 use limits::Label;
-use normwrite::WriteAnswer;
 use refusal::Refusal;
+use section::WriteAnswer;
 use tally::Tally;
 ghost use mathlib.Core.Path.{_≡_};
 ghost use mathlib.Core.List.{map};
@@ -13,9 +13,10 @@ ghost use Rattle.words.specs.Words.{lay};
 ghost use Rattle.heading.specs.Judge.{labelsOf};
 ghost use Rattle.sums.specs.Triangle.{tri};
 ghost use Rattle.state.specs.State.{stateOf};
-ghost use Rattle.normheads.specs.Kinds.{normalLabelBytes};
-ghost use Rattle.normroom.specs.Bytes.{fileLong, counted};
-ghost use Rattle.normwrite.specs.Write.{toldWrite};
+ghost use Rattle.normkinds.specs.Kinds.{normalLabelBytes};
+ghost use Rattle.normroom.specs.Room.{fileLong};
+ghost use Rattle.normput.specs.Bytes.{counted};
+ghost use Rattle.section.specs.Told.{toldWrite};
 ghost use Rattle.normstate.specs.OfState.{arcFor, labelOf, stateBytes, fileOf, leftIn};
 
 // The arc that a label of a kind is of: 0 for kinds 1 and 2, which all arcs share.
@@ -30,7 +31,7 @@ fn put_label(out: &mut [u8], at: usize, arc: u32, l: Label)
     ensures { λ _. ⌜ now (out .exit) ≡ lay (now (out .entry)) at (normalLabelBytes (labelOf arc l)) ⌝ }
 {
     let of = arc_for(arc, l.kind);
-    normroom::put_name(
+    normput::put_name(
         out,
         at,
         l.kind as u64,
@@ -38,7 +39,7 @@ fn put_label(out: &mut [u8], at: usize, arc: u32, l: Label)
         of as u64,
         l.weight as u64,
     );
-    wordwrite::write_i64(out, at + 16, l.estimate);
+    signedwords::write_i64(out, at + 16, l.estimate);
 }
 
 // The parameters section: its count and the labels that count.
@@ -72,7 +73,7 @@ fn put_file(h: Heading, t: Tally, matrix: &[i64], rights: &[i64], out: &mut [u8]
     wordwrite::write_u32(out, 0, 1);
     wordwrite::write_u32(out, 4, s.arc);
     put_labels(h, out, 8);
-    normroom::put_tail(p, matrix, rights, n, t.square, out, 12 + 24 * p);
+    normput::put_tail(p, matrix, rights, n, t.square, out, 12 + 24 * p);
 }
 
 // The whole file at the start of a lent buffer, which keeps its rest; a refusal changes nothing.

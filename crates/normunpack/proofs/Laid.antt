@@ -16,9 +16,9 @@ use Rattle.words.proofs.Words.{lay-append}
 use Rattle.section.specs.Section.{encoded}
 use Rattle.section.proofs.Trips.{length-encoded}
 use Rattle.sums.specs.Triangle.{tri}
-use Rattle.normwalk.specs.Walk.{stands}
-use Rattle.normwalk.proofs.Entries.{length-stands}
-use Rattle.normheads.specs.Kinds.{normalLabelAt}
+use Rattle.words.specs.Stands.{stands}
+use Rattle.words.proofs.Stands.{length-stands}
+use Rattle.normkinds.specs.Kinds.{normalLabelAt}
 use Rattle.normheads.specs.Heads.{arcsAt}
 use Rattle.normroom.specs.Room.{headsLong, labelNumbers, roomyFor}
 use Rattle.normunpack.specs.Parts.{labelsFrom, headsAt}

@@ -18,12 +18,14 @@ use Rattle.refusal.specs.Number.{numberOf}
 use Rattle.refusal.specs.declared.Refusal.{Refusal}
 use Rattle.sums.specs.Triangle.{tri}
 use Rattle.system.specs.System.{System}
-use Rattle.normwalk.specs.Walk.{stands, sumsAt}
-use Rattle.normwalk.proofs.Entries.{length-stands}
-use Rattle.normheads.specs.Kinds.{normalLabelAt}
-use Rattle.normread.specs.Normal.{Normal, readNormal, shown, toldAnswer, toldRead}
+use Rattle.words.specs.Stands.{stands}
+use Rattle.normsum.specs.Sums.{sumsAt}
+use Rattle.words.proofs.Stands.{length-stands}
+use Rattle.normkinds.specs.Kinds.{normalLabelAt}
+use Rattle.normread.specs.Normal.{Normal, readNormal, shown, toldRead}
+use Rattle.section.specs.Told.{toldAnswer}
 use Rattle.normread.specs.declared.NormalRead.{NormalRead}
-use Rattle.normread.specs.declared.ReadAnswer.the-variants.{Read, Refused}
+use Rattle.section.specs.declared.ReadAnswer.the-variants.{Read, Refused}
 use Rattle.normread.proofs.Accepted.{accepted-sound, accepted-standing}
 use Rattle.whole.specs.Lists.{over}
 use Rattle.normroom.specs.Room.{headsLong, headsOf, roomyFor}

@@ -5,8 +5,9 @@ use Rattle.words.specs.Words.{word}
 use Rattle.section.specs.Section.{encoded}
 use Rattle.sums.specs.Triangle.{tri}
 use Rattle.system.specs.System.{System}
-use Rattle.normwalk.specs.Walk.{stands, sumsAt}
-use Rattle.normheads.specs.Kinds.{normalLabelAt}
+use Rattle.words.specs.Stands.{stands}
+use Rattle.normsum.specs.Sums.{sumsAt}
+use Rattle.normkinds.specs.Kinds.{normalLabelAt}
 use Rattle.normread.specs.Normal.{Normal}
 use Rattle.normheads.specs.Heads.{arcsAt}
 use Rattle.normroom.specs.Room.{labelNumbers}

@@ -1,16 +1,16 @@
 // A normal file unpacked into three lent rooms, one element a value: the heads (arcs, labels, totals), the matrix sums, the right sides. 20 comes
 // last, and a refusal changes nothing lent.
 use normread::NormalRead;
-use normread::ReadAnswer;
 use refusal::Refusal;
+use section::ReadAnswer;
 ghost use mathlib.Core.Path.{_≡_};
 ghost use Prim.Native.Nat.{_+_, _*_, _≤_};
 ghost use lib.ListN.{length};
 ghost use lib.Seq.{sets};
 ghost use Rattle.whole.specs.Answer.{good};
 ghost use Rattle.words.specs.Words.{lay};
-ghost use Rattle.normwalk.specs.Walk.{sumsAt};
-ghost use Rattle.normheads.specs.Kinds.{normalLabelAt};
+ghost use Rattle.normsum.specs.Sums.{sumsAt};
+ghost use Rattle.normkinds.specs.Kinds.{normalLabelAt};
 ghost use Rattle.normread.specs.Normal.{readNormal, shown, toldRead};
 ghost use Rattle.normroom.specs.Room.{headsLong, labelNumbers, headsOf};
 ghost use Rattle.normunpack.specs.Parts.{normalAt, labelsFrom, headsAt};
@@ -52,7 +52,7 @@ fn fill_heads(s: &[u8], arcs: usize, parameters: usize, totals: usize, heads: &m
     requires { ⌜ headsLong arcs parameters ≤ length (now heads) ⌝ }
     ensures { λ _. ⌜ now (heads .exit) ≡ lay (now (heads .entry)) 0 (headsAt (now (s .entry)) arcs parameters totals) ⌝ }
 {
-    mergeheads::load_arcs(s, arcs, heads);
+    mergeread::load_arcs(s, arcs, heads);
     fill_labels(s, 8 + 4 * arcs, parameters, heads, arcs);
     let k = arcs + 5 * parameters;
     heads[k] = wordread::read_u64(s, totals);
@@ -69,7 +69,7 @@ fn fill_sums(s: &[u8], start: usize, n: usize, out: &mut [i64])
     let mut at = start;
     let mut i: usize = 0;
     while i < n {
-        out[i] = normwalk::sum_from(s, at);
+        out[i] = normsum::sum_from(s, at);
         at += 8;
         i += 1;
     }

@@ -9,7 +9,8 @@ use Rattle.sums.specs.Triangle.{tri}
 use Rattle.sums.specs.Sound.{breaks, breaksSide}
 use Rattle.system.specs.System.{boundOf, inMatrix, inRights, none, at, firstFrom, columnsFrom, afterMatrix, afterRights, totalsWhere, sumsWhere}
 use Rattle.system.proofs.Sound.{matrix-inside, rights-inside}
-use Rattle.normwalk.specs.Walk.{sumsAt, beyondWhere, unsoundAt}
+use Rattle.normsum.specs.Sums.{sumsAt}
+use Rattle.normwalk.specs.Walk.{beyondWhere, unsoundAt}
 
 module _ (s : List ℕ) (arcs p matrix rights accepted square b : ℕ) (e : b ≡ boundOf arcs accepted (2 ^ 55)) where
   pub beyond-right : (k : ℕ) → firstFrom (breaksSide (pos b) (sumsAt s matrix (tri p)) (sumsAt s rights p)) 0 p ≡ at k

@@ -14,9 +14,9 @@ use Rattle.whole.specs.Answer.{good, given}
 use Rattle.words.specs.Words.{lay}
 use Rattle.words.proofs.Words.{Bytes}
 use Rattle.refusal.proofs.Firsts.{first-none}
-use Rattle.section.proofs.Read.{Each}
+use Rattle.whole.specs.Lists.{Each}
 use Rattle.system.proofs.Sound.{SoundSystem}
-use Rattle.normwalk.specs.Walk.{stands}
+use Rattle.words.specs.Stands.{stands}
 use Rattle.normread.specs.Normal.{Normal, readNormal, normalBytes}
 use Rattle.normread.proofs.Back.{placed, written-read}
 use Rattle.normread.proofs.Forth.{read-written}

@@ -12,9 +12,8 @@ use Rattle.refusal.proofs.Firsts.{unless-true, unless-none, first-pass, first-n
 use Rattle.sums.specs.Triangle.{tri}
 use Rattle.system.specs.System.{System, Where, nowhere, inMatrix, inRights, inAccepted, inSquare}
 use Rattle.system.proofs.Sound.{SoundSystem}
-use Rattle.normroom.specs.Room.{systemIn, roomyFor, countsFit, fieldsFit, ordersFit, isNowhere, sumsFit, systemNumber}
-use Rattle.normroom.specs.Bytes.{fileLong}
-use Rattle.normroom.proofs.Laid.{arcs-in, labels-in, matrix-in, rights-in, file-long}
+use Rattle.normroom.specs.Room.{systemIn, roomyFor, countsFit, fieldsFit, ordersFit, isNowhere, sumsFit, systemNumber, fileLong}
+use Rattle.normput.proofs.Laid.{arcs-in, labels-in, matrix-in, rights-in, file-long}
 use Rattle.normjudge.specs.Judge.{Roomed}
 use Rattle.normjudge.proofs.Numbers.{roomed}
 use Rattle.normwrite.specs.Write.{roomBytes}

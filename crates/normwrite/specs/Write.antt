@@ -4,13 +4,10 @@
 use Prim.Native.Nat.{ℕ}
 use mathlib.Core.List.{List}
 use lib.IntN.{ℤ}
-use Rattle.whole.specs.Answer.{Answered, given, refused}
-use Rattle.refusal.specs.Number.{numberOf}
+use Rattle.whole.specs.Answer.{Answered}
 use Rattle.section.specs.Writing.{writingNumber, written, writtenIn}
 use Rattle.normread.specs.Normal.{normalBytes}
 use Rattle.normroom.specs.Room.{systemIn, systemNumber}
-use Rattle.normwrite.specs.declared.WriteAnswer.{WriteAnswer}
-use Rattle.normwrite.specs.declared.WriteAnswer.the-variants as Wrote
 
 -- the bytes of the system that stands in three rooms
 unfoldable pub roomBytes : ℕ → ℕ → List ℕ → List ℤ → List ℤ → List ℕ
@@ -27,8 +24,3 @@ writeNormal a p h m r room = written (systemNumber a p h m r) (roomBytes a p h m
 -- what is left in the buffer
 unfoldable pub leftIn : ℕ → ℕ → List ℕ → List ℤ → List ℤ → List ℕ → List ℕ
 leftIn a p h m r out = writtenIn (systemNumber a p h m r) (roomBytes a p h m r) out
-
--- what the answer says
-abbrev pub toldWrite : WriteAnswer → Answered ℕ
-toldWrite (Wrote.Is n) = given n
-toldWrite (Wrote.Refused r) = refused (numberOf r)

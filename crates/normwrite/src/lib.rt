@@ -1,15 +1,11 @@
 // The normal file, written: the bytes of a system that stands in three lent rooms, or a refusal that changes nothing.
 use heading::Verdict;
 use refusal::Refusal;
+use section::WriteAnswer;
 ghost use mathlib.Core.Path.{_≡_};
 ghost use lib.ListN.{length};
-ghost use Rattle.normwrite.specs.Write.{writeNormal, leftIn, toldWrite};
-
-pub enum WriteAnswer {
-    // how long the file is
-    Is(usize),
-    Refused(Refusal),
-}
+ghost use Rattle.normwrite.specs.Write.{writeNormal, leftIn};
+ghost use Rattle.section.specs.Told.{toldWrite};
 
 // The whole file at the start of a lent buffer, which keeps its rest; a refusal changes nothing. The heads have each arc, then for each
 // label its kind, index, arc, prior weight and estimate, then accepted and the square sum.
@@ -31,7 +27,7 @@ pub fn write(
             if out.len() < n {
                 WriteAnswer::Refused(Refusal::Room)
             } else {
-                normroom::put(arcs, parameters, heads, matrix, rights, out);
+                normput::put(arcs, parameters, heads, matrix, rights, out);
                 WriteAnswer::Is(n)
             }
         }

@@ -1,6 +1,6 @@
 // What the programs that print listings share: room, and the listing of a file written to standard output.
 use libc::STDOUT_FILENO;
-use listing::ListAnswer;
+use section::WriteAnswer;
 ghost use mathlib.Core.Path.{_≡_};
 ghost use lib.ListN.{length};
 
@@ -21,9 +21,9 @@ pub fn text_room() -> [u8; 5596]
 // The listing of a file of at most 64 KiB; nothing where the room for it is too short.
 pub fn print(file: &[u8], out: &mut [u8]) {
     match listing::list(file, 65536, out) {
-        ListAnswer::Is(n) => {
+        WriteAnswer::Is(n) => {
             io::write_all(STDOUT_FILENO, &out[..n]);
         }
-        ListAnswer::Refused(_) => {}
+        WriteAnswer::Refused(_) => {}
     }
 }

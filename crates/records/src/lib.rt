@@ -55,7 +55,7 @@ fn partial_at(bytes: &[u8], at: usize) -> i16
     ensures { λ r. ⌜ r ≡ signedWord w16 (now (bytes .entry)) at ⌝ }
 {
     let e = at + 2;
-    wordread::read_i16(&bytes[at..e], 0)
+    signedwords::read_i16(&bytes[at..e], 0)
 }
 
 // Fills the room with partials that are all there: a loop that becomes one copy.
@@ -81,7 +81,7 @@ fn read_partials(bytes: &[u8], out: &mut [i16])
     let mut i: usize = 0;
     let mut at: usize = 32;
     while i < n {
-        out[i] = wordread::read_i16(bytes, at);
+        out[i] = signedwords::read_i16(bytes, at);
         at += 2;
         i += 1;
     }

@@ -61,8 +61,8 @@ pub fn add_record(
     ensures rights { λ _. ⌜ now (rights .exit) ≡ plus (now (rights .entry)) (times side (partialsIn (length (now (rights .entry))) (now (bytes .entry)))) ⌝ }
 {
     records::partials(bytes, room);
-    sums::add_matrix(matrix, room, weight);
-    sums::add_times(rights, side, room);
+    adding::add_matrix(matrix, room, weight);
+    adding::add_times(rights, side, room);
 }
 
 // The whole records of a run taken one after another, each with its answer written: 0, or the number of its refusal.

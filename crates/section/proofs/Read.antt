@@ -3,7 +3,7 @@
 -- Assumes nothing.
 use Prim.Native.Nat.{ℕ, zero, suc, _+_, _-_, _*_, _^_, _≤_, _<_}
 use mathlib.Core.Path.{_≡_, sym, ap, ap₂, _∙_, subst}
-use mathlib.Core.List.{List, [], _∷_, _++_}
+use mathlib.Core.List.{List, [], _++_}
 use mathlib.Core.Bool.{Bool, true}
 use native.Mathlib.Omega.{arith}
 use native.Mathlib.Nat.{suc-add, suc-mul, zero-mul}
@@ -15,14 +15,10 @@ use Rattle.whole.proofs.Cases.{holds, is-upTo}
 use Rattle.words.specs.Words.{bytesOf}
 use Rattle.words.proofs.Words.{Bytes, length-bytesOf}
 use Rattle.words.proofs.Parts.{word-forth}
+use Rattle.whole.specs.Lists.{Each}
 use Rattle.section.specs.Section.{Kind, Run, records, sectionAt, encoded}
 use Rattle.section.proofs.Walk.{good-same, then-good, then-read, judged-read, Counted, counted, records-next, records-within, records-room}
 use Rattle.section.proofs.Trips.{count-back, records-forth}
-
--- each element of a list is so
-abbrev pub Each : {A : Type 0} → (A → Type 0) → List A → Type 0
-Each P [] = Unit {0}
-Each P (a ∷ l) = P a × Each P l
 
 -- ---- the records
 module _ {A : Type 0} (K : Kind A) (s : List ℕ) where

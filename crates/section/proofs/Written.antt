@@ -6,12 +6,11 @@ use mathlib.Core.List.{List, [], _∷_, _++_}
 use mathlib.Core.Bool.{Bool, true}
 use lib.ListN.{length}
 use Rattle.whole.specs.Answer.{good}
-use Rattle.whole.specs.Lists.{all, ascend}
+use Rattle.whole.specs.Lists.{all, ascend, Each}
 use Rattle.whole.proofs.Cases.{upTo-true, both-first, both-second}
 use Rattle.words.specs.Words.{bytesOf}
 use Rattle.section.specs.Section.{Kind, sectionAt, encoded}
 use Rattle.section.proofs.Trips.{Chain, section-back}
-use Rattle.section.proofs.Read.{Each}
 
 pub each-of : {A : Type 0} (f : A → Bool) (l : List A) → all f l ≡ true → Each (λ a. f a ≡ true) l
 unfolding all

@@ -1,20 +1,15 @@
 -- The tests of the sums and the right sides, from and to what a walk over them finds.
 -- Assumes nothing.
-use Prim.Native.Nat.{ℕ, suc, zero-le, suc-le-suc}
+use Prim.Native.Nat.{ℕ, suc, suc-le-suc}
 use mathlib.Core.Path.{_≡_, ap}
 use mathlib.Core.Bool.{true, false, not}
 use mathlib.Core.List.{List}
 use native.Mathlib.Nat.{le-of-suc-le-suc}
-use lib.Dec.{le→leb}
 use lib.IntN.{ℤ, pos}
-use lib.Signed.{_≤ℤ_, leZ-yes}
 use Rattle.whole.proofs.Tables.{below-every, below-fails}
 use Rattle.sums.specs.Sound.{Right, RightSides}
 use Rattle.sums.specs.declared.Walked.the-variants.{Sound, Unsound}
 use Rattle.state.specs.State.{matrixSound, rightsSound}
-
-pub not-below : (n : ℕ) → pos 0 ≤ℤ pos n
-not-below n = leZ-yes (le→leb 0 n zero-le)
 
 module _ (p top : ℕ) (m : List ℤ) where
   pub matrix-pass : Right (pos top) m p Sound → matrixSound p top m ≡ true

@@ -1,9 +1,9 @@
 -- The sums entry by entry, and their bounds.
 -- Assumes nothing.
-use mathlib.Core.Path.{_≡_, refl, sym, ap, _∙_, subst}
+use mathlib.Core.Path.{_≡_, sym, ap, _∙_, subst}
 use mathlib.Core.List.{List, [], _∷_, _++_}
 use Prim.Native.Nat.{ℕ, zero, suc, _+_, _*_, _^_, _<_, _≤_, zero-le, suc-le-suc}
-use native.Mathlib.Nat.{not-suc-le-zero, add-zero, zero-add, suc-mul, mul-suc}
+use native.Mathlib.Nat.{not-suc-le-zero, add-zero, zero-add}
 use native.Mathlib.Omega.{arith}
 use lib.IntN.{ℤ, pos, _*ℤ_, natAbs, *ℤ-zero}
 use lib.ListN.{length, getD, take, List·getD-append, List·getD-map, length-map}
@@ -90,13 +90,3 @@ columns-within w a j (suc n) u v p h k =
 -- the terms of one record: weights up to 2^16 and partials within 2^15 give matrix terms within 2^46
 pub triangle-within : (w : ℤ) (a : List ℤ) → natAbs w ≤ 2 ^ 16 → Within (2 ^ 15) a → Within (2 ^ 46) (triangle w a)
 triangle-within w a p h = columns-within w a 0 (length a) (2 ^ 16) (2 ^ 15) p h
-
--- ---- twice the place of a column's first number
-pub tri-twice : (j : ℕ) → tri j * 2 ≡ j * (j + 1)
-unfolding tri
-tri-twice zero = refl
-tri-twice (suc j) =
-    let known : tri j * 2 ≡ j * (j + 1) = tri-twice j in
-    let left : suc j * (suc j + 1) ≡ j * (suc j + 1) + (suc j + 1) = suc-mul j (suc j + 1) in
-    let right : j * (suc j + 1) ≡ j * (j + 1) + j = ap (λ m. j * m) (omega arith) ∙ mul-suc j (j + 1) in
-    omega arith

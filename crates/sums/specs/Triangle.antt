@@ -1,8 +1,8 @@
 -- Document 01, 'Taking a record': "an accepted record adds w·aᵢ·aⱼ to each matrix sum, w·aᵢ·R to each right side"; "The state holds the packed
 -- upper triangle by columns (source document 003: b11, b12, b22, b13, ..)". The terms of one record, as lists of whole numbers.
-use mathlib.Core.List.{List, [], _∷_, _++_, map}
-use Prim.Native.Nat.{ℕ, zero, suc, _+_, _≤_}
-use lib.IntN.{ℤ, pos, _+ℤ_, _*ℤ_, natAbs}
+use mathlib.Core.List.{List, [], _++_, map}
+use Prim.Native.Nat.{ℕ, zero, suc, _+_}
+use lib.IntN.{ℤ, pos, _*ℤ_}
 use lib.ListN.{getD, take, length}
 
 -- each number times f

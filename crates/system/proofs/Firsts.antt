@@ -11,7 +11,7 @@ use native.Mathlib.Numerals.{add-one}
 use Rattle.whole.specs.Tests.{pick}
 use Rattle.whole.proofs.Cases.{yes, no, by-cases}
 use Rattle.sums.specs.Triangle.{tri}
-use Rattle.sums.proofs.Lists.{tri-within}
+use Rattle.sums.proofs.Places.{tri-within}
 use Rattle.system.specs.System.{Found, none, at, firstFrom, inColumn, columnsFrom}
 
 -- something was found, or nothing

@@ -7,9 +7,7 @@ use mathlib.Core.List.{List}
 use mathlib.Core.Bool.{Bool, true, false, cond}
 use native.Mathlib.Omega.{arith}
 use native.Mathlib.Nat.{not-suc-le-zero, le-trans, mul-le-mul}
-use borrow.Author.Tests.{ltb-false, le-ltb}
-use lib.IntN.{ℤ, pos, negsuc, negℤ, natAbs}
-use lib.Signed.{ltZ}
+use lib.IntN.{ℤ, pos, natAbs}
 use lib.ListN.{length, getD}
 use mir.Syntax.{w64}
 use mir.Val.{SFits}
@@ -17,6 +15,7 @@ use Rattle.whole.specs.Tests.{less, same, pick}
 use Rattle.whole.specs.Lists.{all, ascend}
 use Rattle.whole.proofs.Cases.{apart, yes, no, by-cases, less-true, less-false, not-less}
 use Rattle.whole.proofs.Ints.{within-fits}
+use Rattle.sums.proofs.Tests.{between-bounds, not-above, not-under}
 use Rattle.sums.specs.Triangle.{tri}
 use Rattle.sums.specs.Sound.{entry, breaks, breaksSide}
 use Rattle.system.specs.System.{System, arcOk, normalLabelOk, keyOf, boundOf, Where, nowhere, inMatrix, inRights, inAccepted, inSquare, Found, none, at, afterMatrix, afterRights, totalsWhere, sumsWhere, unsoundIn}
@@ -75,24 +74,7 @@ bound-most arcs n unit =
     (λ t. subst (λ b. b ≤ arcs * unit) (yes _ _ _ t refl) (omega arith))
     (λ t. subst (λ b. b ≤ arcs * unit) (no _ _ _ t refl) (omega arith))
 
--- a number that is neither above b nor below -b
-between-bounds : (b : ℕ) (x : ℤ) → ltZ (pos b) x ≡ false → ltZ x (negℤ (pos b)) ≡ false → natAbs x ≤ b
-between-bounds b (pos n) h l = ltb-false b n h
-between-bounds zero (negsuc n) h l = absurd (apart l)
-between-bounds (suc b) (negsuc n) h l = omega (arith, ltb-false b n l)
-
--- and one within b is neither
-pub not-above : (b : ℕ) (z : ℤ) → natAbs z ≤ b → ltZ (pos b) z ≡ false
-not-above b (pos n) h = le-ltb b n h
-not-above b (negsuc n) h = refl
-
-pub not-under : (b : ℕ) (z : ℤ) → natAbs z ≤ b → ltZ z (negℤ (pos b)) ≡ false
-not-under zero (pos n) h = le-ltb n 0 (omega arith)
-not-under (suc b) (pos n) h = refl
-not-under zero (negsuc n) h = absurd (omega arith)
-not-under (suc b) (negsuc n) h = le-ltb b n (omega arith)
-
-cond-false : (a b : Bool) → cond a true b ≡ false → (a ≡ false) × (b ≡ false)
+pub cond-false : (a b : Bool) → cond a true b ≡ false → (a ≡ false) × (b ≡ false)
 cond-false true b e = absurd (apart e)
 cond-false false b e = (refl, e)
 

@@ -6,7 +6,7 @@ use libc::STDIN_FILENO;
 use limits::Label;
 use limits::Settings;
 use limits::Station;
-use taking::TakeAnswer;
+use takeone::TakeAnswer;
 use tally::Row;
 use tally::Tally;
 ghost use mathlib.Core.Path.{_≡_};

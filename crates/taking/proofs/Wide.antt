@@ -14,7 +14,7 @@ use Rattle.whole.proofs.Cases.{by-cases, same-true, same-false}
 use Rattle.whole.proofs.Adding.{length-plus, plus-split, plus-nothing}
 use Rattle.sums.specs.Triangle.{tri}
 use Rattle.sums.specs.Sound.{entry}
-use Rattle.sums.proofs.Lists.{tri-within}
+use Rattle.sums.proofs.Places.{tri-within}
 use Rattle.tally.specs.Tally.{accepted}
 use Rattle.state.specs.State.{State, stateOf, soundState, matrixTop, rightTop}
 use Rattle.account.specs.Machine.{run, answers}

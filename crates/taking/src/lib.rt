@@ -1,76 +1,18 @@
 // Taking records: one record, or a run of them, into the state of an arc.
-use fitting::Fitted;
 use heading::Heading;
 use heading::Verdict;
-use judging::Judgement;
-use limits::Settings;
 use refusal::Refusal;
+use takeone::TakeAnswer;
+use takeone::Taken;
 use tally::Tally;
 ghost use mathlib.Core.Path.{_≡_};
 ghost use Prim.Native.Nat.{_*_, _/_, _<_};
 ghost use lib.ListN.{length};
 ghost use Rattle.refusal.specs.First.{answered};
 ghost use Rattle.heading.specs.Judge.{numbersOf, toldVerdict};
-ghost use Rattle.sums.specs.Triangle.{triangle};
 ghost use Rattle.state.specs.State.{stateOf, stateNumber};
-ghost use Rattle.account.specs.Taking.{frame, frameOf, correctionsOf, recordAnswer, recordStep, takeAnswer, takeStep, runNumber, runState, runAnswers};
-ghost use Rattle.runs.specs.Runs.{Prepared};
-ghost use Rattle.taking.specs.Told.{toldTake};
-
-pub enum TakeAnswer {
-    Accepted,
-    Refused(Refusal),
-}
-
-pub struct Taken {
-    pub answer: TakeAnswer,
-    pub tally: Tally,
-}
-
-// A record taken into sums of just its parameters, the heading and the state found sound.
-fn take_record(
-    settings: Settings,
-    numbers: &[u16],
-    corrections: &[i32],
-    t: Tally,
-    matrix: &mut [i64],
-    rights: &mut [i64],
-    room: &mut [i16],
-    bytes: &[u8],
-) -> Taken
-    requires { ⌜ Prepared settings (now numbers) (now corrections) (stateOf (now matrix) (now rights) t) × (length (now room) ≡ length (now rights)) ⌝ }
-    ensures { λ r. ⌜ toldTake (r .answer) ≡ answered (recordAnswer (frame settings (length (now (rights .entry))) (now (numbers .entry)) (now (corrections .entry))) (now (bytes .entry)) (stateOf (now (matrix .entry)) (now (rights .entry)) t)) tt ⌝ }
-    ensures state { λ r. ⌜ stateOf (now (matrix .exit)) (now (rights .exit)) (r .tally) ≡ recordStep (frame settings (length (now (rights .entry))) (now (numbers .entry)) (now (corrections .entry))) (now (bytes .entry)) (stateOf (now (matrix .entry)) (now (rights .entry)) t) ⌝ }
-{
-    match fitting::fits(settings, rights.len(), numbers, corrections, bytes) {
-        Fitted::Is(x) => {
-            let place = x.place;
-            let row = t.rows[place];
-            let count = t.counts[place];
-            match judging::judge(settings.level, x, runs::last_of(row, x.column), count) {
-                Judgement::Accepted(y) => {
-                    runs::add_record(matrix, rights, room, bytes, y.weight, y.side);
-                    let mut after = t;
-                    after.square = t.square + y.square;
-                    after.counts[place] = count + 1;
-                    after.rows[place] = runs::row_with(row, x.column, x.time);
-                    Taken {
-                        answer: TakeAnswer::Accepted,
-                        tally: after,
-                    }
-                }
-                Judgement::Refused(late) => Taken {
-                    answer: TakeAnswer::Refused(late),
-                    tally: t,
-                },
-            }
-        }
-        Fitted::Refused(e) => Taken {
-            answer: TakeAnswer::Refused(e),
-            tally: t,
-        },
-    }
-}
+ghost use Rattle.account.specs.Taking.{frameOf, correctionsOf, recordAnswer, recordStep, takeAnswer, takeStep, runNumber, runState, runAnswers};
+ghost use Rattle.takeone.specs.Told.{toldTake};
 
 // The numbers of the listed stations, in the order of the heading.
 fn numbers_of(h: Heading) -> [u16; 16]
@@ -113,7 +55,7 @@ fn take_sound(h: Heading, t: Tally, matrix: &mut [i64], rights: &mut [i64], byte
     let numbers = numbers_of(h);
     let corrections = corrections_of(h);
     let mut room: [i16; 50] = [0; 50];
-    take_record(
+    takeone::take_record(
         h.settings,
         &numbers[..n],
         &corrections[..n],

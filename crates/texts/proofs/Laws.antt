@@ -22,7 +22,7 @@ use Rattle.heading.specs.Judge.{labelsOf}
 use Rattle.heading.specs.declared.Heading.{Heading}
 use Rattle.sums.specs.Triangle.{tri}
 use Rattle.sums.specs.Sound.{entry}
-use Rattle.sums.proofs.Lists.{tri-within}
+use Rattle.sums.proofs.Places.{tri-within}
 use Rattle.state.specs.State.{seenIn}
 use Rattle.account.specs.Mix.{keep}
 use Rattle.texts.specs.Lines.{space, newline, arcText, parametersText, recordsText, acceptedText, squareText, arcLines, seenText, unseenText, oneLine, twoLine, labelText, sumsText, parameterLine, parameterLines, tallyOf, tallyLine, tallyLines}

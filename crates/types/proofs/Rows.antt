@@ -12,16 +12,13 @@ use lib.IntN.{natAbs}
 use lib.ListN.{getD, List·getD-eq-default}
 use Rattle.whole.specs.Tests.{less}
 use Rattle.whole.proofs.Cases.{apart, is-below, is-above, less-true, less-false, by-cases}
+use Rattle.whole.specs.Lists.{Each}
 use Rattle.types.specs.declared.Row.{Row}
 use Rattle.types.specs.Types.{rows, range, rangeRate, cosine, angle, circle, elevation, isType, rowOf}
 use Rattle.types.specs.Narrow.{Narrow}
 
 -- ---- by the list
-abbrev Every : {A : Type 0} → (A → Type 0) → List A → Type 0
-Every P [] = Unit {0}
-Every P (x ∷ l) = P x × Every P l
-
-each : {A : Type 0} (P : A → Type 0) (l : List A) (d : A) → P d → Every P l → (i : ℕ) → P (getD l i d)
+each : {A : Type 0} (P : A → Type 0) (l : List A) (d : A) → P d → Each P l → (i : ℕ) → P (getD l i d)
 each P [] d p e i = p
 each P (x ∷ l) d p e zero = e .0
 each P (x ∷ l) d p e (suc i) = each P l d p (e .1) i

@@ -6,22 +6,25 @@ use mathlib.Core.List.{List, [], _∷_}
 use mathlib.Core.Bool.{true, false}
 use native.Mathlib.Omega.{arith}
 use lib.IntN.{ℤ}
-use Rattle.whole.specs.Answer.{given, refused}
-use Rattle.whole.proofs.Cases.{yes, no, is-same, not-same}
+use Rattle.whole.specs.Tests.{same}
+use Rattle.whole.specs.Answer.{Answered, given, refused}
+use Rattle.whole.proofs.Cases.{yes, no, is-same, not-same, same-true, same-false, by-cases}
 use Rattle.words.specs.Words.{lay}
 use Rattle.refusal.specs.Number.{numberOf}
-use Rattle.refusal.specs.First.{answered}
+use Rattle.refusal.specs.First.{answered, numberIn}
 use Rattle.refusal.specs.declared.Refusal.{Refusal}
 use Rattle.refusal.proofs.Apart.{not-none}
-use Rattle.refusal.proofs.Firsts.{unless-true, unless-false, first-pass, first-stop, first-one}
+use Rattle.refusal.proofs.Firsts as firsts
+use Rattle.refusal.proofs.Firsts.{unless-true, unless-false, first-pass, first-stop, first-one, answered-given, answered-refused}
 use Rattle.heading.specs.declared.Heading.{Heading}
 use Rattle.tally.specs.Tally.{emptyTally}
 use Rattle.tally.specs.declared.Tally.{Tally}
 use Rattle.state.specs.State.{State, stateOf, roomNumber, started}
 use Rattle.state.proofs.Rooms.{by-given, by-refused}
-use Rattle.account.specs.Taking.{takeAnswer, takeStep, runNumber, runState, runAnswers}
-use Rattle.taking.proofs.Answers.{state-left}
-use Rattle.lent.specs.Lent.{headingIn, tallyBytes, hasBoth}
+use Rattle.account.specs.Taking.{takeAnswer, takeStep, runAnswers}
+use Rattle.lent.specs.Lent.{headingIn, hasBoth}
+use Rattle.lenttally.specs.Tally.{tallyBytes}
+use Rattle.section.specs.Told.{onDone}
 use Rattle.wheloruka.specs.Taking.{Lent, lent, stateIn, lentNumber, callNumber, callLeft, answersLeft}
 
 -- ---- any call: k is the number that follows
@@ -66,6 +69,34 @@ module _ (b : List ℕ) (x : Lent) (k : ℕ) where
           let is = number-refused whole e n a i in
           (is, ap₂ (λ y z. lent (x .tally) y z) f g ∙ left-kept (λ z. not-none e (sym i ∙ is ∙ z)))
 
+-- ---- a call that answers w: s is the state that it leaves, as it was where the number is not 0
+on-given : {A : Type 0} (w : Answered A) (new old : List ℕ) {a : A} → w ≡ given a → onDone w new old ≡ new
+unfolding onDone
+on-given w new old e = rw e
+
+on-refused : {A : Type 0} (w : Answered A) (new old : List ℕ) {k : ℕ} → w ≡ refused k → onDone w new old ≡ old
+unfolding onDone
+on-refused w new old e = rw e
+
+module _ (b : List ℕ) (x : Lent) (k : ℕ) (s : State) (whole : hasBoth b (x .tally) ≡ true) (w : Answered (Unit {0})) (told : w ≡ answered k tt)
+    (m r : List ℤ) (u : Tally) (after : stateOf m r u ≡ s) (as-it-was : (k ≡ 0 → ⊥) → s ≡ stateIn x)
+  where
+    pub gives : {n : ℕ} {t : List ℕ} → (n ≡ numberIn w) × (t ≡ onDone w (lay (x .tally) 0 (tallyBytes u)) (x .tally))
+        → (n ≡ callNumber b x k) × (lent t m r ≡ callLeft b x k s)
+    gives put =
+        by-cases (same k 0)
+        (λ y.
+        let e : w ≡ given tt = told ∙ sym (answered-given k tt (same-true k 0 y)) in
+        let d = done b x k s whole m r _ u (put .1 ∙ on-given w _ _ e) (sym e ∙ told) after in
+        (put .0 ∙ firsts.number-given w tt e ∙ d .0, d .1))
+        (λ y.
+        let some : k ≡ 0 → ⊥ = same-false k 0 y in
+        let e : w ≡ refused k = told ∙ sym (answered-refused k tt some) in
+        let back = after ∙ as-it-was some in
+        let is = number-is b x k whole in
+        let was = ap₂ (λ p q. lent (x .tally) p q) (ap (λ v. v .matrix) back) (ap (λ v. v .rights) back) in
+        (put .0 ∙ firsts.number-refused w k e ∙ sym is, ap (λ p. lent p m r) (put .1 ∙ on-refused w _ _ e) ∙ was ∙ left-kept b x k s (λ z. some (sym is ∙ z))))
+
 -- ---- a refusal leaves the state as it was
 module _ (h : Heading) (m r : List ℤ) (e : Refusal) (is : refused (numberOf e) ≡ answered (roomNumber h m r) (tt {0})) where
   pub start-kept : (started h m r .matrix ≡ m) × (started h m r .rights ≡ r)
@@ -74,14 +105,9 @@ module _ (h : Heading) (m r : List ℤ) (e : Refusal) (is : refused (numberOf e)
       let same : started h m r ≡ stateOf m r emptyTally = sym (no _ _ _ (not-same _ 0 (λ z. not-none e (sym (by-refused _ _ is) ∙ z))) refl) in
       (ap (λ s. s .matrix) same, ap (λ s. s .rights) same)
 
-module _ (h : Heading) (l : List ℕ) (s : State) (e : Refusal) (is : refused (numberOf e) ≡ answered (takeAnswer h l s) (tt {0})) where
-  pub take-kept : takeStep h l s ≡ s
-  unfolding takeStep
-  take-kept = sym (no _ _ _ (not-same _ _ (λ z. not-none e (sym (by-refused _ _ is) ∙ z))) refl)
-
-module _ (h : Heading) (l : List ℕ) (room : ℕ) (s : State) (e : Refusal) (is : refused (numberOf e) ≡ answered (runNumber h l room s) (tt {0})) where
-  pub run-kept : runState h l room s ≡ s
-  run-kept = state-left h l room s (λ z. not-none e (sym (by-refused _ _ is) ∙ z))
+pub take-kept : (h : Heading) (l : List ℕ) (s : State) → (takeAnswer h l s ≡ 0 → ⊥) → takeStep h l s ≡ s
+unfolding takeStep
+take-kept h l s some = sym (no _ _ _ (not-same _ _ some) refl)
 
 -- ---- the answers of a run
 module _ (b l out : List ℕ) (x : Lent) where

@@ -2,27 +2,27 @@
 -- Assumes nothing.
 use Prim.Native.Nat.{ℕ}
 use mathlib.Core.Path.{_≡_, refl, sym, ap, _∙_}
-use mathlib.Core.List.{List, [], _∷_, _++_}
+use mathlib.Core.List.{List, [], _++_}
 use mathlib.Core.Bool.{true, false}
-use native.Mathlib.Omega.{arith}
 use lib.IntN.{ℤ}
 use lib.ListN.{length, take, drop}
 use Rattle.whole.specs.Tests.{less, pick}
-use Rattle.whole.specs.Answer.{Answered, given, refused, Judged, good, bad}
+use Rattle.whole.specs.Answer.{Answered, refused, Judged, good, bad}
 use Rattle.whole.proofs.Cases.{yes, no, by-cases}
-use Rattle.words.proofs.Words.{lay-out}
 use Rattle.system.specs.System.{System}
 use Rattle.normread.specs.Normal as normals
 use Rattle.normread.specs.Normal.{Normal, readNormal}
 use Rattle.rooms.specs.Result.{resultNumber, resultLeft, one, roomFor, bytesLeft}
-use Rattle.rooms.proofs.Rooms.{on-given, on-refused, part-long, part-left, none-laid}
+use Rattle.rooms.proofs.Rooms.{on-refused, part-long, part-left, none-laid}
 use Rattle.lent.specs.Lent.{headingIn, hasBoth}
 use Rattle.normwrite.specs.Write as write
 use Rattle.normstate.specs.OfState as state
 use Rattle.normmerge.specs.Files.{fromFile, pairLeft, mergeLeft}
 use Rattle.listing.specs.Listing.{listLeft}
 use Rattle.wheloruka.specs.Taking.{Lent, stateIn}
-use Rattle.wheloruka.specs.Writing.{sized, judgedNumber, stateFile, stateFileLeft}
+use Rattle.calling.specs.Writing.{sized}
+use Rattle.calling.specs.Reading.{judgedNumber}
+use Rattle.wheloruka.specs.Writing.{stateFile, stateFileLeft}
 
 -- ---- a file that was unpacked
 pub judged-number : (j : Judged Normal) (r : normals.Shown) → r ≡ normals.shown j → judgedNumber (r .verdict) ≡ judgedNumber j
@@ -46,15 +46,11 @@ module _ (answer : ℕ → Answered ℕ) (left : List ℕ → List ℕ) (size ou
     bytes : {b : List ℕ} → b ≡ left (take room out) → b ++ drop room out ≡ bytesLeft (length size) left out
     bytes e = ap (λ l. l ++ drop room out) e ∙ ap (λ k. left (take k out) ++ drop k out) is ∙ part-left (length size) out left none
 
-    pub wrote : (n : ℕ) {k : ℕ} {s b : List ℕ} → given n ≡ answer (length (take room out))
-        → (k ≡ resultNumber (given (n ∷ [])) (length size)) × (s ≡ resultLeft (given (n ∷ [])) size) → b ≡ left (take room out) → Done k s (b ++ drop room out)
-    unfolding sized one
-    wrote n e put w = let d = on-given one _ size n (sym (e ∙ at-part)) put in (d .0, (d .1, bytes w))
-
-    pub refuses : (number : ℕ) {k : ℕ} {b : List ℕ} → refused number ≡ answer (length (take room out)) → k ≡ number → b ≡ left (take room out)
-        → Done k size (b ++ drop room out)
-    unfolding sized
-    refuses number e i w = let d = on-refused one _ size number (sym (e ∙ at-part)) i in (d .0, (d .1, bytes w))
+    pub gives : (w : Answered ℕ) {k : ℕ} {s b : List ℕ} → w ≡ answer (length (take room out))
+        → (k ≡ resultNumber (sized w) (length size)) × (s ≡ resultLeft (sized w) size) → b ≡ left (take room out) → Done k s (b ++ drop room out)
+    gives w e put f =
+        let same : sized w ≡ sized (answer (roomFor (length size) (length out))) = ap sized (e ∙ at-part) in
+        (put .0 ∙ ap (λ x. resultNumber x (length size)) same, (put .1 ∙ ap (λ x. resultLeft x size) same, bytes f))
 
   -- nothing is handed on
   pub keeps : (number : ℕ) {k : ℕ} → refused number ≡ answer (roomFor (length size) (length out)) → k ≡ number → left out ≡ out → Done k size out
@@ -80,7 +76,7 @@ merge-none a b = from-none (readNormal a) _ (λ x. from-none (readNormal b) _ (�
 
 pub list-none : (limit : ℕ) (file : List ℕ) → listLeft limit file [] ≡ []
 unfolding listLeft
-list-none limit file = by-cases (less 0 _) (λ t. sym (yes _ _ _ t refl)) (λ t. sym (no _ _ _ t (sym (lay-out [] 0 _ (omega arith)))))
+list-none limit file = none-laid _ _
 
 -- ---- a state in lent room
 module _ (b : List ℕ) (x : Lent) where

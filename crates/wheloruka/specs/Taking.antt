@@ -8,7 +8,8 @@ use Rattle.words.specs.Words.{lay}
 use Rattle.refusal.specs.First.{unless, first}
 use Rattle.state.specs.State.{State, stateOf, roomNumber, stateNumber, started, seenIn}
 use Rattle.account.specs.Taking.{takeAnswer, takeStep, runNumber, runState, runAnswers}
-use Rattle.lent.specs.Lent.{headingIn, tallyIn, tallyBytes, hasBoth}
+use Rattle.lent.specs.Lent.{headingIn, hasBoth}
+use Rattle.lenttally.specs.Tally.{tallyIn, tallyBytes}
 
 -- a state in lent room: the tally's bytes, the matrix sums, the right sides
 pub record Lent : Type 0 where

@@ -1,6 +1,5 @@
 // The library for callers in C and in Rust: numbers and slices only, no requirement on any of them. A call answers 0 where it is done, else the
 // paper's refusal number; results go into lent room, and a refusal changes nothing there. include/wheloruka.h declares the calls.
-use arcread::ReadAnswer;
 use cells::Cell;
 use cells::CellAnswer;
 use cells::IndexAnswer;
@@ -9,17 +8,13 @@ use days::Date;
 use days::DateAnswer;
 use days::DayAnswer;
 use heading::Verdict;
-use listing::ListAnswer;
-use normmerge::MergeAnswer;
-use normwrite::WriteAnswer;
 use refusal::Refusal;
-use taking::TakeAnswer;
+use section::ReadAnswer;
 use units::DoubleAnswer;
 use units::UnitAnswer;
 ghost use mathlib.Core.Path.{_≡_};
 ghost use lib.ListN.{length};
 ghost use Rattle.rooms.specs.Result.{resultNumber, resultLeft, roomFor, bytesLeft};
-ghost use Prim.Native.Nat.{_≤_};
 ghost use Rattle.cells.specs.Cells.{toldIndex};
 ghost use Rattle.arcread.specs.Arc.{readArc};
 ghost use Rattle.normread.specs.Normal.{readNormal};
@@ -38,14 +33,8 @@ ghost use Rattle.wheloruka.specs.Numbers.{
   unitValues,
   doubleValues,
 };
-ghost use Rattle.wheloruka.specs.Reading.{
-  placeOf,
-  readRoomy,
-  readNumber,
-  headingLeft,
-  placesLeft,
-  normalValues,
-};
+ghost use Rattle.calling.specs.Reading.{placeOf, readNumber, headingLeft, placesLeft, judgedNumber};
+ghost use Rattle.wheloruka.specs.Reading.{normalValues};
 ghost use Rattle.wheloruka.specs.Taking.{
   lent,
   startNumber,
@@ -58,7 +47,8 @@ ghost use Rattle.wheloruka.specs.Taking.{
   answersLeft,
   seenNumber,
 };
-ghost use Rattle.wheloruka.specs.Writing.{sized, judgedNumber, stateFile, stateFileLeft, mergeNumber};
+ghost use Rattle.calling.specs.Writing.{sized, mergeNumber};
+ghost use Rattle.wheloruka.specs.Writing.{stateFile, stateFileLeft};
 
 // ---- days
 
@@ -170,18 +160,6 @@ pub extern "C" fn whl_double_of(kind: u32, unit: i64, out: &mut [f64]) -> u32
 
 // ---- files
 
-// Whether there is room for a heading and for two numbers.
-fn is_roomy(parameters: usize, stations: usize, room: usize, out: usize) -> bool
-    requires { ⌜ (parameters ≤ 50) × (stations ≤ 16) ⌝ }
-    ensures { λ r. ⌜ r ≡ readRoomy parameters stations room out ⌝ }
-{
-    if 16 + 16 * parameters + 8 * stations <= room {
-        2 <= out
-    } else {
-        false
-    }
-}
-
 // An arc file's heading in one room; the number of its records and the first one's place in another.
 #[no_mangle]
 pub extern "C" fn whl_read(file: &[u8], heading: &mut [u8], out: &mut [u64]) -> u32
@@ -189,20 +167,7 @@ pub extern "C" fn whl_read(file: &[u8], heading: &mut [u8], out: &mut [u64]) -> 
     ensures heading { λ _. ⌜ now (heading .exit) ≡ headingLeft (readArc (now (file .entry))) (now (heading .entry)) (length (now (out .entry))) ⌝ }
     ensures places { λ _. ⌜ now (out .exit) ≡ placesLeft (readArc (now (file .entry))) (length (now (heading .entry))) (now (out .entry)) ⌝ }
 {
-    let r = arcread::read(file);
-    let answer = r.answer;
-    let h = r.heading;
-    match answer {
-        ReadAnswer::Refused(e, _) => refusal::number(e),
-        ReadAnswer::Read => {
-            if is_roomy(h.parameters, h.stations, heading.len(), out.len()) {
-                lent::put_heading(h, heading);
-                rooms::give_two(out, r.count as u64, r.start as u64)
-            } else {
-                20
-            }
-        }
-    }
+    calling::give_arc(arcread::read(file), heading, out)
 }
 
 // The place of an arc file's refusal; 0 where the file is accepted.
@@ -212,10 +177,7 @@ pub extern "C" fn whl_read_place(file: &[u8]) -> u64
 {
     let r = arcread::read(file);
     let answer = r.answer;
-    match answer {
-        ReadAnswer::Refused(_, place) => place as u64,
-        ReadAnswer::Read => 0,
-    }
+    calling::read_place(answer)
 }
 
 // A normal file's numbers of arcs and parameters, and the places of its matrix sums, right sides and totals.
@@ -227,8 +189,8 @@ pub extern "C" fn whl_normal_read(file: &[u8], out: &mut [u64]) -> u32
     let r = normread::read(file);
     let answer = r.answer;
     match answer {
-        normread::ReadAnswer::Refused(e, _) => refusal::number(e),
-        normread::ReadAnswer::Read => rooms::give_five(
+        ReadAnswer::Refused(e, _) => refusal::number(e),
+        ReadAnswer::Read => rooms::give_five(
             out,
             r.arcs as u64,
             r.parameters as u64,
@@ -246,10 +208,7 @@ pub extern "C" fn whl_normal_place(file: &[u8]) -> u64
 {
     let r = normread::read(file);
     let answer = r.answer;
-    match answer {
-        normread::ReadAnswer::Refused(_, place) => place as u64,
-        normread::ReadAnswer::Read => 0,
-    }
+    calling::read_place(answer)
 }
 
 // ---- taking
@@ -271,7 +230,7 @@ pub extern "C" fn whl_start(
         let t = started.tally;
         match answer {
             Verdict::Sound => {
-                lent::put_tally(t, tally);
+                lenttally::put_tally(t, tally);
                 0
             }
             Verdict::Refused(e) => refusal::number(e),
@@ -288,7 +247,7 @@ pub extern "C" fn whl_judge(heading: &[u8], tally: &[u8], matrix: &[i64], rights
 {
     if lent::has_both(heading, tally) {
         let h = lent::heading_in(heading);
-        let t = lent::tally_in(tally);
+        let t = lenttally::tally_in(tally);
         match state::judge_state(h, t, matrix, rights) {
             Verdict::Sound => 0,
             Verdict::Refused(e) => refusal::number(e),
@@ -312,17 +271,8 @@ pub extern "C" fn whl_take(
 {
     if lent::has_both(heading, tally) {
         let h = lent::heading_in(heading);
-        let t = lent::tally_in(tally);
-        let taken = taking::take(h, t, matrix, rights, bytes);
-        let answer = taken.answer;
-        let after = taken.tally;
-        match answer {
-            TakeAnswer::Accepted => {
-                lent::put_tally(after, tally);
-                0
-            }
-            TakeAnswer::Refused(e) => refusal::number(e),
-        }
+        let t = lenttally::tally_in(tally);
+        calling::give_taken(taking::take(h, t, matrix, rights, bytes), tally)
     } else {
         20
     }
@@ -344,17 +294,9 @@ pub extern "C" fn whl_take_run(
 {
     if lent::has_both(heading, tally) {
         let h = lent::heading_in(heading);
-        let t = lent::tally_in(tally);
+        let t = lenttally::tally_in(tally);
         let taken = taking::take_run(h, t, matrix, rights, run, answers);
-        let answer = taken.answer;
-        let after = taken.tally;
-        match answer {
-            TakeAnswer::Accepted => {
-                lent::put_tally(after, tally);
-                0
-            }
-            TakeAnswer::Refused(e) => refusal::number(e),
-        }
+        calling::give_taken(taken, tally)
     } else {
         20
     }
@@ -385,10 +327,7 @@ pub extern "C" fn whl_normal_unpack(
 {
     let r = normunpack::unpack(file, heads, matrix, rights);
     let answer = r.answer;
-    match answer {
-        normread::ReadAnswer::Refused(e, _) => refusal::number(e),
-        normread::ReadAnswer::Read => 0,
-    }
+    calling::read_number(answer)
 }
 
 // The normal file of a system in three rooms.
@@ -407,10 +346,8 @@ pub extern "C" fn whl_normal_write(
     ensures bytes { λ _. ⌜ now (out .exit) ≡ bytesLeft (length (now (size .entry))) (leftIn arcs parameters (now (heads .entry)) (now (matrix .entry)) (now (rights .entry))) (now (out .entry)) ⌝ }
 {
     let room = rooms::room_for(size.len(), out.len());
-    match normwrite::write(arcs, parameters, heads, matrix, rights, &mut out[..room]) {
-        WriteAnswer::Is(n) => rooms::give_place(size, n as u64),
-        WriteAnswer::Refused(e) => refusal::number(e),
-    }
+    let w = normwrite::write(arcs, parameters, heads, matrix, rights, &mut out[..room]);
+    calling::give_written(size, w)
 }
 
 // The normal file of a state.
@@ -429,12 +366,10 @@ pub extern "C" fn whl_of_state(
 {
     if lent::has_both(heading, tally) {
         let h = lent::heading_in(heading);
-        let t = lent::tally_in(tally);
+        let t = lenttally::tally_in(tally);
         let room = rooms::room_for(size.len(), out.len());
-        match normstate::of_state(h, t, matrix, rights, &mut out[..room]) {
-            WriteAnswer::Is(n) => rooms::give_place(size, n as u64),
-            WriteAnswer::Refused(e) => refusal::number(e),
-        }
+        let w = normstate::of_state(h, t, matrix, rights, &mut out[..room]);
+        calling::give_written(size, w)
     } else {
         20
     }
@@ -448,12 +383,8 @@ pub extern "C" fn whl_merge(first: &[u8], second: &[u8], out: &mut [u8], size: &
     ensures bytes { λ _. ⌜ now (out .exit) ≡ bytesLeft (length (now (size .entry))) (mergeLeft (now (first .entry)) (now (second .entry))) (now (out .entry)) ⌝ }
 {
     let room = rooms::room_for(size.len(), out.len());
-    match normmerge::merge(first, second, &mut out[..room]) {
-        MergeAnswer::Is(n) => rooms::give_place(size, n as u64),
-        MergeAnswer::First(e, _) => 100 + refusal::number(e),
-        MergeAnswer::Second(e, _) => 200 + refusal::number(e),
-        MergeAnswer::Refused(e) => refusal::number(e),
-    }
+    let w = normmerge::merge(first, second, &mut out[..room]);
+    calling::give_merged(size, w)
 }
 
 // ---- the listing
@@ -466,8 +397,6 @@ pub extern "C" fn whl_list(file: &[u8], limit: usize, out: &mut [u8], size: &mut
     ensures bytes { λ _. ⌜ now (out .exit) ≡ bytesLeft (length (now (size .entry))) (listLeft limit (now (file .entry))) (now (out .entry)) ⌝ }
 {
     let room = rooms::room_for(size.len(), out.len());
-    match listing::list(file, limit, &mut out[..room]) {
-        ListAnswer::Is(n) => rooms::give_place(size, n as u64),
-        ListAnswer::Refused(e) => refusal::number(e),
-    }
+    let w = listing::list(file, limit, &mut out[..room]);
+    calling::give_written(size, w)
 }

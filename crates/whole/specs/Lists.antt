@@ -10,6 +10,11 @@ unfoldable pub all : {A : Type 0} → (A → Bool) → List A → Bool
 all f [] = true
 all f (x ∷ xs) = both (f x) (all f xs)
 
+-- something holds of each element
+abbrev pub Each : {A : Type 0} → (A → Type 0) → List A → Type 0
+Each P [] = Unit {0}
+Each P (x ∷ l) = P x × Each P l
+
 -- the keys strictly ascend, the first from floor up
 unfoldable pub ascend : {A : Type 0} → (A → ℕ) → ℕ → List A → Bool
 ascend key floor [] = true

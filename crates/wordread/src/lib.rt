@@ -2,8 +2,7 @@
 ghost use mathlib.Core.Path.{_≡_};
 ghost use Prim.Native.Nat.{_+_, _≤_, _<_, _^_};
 ghost use lib.ListN.{length, getD};
-ghost use mir.Syntax.{w16, w32, w64};
-ghost use Rattle.words.specs.Words.{word, signedWord};
+ghost use Rattle.words.specs.Words.{word};
 
 fn wide(x: u8) -> u64
     ensures { λ r. ⌜ (r ≡ x) × (r < 256) ⌝ }
@@ -86,22 +85,4 @@ pub fn read_u64(s: &[u8], at: usize) -> u64
     } else {
         octet(s, at)
     }
-}
-
-pub fn read_i16(s: &[u8], at: usize) -> i16
-    ensures { λ r. ⌜ r ≡ signedWord w16 (now (s .entry)) at ⌝ }
-{
-    signs::signed16(read_u16(s, at))
-}
-
-pub fn read_i32(s: &[u8], at: usize) -> i32
-    ensures { λ r. ⌜ r ≡ signedWord w32 (now (s .entry)) at ⌝ }
-{
-    signs::signed32(read_u32(s, at))
-}
-
-pub fn read_i64(s: &[u8], at: usize) -> i64
-    ensures { λ r. ⌜ r ≡ signedWord w64 (now (s .entry)) at ⌝ }
-{
-    signs::signed64(read_u64(s, at))
 }

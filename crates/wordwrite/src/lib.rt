@@ -2,8 +2,7 @@
 ghost use mathlib.Core.Path.{_≡_};
 ghost use Prim.Native.Nat.{_+_, _≤_};
 ghost use lib.ListN.{length};
-ghost use mir.Syntax.{w16, w32, w64};
-ghost use Rattle.words.specs.Words.{bytesOf, lay, signedBytes};
+ghost use Rattle.words.specs.Words.{bytesOf, lay};
 
 // The k bytes of v at any place: the way for a place near or past the end.
 fn put(s: &mut [u8], at: usize, k: usize, v: u64)
@@ -72,22 +71,4 @@ pub fn write_u64(s: &mut [u8], at: usize, v: u64)
     } else {
         put_octet(s, at, v);
     }
-}
-
-pub fn write_i16(s: &mut [u8], at: usize, z: i16)
-    ensures { λ _. ⌜ now (s .exit) ≡ lay (now (s .entry)) at (signedBytes w16 z) ⌝ }
-{
-    write_u16(s, at, signs::bits16(z));
-}
-
-pub fn write_i32(s: &mut [u8], at: usize, z: i32)
-    ensures { λ _. ⌜ now (s .exit) ≡ lay (now (s .entry)) at (signedBytes w32 z) ⌝ }
-{
-    write_u32(s, at, signs::bits32(z));
-}
-
-pub fn write_i64(s: &mut [u8], at: usize, z: i64)
-    ensures { λ _. ⌜ now (s .exit) ≡ lay (now (s .entry)) at (signedBytes w64 z) ⌝ }
-{
-    write_u64(s, at, signs::bits64(z));
 }

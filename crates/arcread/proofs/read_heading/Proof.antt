@@ -5,7 +5,8 @@ use mathlib.Core.Path.{refl, sym, ap, _∙_}
 use Rattle.section.proofs.Walk.{then-good, then-bad}
 use Rattle.arckinds.specs.Told.{toldSettings}
 use Rattle.arcread.specs.Parts.{headingPart}
-use Rattle.arcread.proofs.Parts.{slots-read, slots-refused, heading-read, few-labels}
+use Rattle.arcsections.proofs.Slots.{slots-read, slots-refused}
+use Rattle.arcread.proofs.Parts.{heading-read, few-labels}
 use Rattle.arcread.proofs.read_heading.Statement.{statement}
 use Rattle.arcread.proofs.read_heading.Tie as tie
 

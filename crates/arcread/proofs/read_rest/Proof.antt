@@ -4,7 +4,7 @@ use borrow.Author.Needs.{needs}
 use native.Mathlib.Omega.{arith}
 use mathlib.Core.Path.{sym, ap, _∙_}
 use Rattle.arcread.specs.Arc.{shown}
-use Rattle.arcread.specs.Parts.{toldSection}
+use Rattle.section.specs.Told.{toldSection}
 use Rattle.arcread.proofs.Parts.{rest-surplus, rest-read, rest-start, rest-refused}
 use Rattle.arcread.proofs.read_rest.Statement.{statement}
 use Rattle.arcread.proofs.read_rest.Tie as tie

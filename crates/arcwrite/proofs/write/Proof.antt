@@ -2,7 +2,7 @@
 -- Assumes nothing.
 use mathlib.Core.Path.{sym, _∙_, ap}
 use lib.ListN.{length-map}
-use Rattle.arcwrite.specs.Write.{toldWrite}
+use Rattle.section.specs.Told.{toldWrite}
 use Rattle.arcwrite.proofs.Answers.{writable, left-kept, left-written}
 use borrow.Author.Needs.{needs}
 use Rattle.arcwrite.proofs.write.Statement.{statement}

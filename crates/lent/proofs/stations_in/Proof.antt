@@ -6,10 +6,10 @@ use mathlib.Core.Path.{_≡_, sym, _∙_}
 use lib.Seq.{sets}
 use Rattle.arckinds.specs.Kinds.{stationAt}
 use Rattle.limits.specs.Limits.{noStation}
-use Rattle.arcread.specs.Arc.{padded}
-use Rattle.normwalk.specs.Walk.{stands}
-use Rattle.normheads.proofs.Loops.{put-end, put-turn}
-use Rattle.lent.proofs.Loops.{fill-start}
+use Rattle.arcsections.specs.Sections.{padded}
+use Rattle.words.specs.Stands.{stands}
+use Rattle.words.proofs.Stands.{put-end, put-turn}
+use Rattle.lenttally.proofs.Loops.{fill-start}
 use borrow.Author.Needs.{needs}
 use Rattle.lent.proofs.stations_in.Statement.{statement}
 use Rattle.lent.proofs.stations_in.Tie as tie

@@ -1,6 +1,6 @@
 -- `mergeheads::put_arc` meets its contract: an arc is one word.
 -- Assumes nothing.
-use Rattle.normheads.specs.Kinds.{arcBytes}
+use Rattle.normkinds.specs.Kinds.{arcBytes}
 use borrow.Author.Needs.{needs}
 use Rattle.mergeheads.proofs.put_arc.Statement.{statement}
 use Rattle.mergeheads.proofs.put_arc.Tie as tie

@@ -5,7 +5,7 @@ use mathlib.Core.Path.{_∙_}
 use mir.Syntax.{w64}
 use mir.ValLaws.{toZ-ofZ}
 use Rattle.words.proofs.Words.{lay-append, length-bytesOf}
-use Rattle.normheads.specs.Kinds.{normalLabelBytes}
+use Rattle.normkinds.specs.Kinds.{normalLabelBytes}
 use borrow.Author.Needs.{needs}
 use Rattle.mergeheads.proofs.put_fields.Statement.{statement}
 use Rattle.mergeheads.proofs.put_fields.Tie as tie

@@ -6,8 +6,8 @@ use mathlib.Core.Path.{ap, _∙_}
 use mathlib.Core.List.{_++_}
 use lib.ListN.{take, drop}
 use Rattle.words.proofs.Parts.{lay-part}
-use Rattle.normheads.specs.Kinds.{normalLabelBytes}
-use Rattle.normheads.proofs.Records.{length-label}
+use Rattle.normkinds.specs.Kinds.{normalLabelBytes}
+use Rattle.normkinds.proofs.Records.{length-label}
 use borrow.Author.Needs.{needs}
 use Rattle.mergeheads.proofs.put_label.Statement.{statement}
 use Rattle.mergeheads.proofs.put_label.Tie as tie

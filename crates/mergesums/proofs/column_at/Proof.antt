@@ -2,7 +2,7 @@
 -- Assumes nothing.
 use mathlib.Core.Path.{sym}
 use native.Mathlib.Omega.{arith}
-use Rattle.sums.proofs.Lists.{tri-within}
+use Rattle.sums.proofs.Places.{tri-within}
 use Rattle.mergesums.proofs.Held.{column-is, column-none}
 use borrow.Author.Needs.{needs}
 use Rattle.mergesums.proofs.column_at.Statement.{statement}

@@ -9,7 +9,7 @@ use lib.ListN.{length}
 use Rattle.words.specs.Words.{lay}
 use Rattle.words.proofs.Words.{length-lay}
 use Rattle.sums.specs.Triangle.{tri}
-use Rattle.sums.proofs.Lists.{tri-next, tri-within}
+use Rattle.sums.proofs.Places.{tri-next, tri-within}
 use Rattle.mergesums.specs.Table.{columnsOf}
 use Rattle.mergesums.specs.Columns.{crossAt}
 use Rattle.mergesums.proofs.Writing.{bytesIn, columns-end, columns-turn}

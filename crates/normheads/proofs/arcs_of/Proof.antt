@@ -8,9 +8,9 @@ use native.Mathlib.Nat.{sub-zero}
 use lib.ListN.{length, take, length-set}
 use lib.Seq.{sets}
 use Rattle.words.specs.Words.{word}
-use Rattle.normwalk.specs.Walk.{stands}
+use Rattle.words.specs.Stands.{stands}
 use Rattle.normheads.specs.Heads.{arcsAt}
-use Rattle.normheads.proofs.Loops.{put-end, put-turn, put-all}
+use Rattle.words.proofs.Stands.{put-end, put-turn, put-all}
 use Rattle.normheads.proofs.arcs_of.Statement.{statement}
 use Rattle.normheads.proofs.arcs_of.Tie as tie
 

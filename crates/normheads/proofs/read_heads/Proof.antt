@@ -2,7 +2,7 @@
 -- Assumes nothing.
 use mathlib.Core.Path.{sym, ap, _∙_}
 use Rattle.section.proofs.Walk.{then-good, then-bad}
-use Rattle.normheads.specs.Heads.{toldSection}
+use Rattle.section.specs.Told.{toldSection}
 use Rattle.normheads.proofs.Heads.{heads-counts, few-arcs}
 use borrow.Author.Needs.{needs}
 use Rattle.normheads.proofs.read_heads.Statement.{statement}

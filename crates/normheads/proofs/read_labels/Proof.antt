@@ -4,7 +4,7 @@ use native.Mathlib.Omega.{arith}
 use mathlib.Core.Path.{sym, ap, _∙_}
 use Rattle.section.proofs.Walk.{then-good, then-bad, counted}
 use Rattle.section.specs.Section.{toldCount}
-use Rattle.normheads.specs.Kinds.{normalLabelKind}
+use Rattle.normkinds.specs.Kinds.{normalLabelKind}
 use Rattle.normheads.proofs.Heads.{span-section}
 use borrow.Author.Needs.{needs}
 use Rattle.normheads.proofs.read_labels.Statement.{statement}

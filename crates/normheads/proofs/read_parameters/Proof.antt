@@ -4,8 +4,8 @@ use native.Mathlib.Omega.{arith}
 use mathlib.Core.Path.{sym, ap, _∙_}
 use lib.Seq.{length-take-le}
 use Rattle.section.specs.Section.{sectionAt}
-use Rattle.normheads.specs.Kinds.{normalLabelKind}
-use Rattle.normheads.specs.Heads.{spanOf}
+use Rattle.normkinds.specs.Kinds.{normalLabelKind}
+use Rattle.section.specs.Told.{spanOf}
 use borrow.Author.Needs.{needs}
 use Rattle.normheads.proofs.read_parameters.Statement.{statement}
 use Rattle.normheads.proofs.read_parameters.Tie as tie

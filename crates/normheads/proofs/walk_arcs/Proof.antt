@@ -5,8 +5,9 @@ use native.Mathlib.Omega.{arith}
 use mathlib.Core.Path.{_≡_, sym, ap, _∙_}
 use Prim.Native.Nat.{_+_, _*_, _-_, _≤_}
 use Rattle.section.specs.Section.{records}
-use Rattle.normheads.specs.Kinds.{arcKind}
-use Rattle.normheads.specs.Heads.{spanOf, toldFloor}
+use Rattle.normkinds.specs.Kinds.{arcKind}
+use Rattle.section.specs.Told.{spanOf}
+use Rattle.normkinds.specs.Told.{toldFloor}
 use Rattle.normheads.proofs.Loops.{reaching, reach-start, reach-end, reach-good, reach-bad}
 use Rattle.normheads.proofs.walk_arcs.Statement.{statement}
 use Rattle.normheads.proofs.walk_arcs.Tie as tie

@@ -2,7 +2,7 @@
 -- Assumes nothing.
 use borrow.Author.Needs.{needs}
 use mathlib.Core.Path.{sym, _∙_}
-use Rattle.normjudge.proofs.Fields.{fields-in, orders-in}
+use Rattle.normfields.proofs.Fields.{fields-in, orders-in}
 use Rattle.normjudge.proofs.Numbers.{values-limits, values-order, values-unsound, values-sound}
 use Rattle.normjudge.proofs.judge_values.Statement.{statement}
 use Rattle.normjudge.proofs.judge_values.Tie as tie

@@ -12,7 +12,8 @@ use Rattle.sums.specs.declared.Walked.{Walked}
 use Rattle.sums.specs.declared.Walked.the-variants.{Sound, Unsound}
 use Rattle.system.specs.System.{boundOf}
 use Rattle.normjudge.specs.Judge.{sidesWhere}
-use Rattle.normjudge.proofs.Sums.{not-below, rights-sound, rights-unsound}
+use Rattle.sums.proofs.Tests.{not-below}
+use Rattle.normjudge.proofs.Sums.{rights-sound, rights-unsound}
 use Rattle.normjudge.proofs.sides_sound.Statement.{statement}
 use Rattle.normjudge.proofs.sides_sound.Tie as tie
 

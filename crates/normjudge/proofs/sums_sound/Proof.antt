@@ -12,7 +12,8 @@ use Rattle.sums.specs.declared.Walked.{Walked}
 use Rattle.sums.specs.declared.Walked.the-variants.{Sound, Unsound}
 use Rattle.system.specs.System.{boundOf, sumsWhere}
 use Rattle.normjudge.specs.Judge.{sidesWhere}
-use Rattle.normjudge.proofs.Sums.{not-below, matrix-sound, matrix-unsound}
+use Rattle.sums.proofs.Tests.{not-below}
+use Rattle.normjudge.proofs.Sums.{matrix-sound, matrix-unsound}
 use Rattle.normjudge.proofs.sums_sound.Statement.{statement}
 use Rattle.normjudge.proofs.sums_sound.Tie as tie
 

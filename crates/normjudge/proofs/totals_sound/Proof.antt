@@ -2,7 +2,7 @@
 -- Assumes nothing.
 use borrow.Author.Needs.{needs}
 use mathlib.Core.Path.{sym, ap, _∙_}
-use Rattle.normwalk.specs.Walk.{toldWhere}
+use Rattle.normtotals.specs.Told.{toldWhere}
 use Rattle.normroom.specs.Room.{isNowhere}
 use Rattle.normjudge.proofs.totals_sound.Statement.{statement}
 use Rattle.normjudge.proofs.totals_sound.Tie as tie

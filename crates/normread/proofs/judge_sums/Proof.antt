@@ -2,7 +2,7 @@
 -- Assumes nothing.
 use native.Mathlib.Omega.{arith}
 use mathlib.Core.Path.{sym, ap, _∙_}
-use Rattle.normwalk.specs.Walk.{toldWhere}
+use Rattle.normtotals.specs.Told.{toldWhere}
 use Rattle.normwalk.proofs.Wheres.{inside-matrix, inside-rights}
 use Rattle.normread.specs.Parts.{shownWhere, shownSums}
 use borrow.Author.Needs.{needs}

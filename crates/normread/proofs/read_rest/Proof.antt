@@ -1,8 +1,9 @@
 -- `normread::read_rest` meets its contract: the sums, and their judgement.
 -- Assumes nothing.
 use mathlib.Core.Path.{sym, ap, _∙_}
-use Rattle.normread.specs.Parts.{shownRest, toldSums}
-use Rattle.normread.proofs.Plain.{sums-room}
+use Rattle.normread.specs.Parts.{shownRest}
+use Rattle.normsections.specs.Sums.{toldSums}
+use Rattle.normsections.proofs.Plain.{sums-room}
 use borrow.Author.Needs.{needs}
 use Rattle.normread.proofs.read_rest.Statement.{statement}
 use Rattle.normread.proofs.read_rest.Tie as tie

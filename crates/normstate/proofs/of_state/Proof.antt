@@ -9,7 +9,7 @@ use Rattle.refusal.proofs.Firsts.{first-none}
 use Rattle.heading.specs.Judge.{toldVerdict}
 use Rattle.state.specs.State.{State, stateOf, stateNumber}
 use Rattle.state.proofs.Rooms.{by-given, by-refused, Roomed, roomed}
-use Rattle.normroom.specs.Bytes.{fileLong}
+use Rattle.normroom.specs.Room.{fileLong}
 use Rattle.section.proofs.Writing.{on-refused, on-short, on-written}
 use Rattle.normstate.specs.OfState.{stateBytes, fileNumber, fileOf, leftIn}
 use Rattle.normstate.proofs.Laid.{state-long}

@@ -14,9 +14,9 @@ use Rattle.section.specs.Section.{encoded}
 use Rattle.section.proofs.Laid.{laid-none, laid-one}
 use Rattle.limits.specs.Limits.{noLabel}
 use Rattle.heading.specs.Judge.{labelsOf}
-use Rattle.normheads.specs.Kinds.{normalLabelBytes}
-use Rattle.normheads.proofs.Records.{length-label}
-use Rattle.normroom.proofs.Laid.{counted-laid}
+use Rattle.normkinds.specs.Kinds.{normalLabelBytes}
+use Rattle.normkinds.proofs.Records.{length-label}
+use Rattle.normput.proofs.Laid.{counted-laid}
 use Rattle.normstate.proofs.Laid.{labels-long}
 use Rattle.normstate.specs.OfState.{labelOf}
 use Rattle.normstate.proofs.put_labels.Statement.{statement}

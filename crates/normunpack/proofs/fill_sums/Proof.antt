@@ -10,8 +10,8 @@ use lib.Seq.{sets}
 use mir.Syntax.{w64}
 use mir.ValLaws.{toZ-ofZ}
 use Rattle.words.specs.Words.{signedWord}
-use Rattle.normwalk.specs.Walk.{sumsAt}
-use Rattle.normheads.proofs.Loops.{put-end, put-turn}
+use Rattle.normsum.specs.Sums.{sumsAt}
+use Rattle.words.proofs.Stands.{put-end, put-turn}
 use Rattle.normunpack.proofs.fill_sums.Statement.{statement}
 use Rattle.normunpack.proofs.fill_sums.Tie as tie
 

@@ -11,11 +11,12 @@ use native.Mathlib.Nat.{sub-zero}
 use lib.IntN.{pos}
 use Rattle.sums.specs.Triangle.{tri}
 use Rattle.sums.specs.Sound.{breaks}
-use Rattle.sums.proofs.Lists.{tri-next, tri-within}
+use Rattle.sums.proofs.Places.{tri-next, tri-within}
 use Rattle.system.specs.System.{Found, at, firstFrom, columnsFrom}
 use Rattle.system.proofs.Firsts.{first-end, first-here, first-on, columns-end, columns-here, columns-on}
 use Rattle.normwalk.specs.declared.Search.the-variants.{Nowhere}
-use Rattle.normwalk.specs.Walk.{sumsAt, toldSearch}
+use Rattle.normsum.specs.Sums.{sumsAt}
+use Rattle.normwalk.specs.Walk.{toldSearch}
 use Rattle.normwalk.proofs.first_entry.Statement.{statement}
 use Rattle.normwalk.proofs.first_entry.Tie as tie
 

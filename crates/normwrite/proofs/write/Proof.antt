@@ -9,8 +9,7 @@ use lib.ListN.{length}
 use Rattle.whole.specs.Answer.{given}
 use Rattle.refusal.proofs.Firsts.{answered-is, answered-not}
 use Rattle.heading.specs.Judge.{toldVerdict}
-use Rattle.normroom.specs.Room.{systemNumber}
-use Rattle.normroom.specs.Bytes.{fileLong}
+use Rattle.normroom.specs.Room.{systemNumber, fileLong}
 use Rattle.normwrite.specs.Write.{roomBytes, writeNumber, writeNormal, leftIn}
 use Rattle.section.proofs.Writing.{on-refused, on-short, on-written}
 use Rattle.normwrite.proofs.Sound.{Written, number-sound, room-long}

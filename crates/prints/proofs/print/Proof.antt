@@ -4,7 +4,7 @@ use Prim.Native.Nat.{_≤_}
 use mathlib.Core.Path.{sym, ap, _∙_}
 use native.Mathlib.Omega.{arith}
 use lib.ListN.{length, length-take}
-use Rattle.listing.specs.Listing.{toldList}
+use Rattle.section.specs.Told.{toldWrite}
 use Rattle.listing.proofs.Listings.{answer-inside}
 use borrow.Author.Needs.{needs}
 use Rattle.prints.proofs.print.Statement.{statement}
@@ -13,7 +13,7 @@ use Rattle.prints.proofs.print.Tie as tie
 inside : (c : tie.After-known-told) → c .before .n .given .0 .0 ≤ length (c .before .before .before .before .before .list .last .1 .1 .0)
 inside c =
     let l = c .before .before .before .before .before .list in
-    omega (arith, l .kept, answer-inside _ _ _ _ (sym (ap toldList (c .before .n .given .1)) ∙ l .ensures .0))
+    omega (arith, l .kept, answer-inside _ _ _ _ (sym (ap toldWrite (c .before .n .given .1)) ∙ l .ensures .0))
 
 list-requires : tie.Need-list-requires
 list-requires c κs = search needs

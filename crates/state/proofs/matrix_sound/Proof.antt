@@ -9,7 +9,8 @@ use Rattle.sums.specs.Sound.{Right}
 use Rattle.sums.specs.declared.Walked.{Walked}
 use Rattle.sums.specs.declared.Walked.the-variants.{Sound, Unsound}
 use Rattle.state.specs.State.{matrixTop}
-use Rattle.state.proofs.Judged.{not-below, matrix-pass, matrix-fail}
+use Rattle.sums.proofs.Tests.{not-below}
+use Rattle.state.proofs.Judged.{matrix-pass, matrix-fail}
 use borrow.Author.Needs.{needs}
 use Rattle.state.proofs.matrix_sound.Statement.{statement}
 use Rattle.state.proofs.matrix_sound.Tie as tie

@@ -9,7 +9,8 @@ use Rattle.sums.specs.Sound.{RightSides}
 use Rattle.sums.specs.declared.Walked.{Walked}
 use Rattle.sums.specs.declared.Walked.the-variants.{Sound, Unsound}
 use Rattle.state.specs.State.{rightTop}
-use Rattle.state.proofs.Judged.{not-below, rights-pass, rights-fail}
+use Rattle.sums.proofs.Tests.{not-below}
+use Rattle.state.proofs.Judged.{rights-pass, rights-fail}
 use borrow.Author.Needs.{needs}
 use Rattle.state.proofs.rights_sound.Statement.{statement}
 use Rattle.state.proofs.rights_sound.Tie as tie

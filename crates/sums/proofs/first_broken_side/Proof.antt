@@ -10,7 +10,7 @@ use mir.Syntax.{w64}
 use mir.Val.{toZ, ofZ}
 use mir.ValLaws.{toZ-ofZ}
 use Rattle.sums.specs.Sound.{breaksSide}
-use Rattle.sums.proofs.Lists.{tri-next, tri-within}
+use Rattle.sums.proofs.Places.{tri-next, tri-within}
 use Rattle.sums.proofs.first_broken_side.Statement.{statement}
 use Rattle.sums.proofs.first_broken_side.Tie as tie
 

@@ -13,7 +13,7 @@ use mir.ValLaws.{toZ-ofZ}
 use Rattle.sums.specs.declared.Walked.the-variants.{Sound}
 use Rattle.sums.specs.Triangle.{tri}
 use Rattle.sums.specs.Sound.{breaks, Right}
-use Rattle.sums.proofs.Lists.{tri-next, tri-within, earlier}
+use Rattle.sums.proofs.Places.{tri-next, tri-within, earlier}
 use Rattle.sums.proofs.first_unsound.Statement.{statement}
 use Rattle.sums.proofs.first_unsound.Tie as tie
 

@@ -13,7 +13,7 @@ use mir.Val.{SFits, toZ, ofZ}
 use mir.ValLaws.{toZ-ofZ}
 use Rattle.sums.specs.Triangle.{tri}
 use Rattle.sums.specs.Sound.{entry, isZero, breaks}
-use Rattle.sums.proofs.Lists.{tri-next, tri-within}
+use Rattle.sums.proofs.Places.{tri-next, tri-within}
 use Rattle.sums.proofs.Tests.{zero-bits, is-zero, not-zero, neg-fits, lower, lower-back, test-of}
 use borrow.Author.Needs.{needs}
 use Rattle.sums.proofs.is_broken.Statement.{statement}

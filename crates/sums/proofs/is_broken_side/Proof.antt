@@ -10,7 +10,7 @@ use mir.Syntax.{w64}
 use mir.Val.{SFits, toZ, ofZ}
 use mir.ValLaws.{toZ-ofZ}
 use Rattle.sums.specs.Sound.{isZero, breaksSide}
-use Rattle.sums.proofs.Lists.{tri-next}
+use Rattle.sums.proofs.Places.{tri-next}
 use Rattle.sums.proofs.Tests.{zero-bits, is-zero, not-zero, neg-fits, lower, lower-back, test-of}
 use borrow.Author.Needs.{needs}
 use Rattle.sums.proofs.is_broken_side.Statement.{statement}

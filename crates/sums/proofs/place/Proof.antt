@@ -1,6 +1,5 @@
 -- `sums::place` meets its contract: the sums of the columns before, and the row.
 -- Assumes nothing.
-use native.Mathlib.Omega.{arith}
 use borrow.Author.Needs.{needs}
 use Rattle.sums.proofs.place.Statement.{statement}
 use Rattle.sums.proofs.place.Tie as tie

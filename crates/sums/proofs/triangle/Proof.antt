@@ -4,7 +4,7 @@ use borrow.Author.Needs.{needs}
 use native.Mathlib.Omega.{arith}
 use native.Mathlib.Nat.{mul-le-mul}
 use Prim.Native.Nat.{_+_, _*_, _≤_}
-use Rattle.sums.proofs.Entries.{tri-twice}
+use Rattle.sums.proofs.Places.{tri-twice}
 use Rattle.sums.proofs.triangle.Statement.{statement}
 use Rattle.sums.proofs.triangle.Tie as tie
 

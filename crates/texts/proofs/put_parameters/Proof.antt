@@ -10,7 +10,7 @@ use borrow.Author.Needs.{needs}
 use Rattle.whole.specs.Lists.{rest}
 use Rattle.decimal.specs.Laid.{laid}
 use Rattle.heading.specs.Judge.{labelsOf}
-use Rattle.sums.proofs.Lists.{tri-within}
+use Rattle.sums.proofs.Places.{tri-within}
 use Rattle.texts.specs.Lines.{parameterLines}
 use Rattle.texts.proofs.Laws.{place-small, row-laid, lines-turn, lines-end, parameters-turn, parameters-end}
 use Rattle.texts.proofs.put_parameters.Statement.{statement}

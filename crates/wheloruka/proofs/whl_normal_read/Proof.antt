@@ -1,7 +1,7 @@
 -- `wheloruka::whl_normal_read` meets its contract: five numbers, or the refusal.
 -- Assumes nothing.
 use mathlib.Core.Path.{ap}
-use Rattle.normread.specs.Normal.{toldAnswer}
+use Rattle.section.specs.Told.{toldAnswer}
 use Rattle.rooms.proofs.Rooms.{as-given, as-refused}
 use Rattle.wheloruka.proofs.Files.{normal-good, normal-bad}
 use borrow.Author.Needs.{needs}

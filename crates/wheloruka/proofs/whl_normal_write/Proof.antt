@@ -1,9 +1,9 @@
--- `wheloruka::whl_normal_write` meets its contract: the file with its length, or the refusal.
+-- `wheloruka::whl_normal_write` meets its contract: the file with its length, or a refusal.
 -- Assumes nothing.
-use mathlib.Core.Path.{sym, ap, _∙_}
+use mathlib.Core.Path.{sym}
 use lib.Seq.{length-take-le}
-use Rattle.normwrite.specs.Write.{writeNormal, leftIn, toldWrite}
-use Rattle.wheloruka.proofs.Writes.{wrote, refuses, write-none}
+use Rattle.normwrite.specs.Write.{writeNormal, leftIn}
+use Rattle.wheloruka.proofs.Writes.{gives, write-none}
 use borrow.Author.Needs.{needs}
 use Rattle.wheloruka.proofs.whl_normal_write.Statement.{statement}
 use Rattle.wheloruka.proofs.whl_normal_write.Tie as tie
@@ -20,17 +20,8 @@ slice-aggregate-write c = sym (length-take-le _ _ (c .before .room-for .ensures 
 write-requires : tie.Need-write-requires
 write-requires c κs = search needs
 
-enum-known-n : tie.Need-enum-known-n
-enum-known-n c = search needs
-
-give-place-requires : tie.Need-give-place-requires
-give-place-requires c κs = search needs
-
-enum-known-e : tie.Need-enum-known-e
-enum-known-e c = search needs
-
-number-requires : tie.Need-number-requires
-number-requires c κs = search needs
+give-written-requires : tie.Need-give-written-requires
+give-written-requires c κs = search needs
 
 same-length : tie.Need-same-length
 same-length c = search needs
@@ -40,16 +31,8 @@ same-length-2 c = search needs
 
 returns : tie.Need-returns
 returns c =
-    let a = c .before .before .before .before .before .before .before .before .before .before .before .before .before .before .before .args in
-    wrote (writeNormal (a .arcs) (a .parameters) (a .heads .now) (a .matrix .now) (a .rights .now)) (leftIn (a .arcs) (a .parameters) (a .heads .now) (a .matrix .now) (a .rights .now)) (a .size .now) (a .out .now) (write-none _ _ _ _ _) _ (c .before .before .before .before .before .before .before .before .before .before .before .room-for .ensures .0) _ (sym (ap toldWrite (c .before .before .before .before .before .n .given .1)) ∙ c .before .before .before .before .before .before .before .before .before .write .ensures .0) (c .before .before .give-place .ensures) (c .before .before .before .before .before .before .before .before .before .write .ensures .1)
-
-same-length-3 : tie.Need-same-length-3
-same-length-3 c = search needs
-
-returns-2 : tie.Need-returns-2
-returns-2 c =
     let a = c .before .before .before .before .before .before .before .before .before .before .before .before .args in
-    refuses (writeNormal (a .arcs) (a .parameters) (a .heads .now) (a .matrix .now) (a .rights .now)) (leftIn (a .arcs) (a .parameters) (a .heads .now) (a .matrix .now) (a .rights .now)) (a .size .now) (a .out .now) (write-none _ _ _ _ _) _ (c .before .before .before .before .before .before .before .before .room-for .ensures .0) _ (sym (ap toldWrite (c .before .before .e .given .1)) ∙ c .before .before .before .before .before .before .write .ensures .0) (c .number .ensures) (c .before .before .before .before .before .before .write .ensures .1)
+    gives (writeNormal (a .arcs) (a .parameters) (a .heads .now) (a .matrix .now) (a .rights .now)) (leftIn (a .arcs) (a .parameters) (a .heads .now) (a .matrix .now) (a .rights .now)) _ _ (write-none _ _ _ _ _) _ (c .before .before .before .before .before .before .before .before .room-for .ensures .0) _ (c .before .before .before .before .before .before .write .ensures .0) (c .before .before .give-written .ensures) (c .before .before .before .before .before .before .write .ensures .1)
 
 pub whl-normal-write-spec : {M : Type 1} → statement M
 whl-normal-write-spec =
@@ -59,12 +42,7 @@ whl-normal-write-spec =
     slice-relend-prefix-write
     slice-aggregate-write
     write-requires
-    enum-known-n
-    give-place-requires
-    enum-known-e
-    number-requires
+    give-written-requires
     same-length
     same-length-2
-    returns
-    same-length-3
-    returns-2)
+    returns)

@@ -1,14 +1,13 @@
--- `wheloruka::whl_of_state` meets its contract: the file with its length, or the refusal.
+-- `wheloruka::whl_of_state` meets its contract: the file with its length, or a refusal.
 -- Assumes nothing.
-use mathlib.Core.Path.{refl, sym, ap, ap₂, _∙_}
+use mathlib.Core.Path.{refl, sym, ap₂, _∙_}
 use lib.ListN.{length, take}
 use lib.Seq.{length-take-le}
 use Rattle.state.specs.State.{stateOf}
-use Rattle.normwrite.specs.Write.{toldWrite}
 use Rattle.normstate.specs.OfState.{fileOf, leftIn}
 use Rattle.wheloruka.specs.Taking.{lent}
 use Rattle.wheloruka.specs.Writing.{stateFile, stateFileLeft}
-use Rattle.wheloruka.proofs.Writes.{wrote, refuses, keeps, state-none, file-whole, left-whole, file-short, left-short}
+use Rattle.wheloruka.proofs.Writes.{gives, keeps, file-whole, left-whole, file-short, left-short, state-none}
 use borrow.Author.Needs.{needs}
 use Rattle.wheloruka.proofs.whl_of_state.Statement.{statement}
 use Rattle.wheloruka.proofs.whl_of_state.Tie as tie
@@ -34,17 +33,8 @@ slice-aggregate-of-state c = sym (length-take-le _ _ (c .before .room-for .ensur
 of-state-requires : tie.Need-of-state-requires
 of-state-requires c κs = search needs
 
-enum-known-n : tie.Need-enum-known-n
-enum-known-n c = search needs
-
-give-place-requires : tie.Need-give-place-requires
-give-place-requires c κs = search needs
-
-enum-known-e : tie.Need-enum-known-e
-enum-known-e c = search needs
-
-number-requires : tie.Need-number-requires
-number-requires c κs = search needs
+give-written-requires : tie.Need-give-written-requires
+give-written-requires c κs = search needs
 
 same-length : tie.Need-same-length
 same-length c = search needs
@@ -54,33 +44,18 @@ same-length-2 c = search needs
 
 returns : tie.Need-returns
 returns c =
-    let a = c .before .before .before .before .before .before .before .before .before .before .before .before .before .before .before .before .before .before .before .before .args in
-    let x = lent (a .tally .now) (a .matrix .now) (a .rights .now) in
-    let room = c .before .before .before .before .before .before .before .before .before .before .before .room-for .result in
-    let h = c .before .before .before .before .before .before .before .before .before .before .before .before .before .heading-in .ensures in
-    let t = c .before .before .before .before .before .before .before .before .before .before .before .before .tally-in .ensures in
-    let whole = sym (c .before .before .before .before .before .before .before .before .before .before .before .before .before .before .before .has-both .ensures) ∙ c .before .before .before .before .before .before .before .before .before .before .before .before .before .before .if1 .taken in
-    let told = sym (ap toldWrite (c .before .before .before .before .before .n .given .1)) ∙ c .before .before .before .before .before .before .before .before .before .of-state .ensures .0 ∙ ap₂ (λ h t. fileOf h (stateOf (a .matrix .now) (a .rights .now) t) (length (take room (a .out .now)))) h t ∙ file-whole _ x whole _ in
-    let left = c .before .before .before .before .before .before .before .before .before .of-state .ensures .1 ∙ ap₂ (λ h t. leftIn h (stateOf (a .matrix .now) (a .rights .now) t) (take room (a .out .now))) h t ∙ left-whole _ x whole _ in
-    wrote (stateFile (a .heading .now) x) (stateFileLeft (a .heading .now) x) (a .size .now) (a .out .now) (state-none _ _) _ (c .before .before .before .before .before .before .before .before .before .before .before .room-for .ensures .0) _ told (c .before .before .give-place .ensures) left
-
-same-length-3 : tie.Need-same-length-3
-same-length-3 c = search needs
-
-returns-2 : tie.Need-returns-2
-returns-2 c =
     let a = c .before .before .before .before .before .before .before .before .before .before .before .before .before .before .before .before .before .args in
     let x = lent (a .tally .now) (a .matrix .now) (a .rights .now) in
     let room = c .before .before .before .before .before .before .before .before .room-for .result in
     let h = c .before .before .before .before .before .before .before .before .before .before .heading-in .ensures in
     let t = c .before .before .before .before .before .before .before .before .before .tally-in .ensures in
     let whole = sym (c .before .before .before .before .before .before .before .before .before .before .before .before .has-both .ensures) ∙ c .before .before .before .before .before .before .before .before .before .before .before .if1 .taken in
-    let told = sym (ap toldWrite (c .before .before .e .given .1)) ∙ c .before .before .before .before .before .before .of-state .ensures .0 ∙ ap₂ (λ h t. fileOf h (stateOf (a .matrix .now) (a .rights .now) t) (length (take room (a .out .now)))) h t ∙ file-whole _ x whole _ in
+    let told = c .before .before .before .before .before .before .of-state .ensures .0 ∙ ap₂ (λ h t. fileOf h (stateOf (a .matrix .now) (a .rights .now) t) (length (take room (a .out .now)))) h t ∙ file-whole _ x whole _ in
     let left = c .before .before .before .before .before .before .of-state .ensures .1 ∙ ap₂ (λ h t. leftIn h (stateOf (a .matrix .now) (a .rights .now) t) (take room (a .out .now))) h t ∙ left-whole _ x whole _ in
-    refuses (stateFile (a .heading .now) x) (stateFileLeft (a .heading .now) x) (a .size .now) (a .out .now) (state-none _ _) _ (c .before .before .before .before .before .before .before .before .room-for .ensures .0) _ told (c .number .ensures) left
+    gives (stateFile (a .heading .now) x) (stateFileLeft (a .heading .now) x) _ _ (state-none _ _) _ (c .before .before .before .before .before .before .before .before .room-for .ensures .0) _ told (c .before .before .give-written .ensures) left
 
-returns-3 : tie.Need-returns-3
-returns-3 c =
+returns-2 : tie.Need-returns-2
+returns-2 c =
     let e = sym (c .before .has-both .ensures) ∙ c .if1 .left in
     let a = c .before .before .before .before .before .before .args in
     let x = lent (a .tally .now) (a .matrix .now) (a .rights .now) in
@@ -97,13 +72,8 @@ whl-of-state-spec =
     slice-relend-prefix-of-state
     slice-aggregate-of-state
     of-state-requires
-    enum-known-n
-    give-place-requires
-    enum-known-e
-    number-requires
+    give-written-requires
     same-length
     same-length-2
     returns
-    same-length-3
-    returns-2
-    returns-3)
+    returns-2)

@@ -1,11 +1,10 @@
 -- `wheloruka::whl_take` meets its contract: 20, taken, or refused with everything kept.
 -- Assumes nothing.
-use mathlib.Core.Path.{sym, ap, ap₂, _∙_}
+use mathlib.Core.Path.{sym, ap₂, _∙_}
 use Rattle.refusal.specs.First.{answered}
 use Rattle.state.specs.State.{stateOf}
 use Rattle.account.specs.Taking.{takeAnswer, takeStep}
-use Rattle.taking.specs.Told.{toldTake}
-use Rattle.wheloruka.proofs.Calls.{short, done, kept, take-kept}
+use Rattle.wheloruka.proofs.Calls.{short, gives, take-kept}
 use borrow.Author.Needs.{needs}
 use Rattle.wheloruka.proofs.whl_take.Statement.{statement}
 use Rattle.wheloruka.proofs.whl_take.Tie as tie
@@ -22,17 +21,8 @@ tally-in-requires c κs = search needs
 take-requires : tie.Need-take-requires
 take-requires c κs = search needs
 
-enum-told : tie.Need-enum-told
-enum-told c = search needs
-
-put-tally-requires : tie.Need-put-tally-requires
-put-tally-requires c κs = search needs
-
-enum-known-answer : tie.Need-enum-known-answer
-enum-known-answer c = search needs
-
-number-requires : tie.Need-number-requires
-number-requires c κs = search needs
+give-taken-requires : tie.Need-give-taken-requires
+give-taken-requires c κs = search needs
 
 same-length : tie.Need-same-length
 same-length c = search needs
@@ -45,40 +35,19 @@ same-length-3 c = search needs
 
 returns : tie.Need-returns
 returns c =
-    let a = c .before .before .before .before .before .before .before .before .before .before .before .before .before .before .before .before .before .before .before .before .before .args in
-    let h = c .before .before .before .before .before .before .before .before .before .before .before .before .before .before .heading-in .ensures in
-    let t = c .before .before .before .before .before .before .before .before .before .before .before .before .tally-in .ensures in
-    let whole = sym (c .before .before .before .before .before .before .before .before .before .before .before .before .before .before .before .before .has-both .ensures) ∙ c .before .before .before .before .before .before .before .before .before .before .before .before .before .before .before .if1 .taken in
-    let told = sym (ap toldTake (c .before .before .before .before .enum-told .given .1)) ∙ c .before .before .before .before .before .before .before .before .before .take .ensures .0 ∙ ap₂ (λ h t. answered (takeAnswer h (a .bytes .now) (stateOf (a .matrix .now) (a .rights .now) t)) tt) h t in
-    let left = c .before .before .before .before .before .before .before .before .before .take .ensures .1 ∙ ap₂ (λ h t. takeStep h (a .bytes .now) (stateOf (a .matrix .now) (a .rights .now) t)) h t in
-    done _ _ _ _ whole _ _ _ _ (c .before .before .put-tally .ensures) told left
+    let a = c .before .before .before .before .before .before .before .before .before .before .before .before .before .before .before .before .before .before .args in
+    let h = c .before .before .before .before .before .before .before .before .before .before .before .heading-in .ensures in
+    let t = c .before .before .before .before .before .before .before .before .before .tally-in .ensures in
+    let whole = sym (c .before .before .before .before .before .before .before .before .before .before .before .before .before .has-both .ensures) ∙ c .before .before .before .before .before .before .before .before .before .before .before .before .if1 .taken in
+    let told = c .before .before .before .before .before .before .take .ensures .0 ∙ ap₂ (λ h t. answered (takeAnswer h (a .bytes .now) (stateOf (a .matrix .now) (a .rights .now) t)) tt) h t in
+    let left = c .before .before .before .before .before .before .take .ensures .1 ∙ ap₂ (λ h t. takeStep h (a .bytes .now) (stateOf (a .matrix .now) (a .rights .now) t)) h t in
+    gives _ _ _ _ whole _ told _ _ _ left (take-kept _ _ _) (c .before .before .give-taken .ensures)
 
 same-length-4 : tie.Need-same-length-4
 same-length-4 c = search needs
 
-same-length-5 : tie.Need-same-length-5
-same-length-5 c = search needs
-
-same-length-6 : tie.Need-same-length-6
-same-length-6 c = search needs
-
 returns-2 : tie.Need-returns-2
-returns-2 c =
-    let a = c .before .before .before .before .before .before .before .before .before .before .before .before .before .before .before .before .before .before .before .args in
-    let h = c .before .before .before .before .before .before .before .before .before .before .before .before .heading-in .ensures in
-    let t = c .before .before .before .before .before .before .before .before .before .before .tally-in .ensures in
-    let whole = sym (c .before .before .before .before .before .before .before .before .before .before .before .before .before .before .has-both .ensures) ∙ c .before .before .before .before .before .before .before .before .before .before .before .before .before .if1 .taken in
-    let told = sym (ap toldTake (c .before .before .answer .given .1)) ∙ c .before .before .before .before .before .before .before .take .ensures .0 ∙ ap₂ (λ h t. answered (takeAnswer h (a .bytes .now) (stateOf (a .matrix .now) (a .rights .now) t)) tt) h t in
-    let left = c .before .before .before .before .before .before .before .take .ensures .1 ∙ ap₂ (λ h t. takeStep h (a .bytes .now) (stateOf (a .matrix .now) (a .rights .now) t)) h t in
-    let e = c .before .before .answer .given .0 .0 in
-    let same = left ∙ take-kept _ _ _ e told in
-    kept _ _ _ _ whole _ _ e _ told (c .number .ensures) (ap (λ s. s .matrix) same) (ap (λ s. s .rights) same)
-
-same-length-7 : tie.Need-same-length-7
-same-length-7 c = search needs
-
-returns-3 : tie.Need-returns-3
-returns-3 c = short _ _ _ _ (sym (c .before .has-both .ensures) ∙ c .if1 .left)
+returns-2 c = short _ _ _ _ (sym (c .before .has-both .ensures) ∙ c .if1 .left)
 
 pub whl-take-spec : {M : Type 1} → statement M
 whl-take-spec =
@@ -88,17 +57,10 @@ whl-take-spec =
     heading-in-requires
     tally-in-requires
     take-requires
-    enum-told
-    put-tally-requires
-    enum-known-answer
-    number-requires
+    give-taken-requires
     same-length
     same-length-2
     same-length-3
     returns
     same-length-4
-    same-length-5
-    same-length-6
-    returns-2
-    same-length-7
-    returns-3)
+    returns-2)

@@ -1,12 +1,12 @@
 -- `wheloruka::whl_take_run` meets its contract: 20, taken, or refused with everything kept.
 -- Assumes nothing.
-use mathlib.Core.Path.{sym, ap, ap₂, _∙_}
+use mathlib.Core.Path.{sym, ap₂, _∙_}
 use lib.ListN.{length}
 use Rattle.refusal.specs.First.{answered}
 use Rattle.state.specs.State.{stateOf}
 use Rattle.account.specs.Taking.{runNumber, runState, runAnswers}
-use Rattle.taking.specs.Told.{toldTake}
-use Rattle.wheloruka.proofs.Calls.{short, done, kept, run-kept, answers-short, answers-whole}
+use Rattle.taking.proofs.Answers.{state-left}
+use Rattle.wheloruka.proofs.Calls.{short, gives, answers-short, answers-whole}
 use borrow.Author.Needs.{needs}
 use Rattle.wheloruka.proofs.whl_take_run.Statement.{statement}
 use Rattle.wheloruka.proofs.whl_take_run.Tie as tie
@@ -23,17 +23,8 @@ tally-in-requires c κs = search needs
 take-run-requires : tie.Need-take-run-requires
 take-run-requires c κs = search needs
 
-enum-told : tie.Need-enum-told
-enum-told c = search needs
-
-put-tally-requires : tie.Need-put-tally-requires
-put-tally-requires c κs = search needs
-
-enum-known-answer : tie.Need-enum-known-answer
-enum-known-answer c = search needs
-
-number-requires : tie.Need-number-requires
-number-requires c κs = search needs
+give-taken-requires : tie.Need-give-taken-requires
+give-taken-requires c κs = search needs
 
 same-length : tie.Need-same-length
 same-length c = search needs
@@ -49,47 +40,21 @@ same-length-4 c = search needs
 
 returns : tie.Need-returns
 returns c =
-    let a = c .before .before .before .before .before .before .before .before .before .before .before .before .before .before .before .before .before .before .before .before .before .before .before .before .before .args in
-    let h = c .before .before .before .before .before .before .before .before .before .before .before .before .before .before .before .before .before .heading-in .ensures in
-    let t = c .before .before .before .before .before .before .before .before .before .before .before .before .before .before .before .tally-in .ensures in
-    let whole = sym (c .before .before .before .before .before .before .before .before .before .before .before .before .before .before .before .before .before .before .before .has-both .ensures) ∙ c .before .before .before .before .before .before .before .before .before .before .before .before .before .before .before .before .before .before .if1 .taken in
-    let told = sym (ap toldTake (c .before .before .before .before .enum-told .given .1)) ∙ c .before .before .before .before .before .before .before .before .before .before .before .take-run .ensures .0 ∙ ap₂ (λ h t. answered (runNumber h (a .run .now) (length (a .answers .now)) (stateOf (a .matrix .now) (a .rights .now) t)) tt) h t in
-    let left = c .before .before .before .before .before .before .before .before .before .before .before .take-run .ensures .1 .0 ∙ ap₂ (λ h t. runState h (a .run .now) (length (a .answers .now)) (stateOf (a .matrix .now) (a .rights .now) t)) h t in
-    let answers = answers-whole _ _ _ _ whole _ (c .before .before .before .before .before .before .before .before .before .before .before .take-run .ensures .1 .1 ∙ ap₂ (λ h t. runAnswers h (a .run .now) (a .answers .now) (stateOf (a .matrix .now) (a .rights .now) t)) h t) in
-    let d = done _ _ _ _ whole _ _ _ _ (c .before .before .put-tally .ensures) told left in
+    let a = c .before .before .before .before .before .before .before .before .before .before .before .before .before .before .before .before .before .before .before .before .before .before .args in
+    let h = c .before .before .before .before .before .before .before .before .before .before .before .before .before .before .heading-in .ensures in
+    let t = c .before .before .before .before .before .before .before .before .before .before .before .before .tally-in .ensures in
+    let whole = sym (c .before .before .before .before .before .before .before .before .before .before .before .before .before .before .before .before .has-both .ensures) ∙ c .before .before .before .before .before .before .before .before .before .before .before .before .before .before .before .if1 .taken in
+    let told = c .before .before .before .before .before .before .before .before .take-run .ensures .0 ∙ ap₂ (λ h t. answered (runNumber h (a .run .now) (length (a .answers .now)) (stateOf (a .matrix .now) (a .rights .now) t)) tt) h t in
+    let left = c .before .before .before .before .before .before .before .before .take-run .ensures .1 .0 ∙ ap₂ (λ h t. runState h (a .run .now) (length (a .answers .now)) (stateOf (a .matrix .now) (a .rights .now) t)) h t in
+    let answers = answers-whole _ _ _ _ whole _ (c .before .before .before .before .before .before .before .before .take-run .ensures .1 .1 ∙ ap₂ (λ h t. runAnswers h (a .run .now) (a .answers .now) (stateOf (a .matrix .now) (a .rights .now) t)) h t) in
+    let d = gives _ _ _ _ whole _ told _ _ _ left (state-left _ _ _ _) (c .before .before .give-taken .ensures) in
     (d .0, (d .1, answers))
 
 same-length-5 : tie.Need-same-length-5
 same-length-5 c = search needs
 
-same-length-6 : tie.Need-same-length-6
-same-length-6 c = search needs
-
-same-length-7 : tie.Need-same-length-7
-same-length-7 c = search needs
-
-same-length-8 : tie.Need-same-length-8
-same-length-8 c = search needs
-
 returns-2 : tie.Need-returns-2
 returns-2 c =
-    let a = c .before .before .before .before .before .before .before .before .before .before .before .before .before .before .before .before .before .before .before .before .before .before .before .args in
-    let h = c .before .before .before .before .before .before .before .before .before .before .before .before .before .before .before .heading-in .ensures in
-    let t = c .before .before .before .before .before .before .before .before .before .before .before .before .before .tally-in .ensures in
-    let whole = sym (c .before .before .before .before .before .before .before .before .before .before .before .before .before .before .before .before .before .has-both .ensures) ∙ c .before .before .before .before .before .before .before .before .before .before .before .before .before .before .before .before .if1 .taken in
-    let told = sym (ap toldTake (c .before .before .answer .given .1)) ∙ c .before .before .before .before .before .before .before .before .before .take-run .ensures .0 ∙ ap₂ (λ h t. answered (runNumber h (a .run .now) (length (a .answers .now)) (stateOf (a .matrix .now) (a .rights .now) t)) tt) h t in
-    let left = c .before .before .before .before .before .before .before .before .before .take-run .ensures .1 .0 ∙ ap₂ (λ h t. runState h (a .run .now) (length (a .answers .now)) (stateOf (a .matrix .now) (a .rights .now) t)) h t in
-    let answers = answers-whole _ _ _ _ whole _ (c .before .before .before .before .before .before .before .before .before .take-run .ensures .1 .1 ∙ ap₂ (λ h t. runAnswers h (a .run .now) (a .answers .now) (stateOf (a .matrix .now) (a .rights .now) t)) h t) in
-    let e = c .before .before .answer .given .0 .0 in
-    let same = left ∙ run-kept _ _ _ _ e told in
-    let d = kept _ _ _ _ whole _ _ e _ told (c .number .ensures) (ap (λ s. s .matrix) same) (ap (λ s. s .rights) same) in
-    (d .0, (d .1, answers))
-
-same-length-9 : tie.Need-same-length-9
-same-length-9 c = search needs
-
-returns-3 : tie.Need-returns-3
-returns-3 c =
     let e = sym (c .before .has-both .ensures) ∙ c .if1 .left in
     let d = short _ _ _ _ e in
     (d .0, (d .1, answers-short _ _ _ _ e))
@@ -102,19 +67,11 @@ whl-take-run-spec =
     heading-in-requires
     tally-in-requires
     take-run-requires
-    enum-told
-    put-tally-requires
-    enum-known-answer
-    number-requires
+    give-taken-requires
     same-length
     same-length-2
     same-length-3
     same-length-4
     returns
     same-length-5
-    same-length-6
-    same-length-7
-    same-length-8
-    returns-2
-    same-length-9
-    returns-3)
+    returns-2)

@@ -1,0 +1,120 @@
+// Inner to `wheloruka`: what a call answers for what an entry told, in numbers, with its results in lent room.
+use arcread::ArcRead;
+use normmerge::MergeAnswer;
+use section::ReadAnswer;
+use section::WriteAnswer;
+use takeone::TakeAnswer;
+use takeone::Taken;
+ghost use mathlib.Core.Path.{_≡_};
+ghost use Prim.Native.Nat.{_≤_};
+ghost use lib.ListN.{length};
+ghost use Rattle.words.specs.Words.{lay};
+ghost use Rattle.refusal.specs.First.{numberIn};
+ghost use Rattle.section.specs.Told.{toldAnswer, toldWrite, onDone};
+ghost use Rattle.rooms.specs.Result.{resultNumber, resultLeft};
+ghost use Rattle.arcread.specs.Arc.{toldRead};
+ghost use Rattle.lenttally.specs.Tally.{tallyBytes};
+ghost use Rattle.takeone.specs.Told.{toldTake};
+ghost use Rattle.normmerge.specs.Files.{toldMerge};
+ghost use Rattle.calling.specs.Reading.{arcOf, placeOf, judgedNumber, readRoomy, readNumber, headingLeft, placesLeft};
+ghost use Rattle.calling.specs.Writing.{sized, mergeNumber};
+
+// ---- files that are read
+
+// The refusal of a file, 0 where there is none.
+pub fn read_number(answer: ReadAnswer) -> u32
+    ensures { λ r. ⌜ r ≡ judgedNumber (toldAnswer answer) ⌝ }
+{
+    match answer {
+        ReadAnswer::Refused(e, _) => refusal::number(e),
+        ReadAnswer::Read => 0,
+    }
+}
+
+// Its place, 0 where there is none.
+pub fn read_place(answer: ReadAnswer) -> u64
+    ensures { λ r. ⌜ r ≡ placeOf (toldAnswer answer) ⌝ }
+{
+    match answer {
+        ReadAnswer::Refused(_, place) => place as u64,
+        ReadAnswer::Read => 0,
+    }
+}
+
+// Whether there is room for a heading and for two numbers.
+fn is_roomy(parameters: usize, stations: usize, room: usize, out: usize) -> bool
+    requires { ⌜ (parameters ≤ 50) × (stations ≤ 16) ⌝ }
+    ensures { λ r. ⌜ r ≡ readRoomy parameters stations room out ⌝ }
+{
+    if 16 + 16 * parameters + 8 * stations <= room {
+        2 <= out
+    } else {
+        false
+    }
+}
+
+// An arc file's heading in one room; the number of its records and the first one's place in another.
+pub fn give_arc(r: ArcRead, heading: &mut [u8], out: &mut [u64]) -> u32
+    requires { ⌜ (r .heading .parameters ≤ 50) × (r .heading .stations ≤ 16) ⌝ }
+    ensures { λ k. ⌜ k ≡ readNumber (arcOf (toldRead r)) (length (now (heading .entry))) (length (now (out .entry))) ⌝ }
+    ensures heading { λ _. ⌜ now (heading .exit) ≡ headingLeft (arcOf (toldRead r)) (now (heading .entry)) (length (now (out .entry))) ⌝ }
+    ensures places { λ _. ⌜ now (out .exit) ≡ placesLeft (arcOf (toldRead r)) (length (now (heading .entry))) (now (out .entry)) ⌝ }
+{
+    let answer = r.answer;
+    let h = r.heading;
+    match answer {
+        ReadAnswer::Refused(e, _) => refusal::number(e),
+        ReadAnswer::Read => {
+            if is_roomy(h.parameters, h.stations, heading.len(), out.len()) {
+                lent::put_heading(h, heading);
+                rooms::give_two(out, r.count as u64, r.start as u64)
+            } else {
+                20
+            }
+        }
+    }
+}
+
+// ---- bytes that are written
+
+// The number of bytes in a room of its own, or the refusal.
+pub fn give_written(size: &mut [u64], answer: WriteAnswer) -> u32
+    ensures { λ r. ⌜ r ≡ resultNumber (sized (toldWrite answer)) (length (now (size .entry))) ⌝ }
+    ensures left { λ _. ⌜ now (size .exit) ≡ resultLeft (sized (toldWrite answer)) (now (size .entry)) ⌝ }
+{
+    match answer {
+        WriteAnswer::Is(n) => rooms::give_place(size, n as u64),
+        WriteAnswer::Refused(e) => refusal::number(e),
+    }
+}
+
+// The same of two files merged: a file's own refusal plus 100 for the first, plus 200 for the second.
+pub fn give_merged(size: &mut [u64], answer: MergeAnswer) -> u32
+    ensures { λ r. ⌜ r ≡ resultNumber (sized (mergeNumber (toldMerge answer))) (length (now (size .entry))) ⌝ }
+    ensures left { λ _. ⌜ now (size .exit) ≡ resultLeft (sized (mergeNumber (toldMerge answer))) (now (size .entry)) ⌝ }
+{
+    match answer {
+        MergeAnswer::Is(n) => rooms::give_place(size, n as u64),
+        MergeAnswer::First(e, _) => 100 + refusal::number(e),
+        MergeAnswer::Second(e, _) => 200 + refusal::number(e),
+        MergeAnswer::Refused(e) => refusal::number(e),
+    }
+}
+
+// ---- records that are taken
+
+// The tally after a taking in its room, or the refusal.
+pub fn give_taken(taken: Taken, tally: &mut [u8]) -> u32
+    ensures { λ r. ⌜ r ≡ numberIn (toldTake (taken .answer)) ⌝ }
+    ensures left { λ _. ⌜ now (tally .exit) ≡ onDone (toldTake (taken .answer)) (lay (now (tally .entry)) 0 (tallyBytes (taken .tally))) (now (tally .entry)) ⌝ }
+{
+    let answer = taken.answer;
+    let after = taken.tally;
+    match answer {
+        TakeAnswer::Accepted => {
+            lenttally::put_tally(after, tally);
+            0
+        }
+        TakeAnswer::Refused(e) => refusal::number(e),
+    }
+}

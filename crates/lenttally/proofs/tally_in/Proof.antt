@@ -1,0 +1,22 @@
+-- `lenttally::tally_in` meets its contract: each part is what stands at its place.
+-- Assumes nothing.
+use Rattle.lenttally.specs.Tally.{tallyIn}
+use borrow.Author.Needs.{needs}
+use Rattle.lenttally.proofs.tally_in.Statement.{statement}
+use Rattle.lenttally.proofs.tally_in.Tie as tie
+
+counts-in-requires : tie.Need-counts-in-requires
+counts-in-requires c κs = search needs
+
+rows-in-requires : tie.Need-rows-in-requires
+rows-in-requires c κs = search needs
+
+read-u64-requires : tie.Need-read-u64-requires
+read-u64-requires c κs = search needs
+
+returns : tie.Need-returns
+unfolding tallyIn
+returns c = cc
+
+pub tally-in-spec : {M : Type 1} → statement M
+tally-in-spec = tie.close (tie.spec counts-in-requires rows-in-requires read-u64-requires returns)
