@@ -32,10 +32,6 @@ numbers-least h = length-map (take (h .stations) (h .listed)) stationKey ∙ len
 pub numbers-few : (h : Heading) → length (numbersOf (stationsOf h)) ≤ h .stations
 numbers-few h = omega (arith, numbers-least h)
 
--- of a heading whose array is whole, as many numbers as it counts stations
-pub length-numbers : (h : Heading) → length (h .listed) ≡ 16 → h .stations ≤ 16 → length (numbersOf (stationsOf h)) ≡ h .stations
-length-numbers h e l = omega (arith, numbers-least h)
-
 pub fine : (h : Heading) → Sound h → Fine (frameOf h)
 unfolding settingsOk
 fine h v = record {

@@ -34,7 +34,7 @@ pub fn needed(parameters: usize, stations: usize, bytes: usize) -> usize
     28 + 16 * parameters + 8 * stations + bytes
 }
 
-// ---- the bytes of each section
+// ---- the bytes of one record, and of the run
 
 // A byte for which there is no room is dropped, as in every record that is put.
 pub fn put_settings(out: &mut [u8], at: usize, s: Settings)

@@ -27,8 +27,6 @@ struct HeadingRead {
     next: usize,
 }
 
-// ---- the file
-
 fn blank() -> Heading
     ensures { λ r. ⌜ r ≡ blank ⌝ }
 {

@@ -165,9 +165,6 @@ module _ (f : Frame) (b : List ℕ) (r : Record) (e : r ≡ recordIn b) where
   pub sigma-is : sigmaOk (r .sigma) ≡ sigmaOk (recordIn b .sigma)
   sigma-is = ap (λ x. sigmaOk (x .sigma)) e
 
-  pub clock-is : clockOk (r .day) (r .ms) ≡ clockOk (recordIn b .day) (recordIn b .ms)
-  clock-is = ap (λ x. clockOk (x .day) (x .ms)) e
-
   pub residual-is : residualOf (reading (r .kind) (r .observed) (r .computed)) ≡ residualIn b
   unfolding residualIn
   residual-is = ap (λ x. residualOf (reading (x .kind) (x .observed) (x .computed))) e

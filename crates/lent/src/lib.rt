@@ -11,7 +11,7 @@ ghost use Rattle.arcsections.specs.Sections.{padded};
 ghost use Rattle.words.specs.Stands.{stands};
 ghost use Rattle.lent.specs.Lent.{headingIn, headingBytes, hasHeading, hasBoth};
 
-// ---- a heading, read
+// ---- reading
 
 // A number of labels or stations; past its capacity it stands as the capacity.
 fn held(b: &[u8], at: usize, most: usize) -> usize
@@ -84,7 +84,7 @@ pub fn heading_in(b: &[u8]) -> Heading
     }
 }
 
-// ---- a heading, written
+// ---- writing
 
 // A heading's bytes at the front of a room; a byte for which there is no room is dropped.
 pub fn put_heading(h: Heading, out: &mut [u8])

@@ -1,5 +1,5 @@
--- The loops over a heading's and a tally's values: what stands at n places put into an array of one filling (turn and end are laws of
--- `normread`), and records laid one after the other.
+-- The loops over a heading's and a tally's values: what stands at n places put into an array of one filling (turn and end are in
+-- words/proofs/Stands.antt), and records laid one after the other.
 -- Assumes nothing.
 use Prim.Native.Nat.{ℕ, _+_, _-_, _≤_, _<_}
 use mathlib.Core.Path.{_≡_, sym, ap, _∙_}

@@ -9,7 +9,7 @@ ghost use Rattle.words.specs.Stands.{stands};
 ghost use Rattle.section.specs.Section.{encoded};
 ghost use Rattle.lenttally.specs.Tally.{rowAt, tallyIn, rowBytes, tallyBytes, hasTally};
 
-// ---- a tally, read
+// ---- reading
 
 pub fn has_tally(b: &[u8]) -> bool
     ensures { λ r. ⌜ r ≡ hasTally (now (b .entry)) ⌝ }
@@ -74,7 +74,7 @@ pub fn tally_in(b: &[u8]) -> Tally
     }
 }
 
-// ---- a tally, written
+// ---- writing
 
 fn put_counts(counts: [u32; 16], out: &mut [u8])
     ensures { λ _. ⌜ now (out .exit) ≡ lay (now (out .entry)) 8 (encoded (bytesOf 4) counts) ⌝ }

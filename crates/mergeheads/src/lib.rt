@@ -9,8 +9,6 @@ ghost use Rattle.normkinds.specs.Kinds.{arcBytes, normalLabelBytes};
 ghost use Rattle.mergesums.specs.Table.{rowsOf};
 ghost use Rattle.mergeheads.specs.Heads.{numberIn, numberAt, labelIn, labelOf, Somewhere, Short};
 
-// ---- writing
-
 fn number_in(xs: &[u64], ys: &[u64], p: usize, q: usize) -> u64
     requires { ⌜ (length (now xs) ≤ p → q < length (now ys)) ⌝ }
     ensures { λ r. ⌜ r ≡ numberIn (now (xs .entry)) (now (ys .entry)) p q ⌝ }

@@ -10,7 +10,7 @@ ghost use Rattle.words.specs.Stands.{stands};
 ghost use Rattle.normroom.specs.Room.{headsLong, labelIn, countsFit};
 ghost use Rattle.normfields.specs.Fields.{bareLabel, isSmall, Small, allFit, allAscend};
 
-// ---- 20 and 2
+// ---- 2
 
 pub fn counts_fit(arcs: usize, parameters: usize) -> bool
     ensures { λ r. ⌜ r ≡ countsFit arcs parameters ⌝ }

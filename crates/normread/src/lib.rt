@@ -24,8 +24,6 @@ pub struct NormalRead {
     pub totals: usize,
 }
 
-// ---- the file
-
 fn refused(r: Refusal, place: usize) -> NormalRead
     ensures { λ a. ⌜ toldRead a ≡ shownBad (numberOf r) place ⌝ }
 {

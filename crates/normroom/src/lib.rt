@@ -3,8 +3,6 @@ ghost use mathlib.Core.Path.{_≡_};
 ghost use Prim.Native.Nat.{_+_, _*_, _≤_};
 ghost use Rattle.normroom.specs.Room.{roomyFor, fileLong};
 
-// ---- sizes
-
 // The length of a file of so many arcs and parameters.
 pub fn needed(arcs: usize, parameters: usize) -> usize
     requires { ⌜ (arcs ≤ 16) × (parameters ≤ 500) ⌝ }

@@ -18,8 +18,6 @@ pub enum SumsAnswer {
     Refused(Refusal, usize),
 }
 
-// ---- sums
-
 // A section whose count can only be n, of records that are judged by their length alone.
 fn read_plain(s: &[u8], at: usize, n: u32, size: usize) -> PlaceAnswer
     requires { ⌜ (n ≤ 125250) × (size ≤ 16) ⌝ }

@@ -33,7 +33,7 @@ fn answers_room() -> [u8; 65535]
     [0; 65535]
 }
 
-// ---- the listing
+// ---- the lines
 
 // The lines of an arc with so many records in a run, whose sums and answers are worked out in room of just their lengths.
 fn put_run(

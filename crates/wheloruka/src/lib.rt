@@ -1,21 +1,11 @@
 // The library for callers in C and in Rust: numbers and slices only, no requirement on any of them. A call answers 0 where it is done, else the
 // paper's refusal number; results go into lent room, and a refusal changes nothing there. include/wheloruka.h declares the calls.
-use cells::Cell;
-use cells::CellAnswer;
-use cells::IndexAnswer;
-use cells::Letter;
 use days::Date;
-use days::DateAnswer;
-use days::DayAnswer;
 use heading::Verdict;
-use refusal::Refusal;
 use section::ReadAnswer;
-use units::DoubleAnswer;
-use units::UnitAnswer;
 ghost use mathlib.Core.Path.{_≡_};
 ghost use lib.ListN.{length};
 ghost use Rattle.rooms.specs.Result.{resultNumber, resultLeft, roomFor, bytesLeft};
-ghost use Rattle.cells.specs.Cells.{toldIndex};
 ghost use Rattle.arcread.specs.Arc.{readArc};
 ghost use Rattle.normread.specs.Normal.{readNormal};
 ghost use Rattle.normroom.specs.Room.{headsOf};
@@ -23,16 +13,7 @@ ghost use Rattle.normunpack.specs.Unpack.{unpackNormal, filled, matrixOf, right
 ghost use Rattle.normwrite.specs.Write.{writeNormal, leftIn};
 ghost use Rattle.normmerge.specs.Files.{mergeAnswer, mergeLeft};
 ghost use Rattle.listing.specs.Listing.{listAnswer, listLeft};
-ghost use Rattle.wheloruka.specs.Numbers.{
-  dayValues,
-  dateValues,
-  letterNumber,
-  cellValues,
-  indexBy,
-  indexValues,
-  unitValues,
-  doubleValues,
-};
+ghost use Rattle.wheloruka.specs.Numbers.{dayValues, dateValues, cellValues, indexValues, unitValues, doubleValues};
 ghost use Rattle.calling.specs.Reading.{placeOf, readNumber, headingLeft, placesLeft, judgedNumber};
 ghost use Rattle.wheloruka.specs.Reading.{normalValues};
 ghost use Rattle.wheloruka.specs.Taking.{
@@ -58,10 +39,7 @@ pub extern "C" fn whl_day_of_date(year: u32, month: u32, day: u32, out: &mut [u3
     ensures { λ r. ⌜ r ≡ resultNumber (dayValues year month day) (length (now (out .entry))) ⌝ }
     ensures left { λ _. ⌜ now (out .exit) ≡ resultLeft (dayValues year month day) (now (out .entry)) ⌝ }
 {
-    match days::day_of_date(Date { year, month, day }) {
-        DayAnswer::Is(n) => rooms::give_one(out, n),
-        DayAnswer::Refused(e) => refusal::number(e),
-    }
+    giving::give_day(out, days::day_of_date(Date { year, month, day }))
 }
 
 // The year, the month and the day of a day number.
@@ -70,22 +48,10 @@ pub extern "C" fn whl_date_of_day(day: u32, out: &mut [u32]) -> u32
     ensures { λ r. ⌜ r ≡ resultNumber (dateValues day) (length (now (out .entry))) ⌝ }
     ensures left { λ _. ⌜ now (out .exit) ≡ resultLeft (dateValues day) (now (out .entry)) ⌝ }
 {
-    match days::date_of_day(day) {
-        DateAnswer::Is(t) => rooms::give_three(out, t.year, t.month, t.day),
-        DateAnswer::Refused(e) => refusal::number(e),
-    }
+    giving::give_date(out, days::date_of_day(day))
 }
 
 // ---- cells
-
-fn letter_number(l: Letter) -> u32
-    ensures { λ r. ⌜ r ≡ letterNumber l ⌝ }
-{
-    match l {
-        Letter::C => 67,
-        Letter::S => 83,
-    }
-}
 
 // The letter, the degree and the order of the cell at an index.
 #[no_mangle]
@@ -93,43 +59,16 @@ pub extern "C" fn whl_cell_at(index: u32, out: &mut [u32]) -> u32
     ensures { λ r. ⌜ r ≡ resultNumber (cellValues index) (length (now (out .entry))) ⌝ }
     ensures left { λ _. ⌜ now (out .exit) ≡ resultLeft (cellValues index) (now (out .entry)) ⌝ }
 {
-    match cells::cell_at(index) {
-        CellAnswer::Is(c) => {
-            let letter = c.letter;
-            rooms::give_three(out, letter_number(letter), c.degree, c.order)
-        }
-        CellAnswer::Refused(e) => refusal::number(e),
-    }
+    giving::give_cell(out, cells::cell_at(index))
 }
 
 // The index of a cell by its letter's number.
-fn index_by(letter: u32, degree: u32, order: u32) -> IndexAnswer
-    ensures { λ r. ⌜ toldIndex r ≡ indexBy letter degree order ⌝ }
-{
-    match letter {
-        67 => cells::index_of(Cell {
-            letter: Letter::C,
-            degree,
-            order,
-        }),
-        83 => cells::index_of(Cell {
-            letter: Letter::S,
-            degree,
-            order,
-        }),
-        _ => IndexAnswer::Refused(Refusal::Limits),
-    }
-}
-
 #[no_mangle]
 pub extern "C" fn whl_index_of(letter: u32, degree: u32, order: u32, out: &mut [u32]) -> u32
     ensures { λ r. ⌜ r ≡ resultNumber (indexValues letter degree order) (length (now (out .entry))) ⌝ }
     ensures left { λ _. ⌜ now (out .exit) ≡ resultLeft (indexValues letter degree order) (now (out .entry)) ⌝ }
 {
-    match index_by(letter, degree, order) {
-        IndexAnswer::Is(n) => rooms::give_one(out, n),
-        IndexAnswer::Refused(e) => refusal::number(e),
-    }
+    giving::give_index(out, giving::index_by(letter, degree, order))
 }
 
 // ---- units
@@ -140,10 +79,7 @@ pub extern "C" fn whl_unit_of(kind: u32, x: f64, out: &mut [i64]) -> u32
     ensures { λ r. ⌜ r ≡ resultNumber (unitValues kind x) (length (now (out .entry))) ⌝ }
     ensures left { λ _. ⌜ now (out .exit) ≡ resultLeft (unitValues kind x) (now (out .entry)) ⌝ }
 {
-    match units::unit_of(kind, x) {
-        UnitAnswer::Is(q) => rooms::give_unit(out, q),
-        UnitAnswer::Refused(e) => refusal::number(e),
-    }
+    giving::give_unit(out, units::unit_of(kind, x))
 }
 
 // The double of a unit of a type.
@@ -152,10 +88,7 @@ pub extern "C" fn whl_double_of(kind: u32, unit: i64, out: &mut [f64]) -> u32
     ensures { λ r. ⌜ r ≡ resultNumber (doubleValues kind unit) (length (now (out .entry))) ⌝ }
     ensures left { λ _. ⌜ now (out .exit) ≡ resultLeft (doubleValues kind unit) (now (out .entry)) ⌝ }
 {
-    match units::double_of_unit(kind, unit) {
-        DoubleAnswer::Is(x) => rooms::give_double(out, x),
-        DoubleAnswer::Refused(e) => refusal::number(e),
-    }
+    giving::give_double(out, units::double_of_unit(kind, unit))
 }
 
 // ---- files

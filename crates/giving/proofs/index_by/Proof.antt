@@ -1,12 +1,12 @@
--- `wheloruka::index_by` meets its contract: one test a letter.
+-- `giving::index_by` meets its contract: one test a letter.
 -- Assumes nothing.
 use mathlib.Core.Path.{refl}
 use native.Mathlib.Omega.{arith}
 use Rattle.whole.proofs.Cases.{yes, no, is-same, not-same}
-use Rattle.wheloruka.specs.Numbers.{indexBy}
+use Rattle.giving.specs.Given.{indexBy}
 use borrow.Author.Needs.{needs}
-use Rattle.wheloruka.proofs.index_by.Statement.{statement}
-use Rattle.wheloruka.proofs.index_by.Tie as tie
+use Rattle.giving.proofs.index_by.Statement.{statement}
+use Rattle.giving.proofs.index_by.Tie as tie
 
 index-of-requires : tie.Need-index-of-requires
 index-of-requires c κs = search needs

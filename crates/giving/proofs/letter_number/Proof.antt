@@ -1,10 +1,10 @@
--- `wheloruka::letter_number` meets its contract.
+-- `giving::letter_number` meets its contract.
 -- Assumes nothing.
 use mathlib.Core.Path.{sym, ap}
-use Rattle.wheloruka.specs.Numbers.{letterNumber}
+use Rattle.giving.specs.Given.{letterNumber}
 use borrow.Author.Needs.{needs}
-use Rattle.wheloruka.proofs.letter_number.Statement.{statement}
-use Rattle.wheloruka.proofs.letter_number.Tie as tie
+use Rattle.giving.proofs.letter_number.Statement.{statement}
+use Rattle.giving.proofs.letter_number.Tie as tie
 
 enum-told : tie.Need-enum-told
 enum-told c = search needs

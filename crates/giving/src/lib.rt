@@ -1,0 +1,114 @@
+// Inner to `wheloruka`: what days, cells and units answer, put into lent room; cells by their letters' numbers.
+use cells::Cell;
+use cells::CellAnswer;
+use cells::IndexAnswer;
+use cells::Letter;
+use days::DateAnswer;
+use days::DayAnswer;
+use refusal::Refusal;
+use units::DoubleAnswer;
+use units::UnitAnswer;
+ghost use mathlib.Core.Path.{_≡_};
+ghost use lib.ListN.{length};
+ghost use Rattle.rooms.specs.Result.{resultNumber, resultLeft, told, one};
+ghost use Rattle.days.specs.Calendar.{toldDay, toldDate};
+ghost use Rattle.cells.specs.Cells.{toldCell, toldIndex};
+ghost use Rattle.units.specs.Units.{toldUnit, toldDouble};
+ghost use Rattle.giving.specs.Given.{dateNumbers, letterNumber, cellNumbers, indexBy};
+
+// ---- days
+
+pub fn give_day(out: &mut [u32], answer: DayAnswer) -> u32
+    ensures { λ r. ⌜ r ≡ resultNumber (told one (toldDay answer)) (length (now (out .entry))) ⌝ }
+    ensures left { λ _. ⌜ now (out .exit) ≡ resultLeft (told one (toldDay answer)) (now (out .entry)) ⌝ }
+{
+    match answer {
+        DayAnswer::Is(n) => rooms::give_one(out, n),
+        DayAnswer::Refused(e) => refusal::number(e),
+    }
+}
+
+pub fn give_date(out: &mut [u32], answer: DateAnswer) -> u32
+    ensures { λ r. ⌜ r ≡ resultNumber (told dateNumbers (toldDate answer)) (length (now (out .entry))) ⌝ }
+    ensures left { λ _. ⌜ now (out .exit) ≡ resultLeft (told dateNumbers (toldDate answer)) (now (out .entry)) ⌝ }
+{
+    match answer {
+        DateAnswer::Is(t) => rooms::give_three(out, t.year, t.month, t.day),
+        DateAnswer::Refused(e) => refusal::number(e),
+    }
+}
+
+// ---- cells
+
+fn letter_number(l: Letter) -> u32
+    ensures { λ r. ⌜ r ≡ letterNumber l ⌝ }
+{
+    match l {
+        Letter::C => 67,
+        Letter::S => 83,
+    }
+}
+
+pub fn give_cell(out: &mut [u32], answer: CellAnswer) -> u32
+    ensures { λ r. ⌜ r ≡ resultNumber (told cellNumbers (toldCell answer)) (length (now (out .entry))) ⌝ }
+    ensures left { λ _. ⌜ now (out .exit) ≡ resultLeft (told cellNumbers (toldCell answer)) (now (out .entry)) ⌝ }
+{
+    match answer {
+        CellAnswer::Is(c) => {
+            let letter = c.letter;
+            rooms::give_three(out, letter_number(letter), c.degree, c.order)
+        }
+        CellAnswer::Refused(e) => refusal::number(e),
+    }
+}
+
+// The index of a cell by its letter's number.
+pub fn index_by(letter: u32, degree: u32, order: u32) -> IndexAnswer
+    ensures { λ r. ⌜ toldIndex r ≡ indexBy letter degree order ⌝ }
+{
+    match letter {
+        67 => cells::index_of(Cell {
+            letter: Letter::C,
+            degree,
+            order,
+        }),
+        83 => cells::index_of(Cell {
+            letter: Letter::S,
+            degree,
+            order,
+        }),
+        _ => IndexAnswer::Refused(Refusal::Limits),
+    }
+}
+
+pub fn give_index(out: &mut [u32], answer: IndexAnswer) -> u32
+    ensures { λ r. ⌜ r ≡ resultNumber (told one (toldIndex answer)) (length (now (out .entry))) ⌝ }
+    ensures left { λ _. ⌜ now (out .exit) ≡ resultLeft (told one (toldIndex answer)) (now (out .entry)) ⌝ }
+{
+    match answer {
+        IndexAnswer::Is(n) => rooms::give_one(out, n),
+        IndexAnswer::Refused(e) => refusal::number(e),
+    }
+}
+
+// ---- units
+
+pub fn give_unit(out: &mut [i64], answer: UnitAnswer) -> u32
+    ensures { λ r. ⌜ r ≡ resultNumber (told one (toldUnit answer)) (length (now (out .entry))) ⌝ }
+    ensures left { λ _. ⌜ now (out .exit) ≡ resultLeft (told one (toldUnit answer)) (now (out .entry)) ⌝ }
+{
+    match answer {
+        UnitAnswer::Is(q) => rooms::give_unit(out, q),
+        UnitAnswer::Refused(e) => refusal::number(e),
+    }
+}
+
+pub fn give_double(out: &mut [f64], answer: DoubleAnswer) -> u32
+    ensures { λ r. ⌜ r ≡ resultNumber (told one (toldDouble answer)) (length (now (out .entry))) ⌝ }
+    ensures left { λ _. ⌜ now (out .exit) ≡ resultLeft (told one (toldDouble answer)) (now (out .entry)) ⌝ }
+{
+    match answer {
+        DoubleAnswer::Is(x) => rooms::give_double(out, x),
+        DoubleAnswer::Refused(e) => refusal::number(e),
+    }
+}
