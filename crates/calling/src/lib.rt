@@ -11,13 +11,13 @@ ghost use lib.ListN.{length};
 ghost use Rattle.words.specs.Words.{lay};
 ghost use Rattle.refusal.specs.First.{numberIn};
 ghost use Rattle.section.specs.Told.{toldAnswer, toldWrite, onDone};
-ghost use Rattle.rooms.specs.Result.{resultNumber, resultLeft};
+ghost use Rattle.rooms.specs.Result.{resultNumber, resultLeft, told, one};
 ghost use Rattle.arcread.specs.Arc.{toldRead};
 ghost use Rattle.lenttally.specs.Tally.{tallyBytes};
 ghost use Rattle.takeone.specs.Told.{toldTake};
 ghost use Rattle.normmerge.specs.Files.{toldMerge};
 ghost use Rattle.calling.specs.Reading.{arcOf, placeOf, judgedNumber, readRoomy, readNumber, headingLeft, placesLeft};
-ghost use Rattle.calling.specs.Writing.{sized, mergeNumber};
+ghost use Rattle.calling.specs.Writing.{mergeNumber};
 
 // ---- files that are read
 
@@ -79,8 +79,8 @@ pub fn give_arc(r: ArcRead, heading: &mut [u8], out: &mut [u64]) -> u32
 
 // The number of bytes in a room of its own, or the refusal.
 pub fn give_written(size: &mut [u64], answer: WriteAnswer) -> u32
-    ensures { λ r. ⌜ r ≡ resultNumber (sized (toldWrite answer)) (length (now (size .entry))) ⌝ }
-    ensures left { λ _. ⌜ now (size .exit) ≡ resultLeft (sized (toldWrite answer)) (now (size .entry)) ⌝ }
+    ensures { λ r. ⌜ r ≡ resultNumber (told one (toldWrite answer)) (length (now (size .entry))) ⌝ }
+    ensures left { λ _. ⌜ now (size .exit) ≡ resultLeft (told one (toldWrite answer)) (now (size .entry)) ⌝ }
 {
     match answer {
         WriteAnswer::Is(n) => rooms::give_place(size, n as u64),
@@ -90,8 +90,8 @@ pub fn give_written(size: &mut [u64], answer: WriteAnswer) -> u32
 
 // The same of two files merged: a file's own refusal plus 100 for the first, plus 200 for the second.
 pub fn give_merged(size: &mut [u64], answer: MergeAnswer) -> u32
-    ensures { λ r. ⌜ r ≡ resultNumber (sized (mergeNumber (toldMerge answer))) (length (now (size .entry))) ⌝ }
-    ensures left { λ _. ⌜ now (size .exit) ≡ resultLeft (sized (mergeNumber (toldMerge answer))) (now (size .entry)) ⌝ }
+    ensures { λ r. ⌜ r ≡ resultNumber (told one (mergeNumber (toldMerge answer))) (length (now (size .entry))) ⌝ }
+    ensures left { λ _. ⌜ now (size .exit) ≡ resultLeft (told one (mergeNumber (toldMerge answer))) (now (size .entry)) ⌝ }
 {
     match answer {
         MergeAnswer::Is(n) => rooms::give_place(size, n as u64),

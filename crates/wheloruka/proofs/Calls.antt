@@ -14,7 +14,6 @@ use Rattle.refusal.specs.Number.{numberOf}
 use Rattle.refusal.specs.First.{answered, numberIn}
 use Rattle.refusal.specs.declared.Refusal.{Refusal}
 use Rattle.refusal.proofs.Apart.{not-none}
-use Rattle.refusal.proofs.Firsts as firsts
 use Rattle.refusal.proofs.Firsts.{unless-true, unless-false, first-pass, first-stop, first-one, answered-given, answered-refused}
 use Rattle.heading.specs.declared.Heading.{Heading}
 use Rattle.tally.specs.Tally.{emptyTally}
@@ -25,6 +24,7 @@ use Rattle.account.specs.Taking.{takeAnswer, takeStep, runAnswers}
 use Rattle.lent.specs.Lent.{headingIn, hasBoth}
 use Rattle.lenttally.specs.Tally.{tallyBytes}
 use Rattle.section.specs.Told.{onDone}
+use Rattle.calling.proofs.Rooms.{is-done, is-kept}
 use Rattle.wheloruka.specs.Taking.{Lent, lent, stateIn, lentNumber, callNumber, callLeft, answersLeft}
 
 -- ---- any call: k is the number that follows
@@ -70,14 +70,6 @@ module _ (b : List ℕ) (x : Lent) (k : ℕ) where
           (is, ap₂ (λ y z. lent (x .tally) y z) f g ∙ left-kept (λ z. not-none e (sym i ∙ is ∙ z)))
 
 -- ---- a call that answers w: s is the state that it leaves, as it was where the number is not 0
-on-given : {A : Type 0} (w : Answered A) (new old : List ℕ) {a : A} → w ≡ given a → onDone w new old ≡ new
-unfolding onDone
-on-given w new old e = rw e
-
-on-refused : {A : Type 0} (w : Answered A) (new old : List ℕ) {k : ℕ} → w ≡ refused k → onDone w new old ≡ old
-unfolding onDone
-on-refused w new old e = rw e
-
 module _ (b : List ℕ) (x : Lent) (k : ℕ) (s : State) (whole : hasBoth b (x .tally) ≡ true) (w : Answered (Unit {0})) (told : w ≡ answered k tt)
     (m r : List ℤ) (u : Tally) (after : stateOf m r u ≡ s) (as-it-was : (k ≡ 0 → ⊥) → s ≡ stateIn x)
   where
@@ -87,15 +79,17 @@ module _ (b : List ℕ) (x : Lent) (k : ℕ) (s : State) (whole : hasBoth b (x .
         by-cases (same k 0)
         (λ y.
         let e : w ≡ given tt = told ∙ sym (answered-given k tt (same-true k 0 y)) in
-        let d = done b x k s whole m r _ u (put .1 ∙ on-given w _ _ e) (sym e ∙ told) after in
-        (put .0 ∙ firsts.number-given w tt e ∙ d .0, d .1))
+        let new = is-done w (lay (x .tally) 0 (tallyBytes u)) (x .tally) e refl in
+        let d = done b x k s whole m r _ u (put .1 ∙ sym (new .1)) (sym e ∙ told) after in
+        (put .0 ∙ sym (new .0) ∙ d .0, d .1))
         (λ y.
         let some : k ≡ 0 → ⊥ = same-false k 0 y in
         let e : w ≡ refused k = told ∙ sym (answered-refused k tt some) in
+        let old = is-kept w (lay (x .tally) 0 (tallyBytes u)) (x .tally) e refl in
         let back = after ∙ as-it-was some in
         let is = number-is b x k whole in
         let was = ap₂ (λ p q. lent (x .tally) p q) (ap (λ v. v .matrix) back) (ap (λ v. v .rights) back) in
-        (put .0 ∙ firsts.number-refused w k e ∙ sym is, ap (λ p. lent p m r) (put .1 ∙ on-refused w _ _ e) ∙ was ∙ left-kept b x k s (λ z. some (sym is ∙ z))))
+        (put .0 ∙ sym (old .0) ∙ sym is, ap (λ p. lent p m r) (put .1 ∙ sym (old .1)) ∙ was ∙ left-kept b x k s (λ z. some (sym is ∙ z))))
 
 -- ---- a refusal leaves the state as it was
 module _ (h : Heading) (m r : List ℤ) (e : Refusal) (is : refused (numberOf e) ≡ answered (roomNumber h m r) (tt {0})) where

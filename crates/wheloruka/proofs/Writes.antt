@@ -12,7 +12,7 @@ use Rattle.whole.proofs.Cases.{yes, no, by-cases}
 use Rattle.system.specs.System.{System}
 use Rattle.normread.specs.Normal as normals
 use Rattle.normread.specs.Normal.{Normal, readNormal}
-use Rattle.rooms.specs.Result.{resultNumber, resultLeft, one, roomFor, bytesLeft}
+use Rattle.rooms.specs.Result.{resultNumber, resultLeft, told, one, roomFor, bytesLeft}
 use Rattle.rooms.proofs.Rooms.{on-refused, part-long, part-left, none-laid}
 use Rattle.lent.specs.Lent.{headingIn, hasBoth}
 use Rattle.normwrite.specs.Write as write
@@ -20,9 +20,9 @@ use Rattle.normstate.specs.OfState as state
 use Rattle.normmerge.specs.Files.{fromFile, pairLeft, mergeLeft}
 use Rattle.listing.specs.Listing.{listLeft}
 use Rattle.wheloruka.specs.Taking.{Lent, stateIn}
-use Rattle.calling.specs.Writing.{sized}
 use Rattle.calling.specs.Reading.{judgedNumber}
 use Rattle.wheloruka.specs.Writing.{stateFile, stateFileLeft}
+use Rattle.wheloruka.proofs.Numbers.{as-told}
 
 -- ---- a file that was unpacked
 pub judged-number : (j : Judged Normal) (r : normals.Shown) → r ≡ normals.shown j → judgedNumber (r .verdict) ≡ judgedNumber j
@@ -34,8 +34,8 @@ judged-number (bad number place) r told = ap (λ x. judgedNumber (x .verdict)) t
 module _ (answer : ℕ → Answered ℕ) (left : List ℕ → List ℕ) (size out : List ℕ) where
   abbrev Done : ℕ → List ℕ → List ℕ → Type 0
   Done k s b =
-      (k ≡ resultNumber (sized (answer (roomFor (length size) (length out)))) (length size))
-      × ((s ≡ resultLeft (sized (answer (roomFor (length size) (length out)))) size)
+      (k ≡ resultNumber (told one (answer (roomFor (length size) (length out)))) (length size))
+      × ((s ≡ resultLeft (told one (answer (roomFor (length size) (length out)))) size)
       × (b ≡ bytesLeft (length size) left out))
 
   -- a part of the room is handed on
@@ -47,14 +47,12 @@ module _ (answer : ℕ → Answered ℕ) (left : List ℕ → List ℕ) (size ou
     bytes e = ap (λ l. l ++ drop room out) e ∙ ap (λ k. left (take k out) ++ drop k out) is ∙ part-left (length size) out left none
 
     pub gives : (w : Answered ℕ) {k : ℕ} {s b : List ℕ} → w ≡ answer (length (take room out))
-        → (k ≡ resultNumber (sized w) (length size)) × (s ≡ resultLeft (sized w) size) → b ≡ left (take room out) → Done k s (b ++ drop room out)
-    gives w e put f =
-        let same : sized w ≡ sized (answer (roomFor (length size) (length out))) = ap sized (e ∙ at-part) in
-        (put .0 ∙ ap (λ x. resultNumber x (length size)) same, (put .1 ∙ ap (λ x. resultLeft x size) same, bytes f))
+        → (k ≡ resultNumber (told one w) (length size)) × (s ≡ resultLeft (told one w) size) → b ≡ left (take room out) → Done k s (b ++ drop room out)
+    gives w e put f = let p = as-told one (e ∙ at-part) size put in (p .0, (p .1, bytes f))
 
   -- nothing is handed on
   pub keeps : (number : ℕ) {k : ℕ} → refused number ≡ answer (roomFor (length size) (length out)) → k ≡ number → left out ≡ out → Done k size out
-  unfolding sized bytesLeft
+  unfolding bytesLeft
   keeps number e i w =
       let d = on-refused one _ size number (sym e) i in
       let same : out ≡ pick (less (length size) 1) out (left out) = by-cases (less (length size) 1) (λ t. yes _ _ _ t refl) (λ t. no _ _ _ t (sym w)) in

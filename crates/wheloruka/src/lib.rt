@@ -5,7 +5,7 @@ use heading::Verdict;
 use section::ReadAnswer;
 ghost use mathlib.Core.Path.{_≡_};
 ghost use lib.ListN.{length};
-ghost use Rattle.rooms.specs.Result.{resultNumber, resultLeft, roomFor, bytesLeft};
+ghost use Rattle.rooms.specs.Result.{resultNumber, resultLeft, told, one, roomFor, bytesLeft};
 ghost use Rattle.arcread.specs.Arc.{readArc};
 ghost use Rattle.normread.specs.Normal.{readNormal};
 ghost use Rattle.normroom.specs.Room.{headsOf};
@@ -28,7 +28,7 @@ ghost use Rattle.wheloruka.specs.Taking.{
   answersLeft,
   seenNumber,
 };
-ghost use Rattle.calling.specs.Writing.{sized, mergeNumber};
+ghost use Rattle.calling.specs.Writing.{mergeNumber};
 ghost use Rattle.wheloruka.specs.Writing.{stateFile, stateFileLeft};
 
 // ---- days
@@ -274,8 +274,8 @@ pub extern "C" fn whl_normal_write(
     out: &mut [u8],
     size: &mut [u64],
 ) -> u32
-    ensures { λ r. ⌜ r ≡ resultNumber (sized (writeNormal arcs parameters (now (heads .entry)) (now (matrix .entry)) (now (rights .entry)) (roomFor (length (now (size .entry))) (length (now (out .entry)))))) (length (now (size .entry))) ⌝ }
-    ensures size { λ _. ⌜ now (size .exit) ≡ resultLeft (sized (writeNormal arcs parameters (now (heads .entry)) (now (matrix .entry)) (now (rights .entry)) (roomFor (length (now (size .entry))) (length (now (out .entry)))))) (now (size .entry)) ⌝ }
+    ensures { λ r. ⌜ r ≡ resultNumber (told one (writeNormal arcs parameters (now (heads .entry)) (now (matrix .entry)) (now (rights .entry)) (roomFor (length (now (size .entry))) (length (now (out .entry)))))) (length (now (size .entry))) ⌝ }
+    ensures size { λ _. ⌜ now (size .exit) ≡ resultLeft (told one (writeNormal arcs parameters (now (heads .entry)) (now (matrix .entry)) (now (rights .entry)) (roomFor (length (now (size .entry))) (length (now (out .entry)))))) (now (size .entry)) ⌝ }
     ensures bytes { λ _. ⌜ now (out .exit) ≡ bytesLeft (length (now (size .entry))) (leftIn arcs parameters (now (heads .entry)) (now (matrix .entry)) (now (rights .entry))) (now (out .entry)) ⌝ }
 {
     let room = rooms::room_for(size.len(), out.len());
@@ -293,8 +293,8 @@ pub extern "C" fn whl_of_state(
     out: &mut [u8],
     size: &mut [u64],
 ) -> u32
-    ensures { λ r. ⌜ r ≡ resultNumber (sized (stateFile (now (heading .entry)) (lent (now (tally .entry)) (now (matrix .entry)) (now (rights .entry))) (roomFor (length (now (size .entry))) (length (now (out .entry)))))) (length (now (size .entry))) ⌝ }
-    ensures size { λ _. ⌜ now (size .exit) ≡ resultLeft (sized (stateFile (now (heading .entry)) (lent (now (tally .entry)) (now (matrix .entry)) (now (rights .entry))) (roomFor (length (now (size .entry))) (length (now (out .entry)))))) (now (size .entry)) ⌝ }
+    ensures { λ r. ⌜ r ≡ resultNumber (told one (stateFile (now (heading .entry)) (lent (now (tally .entry)) (now (matrix .entry)) (now (rights .entry))) (roomFor (length (now (size .entry))) (length (now (out .entry)))))) (length (now (size .entry))) ⌝ }
+    ensures size { λ _. ⌜ now (size .exit) ≡ resultLeft (told one (stateFile (now (heading .entry)) (lent (now (tally .entry)) (now (matrix .entry)) (now (rights .entry))) (roomFor (length (now (size .entry))) (length (now (out .entry)))))) (now (size .entry)) ⌝ }
     ensures bytes { λ _. ⌜ now (out .exit) ≡ bytesLeft (length (now (size .entry))) (stateFileLeft (now (heading .entry)) (lent (now (tally .entry)) (now (matrix .entry)) (now (rights .entry)))) (now (out .entry)) ⌝ }
 {
     if lent::has_both(heading, tally) {
@@ -311,8 +311,8 @@ pub extern "C" fn whl_of_state(
 // Two normal files merged: a file's own refusal plus 100 for the first, plus 200 for the second.
 #[no_mangle]
 pub extern "C" fn whl_merge(first: &[u8], second: &[u8], out: &mut [u8], size: &mut [u64]) -> u32
-    ensures { λ r. ⌜ r ≡ resultNumber (sized (mergeNumber (mergeAnswer (now (first .entry)) (now (second .entry)) (roomFor (length (now (size .entry))) (length (now (out .entry))))))) (length (now (size .entry))) ⌝ }
-    ensures size { λ _. ⌜ now (size .exit) ≡ resultLeft (sized (mergeNumber (mergeAnswer (now (first .entry)) (now (second .entry)) (roomFor (length (now (size .entry))) (length (now (out .entry))))))) (now (size .entry)) ⌝ }
+    ensures { λ r. ⌜ r ≡ resultNumber (told one (mergeNumber (mergeAnswer (now (first .entry)) (now (second .entry)) (roomFor (length (now (size .entry))) (length (now (out .entry))))))) (length (now (size .entry))) ⌝ }
+    ensures size { λ _. ⌜ now (size .exit) ≡ resultLeft (told one (mergeNumber (mergeAnswer (now (first .entry)) (now (second .entry)) (roomFor (length (now (size .entry))) (length (now (out .entry))))))) (now (size .entry)) ⌝ }
     ensures bytes { λ _. ⌜ now (out .exit) ≡ bytesLeft (length (now (size .entry))) (mergeLeft (now (first .entry)) (now (second .entry))) (now (out .entry)) ⌝ }
 {
     let room = rooms::room_for(size.len(), out.len());
@@ -325,8 +325,8 @@ pub extern "C" fn whl_merge(first: &[u8], second: &[u8], out: &mut [u8], size: &
 // The text that the arc program prints of a file of at most `limit` bytes.
 #[no_mangle]
 pub extern "C" fn whl_list(file: &[u8], limit: usize, out: &mut [u8], size: &mut [u64]) -> u32
-    ensures { λ r. ⌜ r ≡ resultNumber (sized (listAnswer limit (now (file .entry)) (roomFor (length (now (size .entry))) (length (now (out .entry)))))) (length (now (size .entry))) ⌝ }
-    ensures size { λ _. ⌜ now (size .exit) ≡ resultLeft (sized (listAnswer limit (now (file .entry)) (roomFor (length (now (size .entry))) (length (now (out .entry)))))) (now (size .entry)) ⌝ }
+    ensures { λ r. ⌜ r ≡ resultNumber (told one (listAnswer limit (now (file .entry)) (roomFor (length (now (size .entry))) (length (now (out .entry)))))) (length (now (size .entry))) ⌝ }
+    ensures size { λ _. ⌜ now (size .exit) ≡ resultLeft (told one (listAnswer limit (now (file .entry)) (roomFor (length (now (size .entry))) (length (now (out .entry)))))) (now (size .entry)) ⌝ }
     ensures bytes { λ _. ⌜ now (out .exit) ≡ bytesLeft (length (now (size .entry))) (listLeft limit (now (file .entry))) (now (out .entry)) ⌝ }
 {
     let room = rooms::room_for(size.len(), out.len());

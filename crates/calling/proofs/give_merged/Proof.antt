@@ -7,7 +7,7 @@ use Rattle.refusal.proofs.Apart.{few}
 use Rattle.rooms.specs.Result.{one}
 use Rattle.rooms.proofs.Rooms.{on-given, on-refused}
 use Rattle.normmerge.specs.Files.{toldMerge}
-use Rattle.calling.specs.Writing.{sized, mergeNumber}
+use Rattle.calling.specs.Writing.{mergeNumber}
 use borrow.Author.Needs.{needs}
 use Rattle.calling.proofs.give_merged.Statement.{statement}
 use Rattle.calling.proofs.give_merged.Tie as tie
@@ -46,19 +46,19 @@ same-length : tie.Need-same-length
 same-length c = search needs
 
 returns : tie.Need-returns
-unfolding sized one mergeNumber
+unfolding one mergeNumber
 returns c = on-given one _ _ _ (ap (λ a. mergeNumber (toldMerge a)) (c .before .before .before .before .before .answer .given .1)) (c .before .before .give-place .ensures)
 
 returns-2 : tie.Need-returns-2
-unfolding sized mergeNumber
+unfolding mergeNumber
 returns-2 c = on-refused one _ _ _ (ap (λ a. mergeNumber (toldMerge a)) (c .before .before .answer2 .given .1)) (ap (λ k. 100 + k) (c .number .ensures))
 
 returns-3 : tie.Need-returns-3
-unfolding sized mergeNumber
+unfolding mergeNumber
 returns-3 c = on-refused one _ _ _ (ap (λ a. mergeNumber (toldMerge a)) (c .before .before .answer3 .given .1)) (ap (λ k. 200 + k) (c .number2 .ensures))
 
 returns-4 : tie.Need-returns-4
-unfolding sized mergeNumber
+unfolding mergeNumber
 returns-4 c = on-refused one _ _ _ (ap (λ a. mergeNumber (toldMerge a)) (c .before .before .answer4 .given .1)) (c .number3 .ensures)
 
 pub give-merged-spec : {M : Type 1} → statement M

@@ -4,7 +4,6 @@ use mathlib.Core.Path.{ap}
 use Rattle.rooms.specs.Result.{one}
 use Rattle.rooms.proofs.Rooms.{on-given, on-refused}
 use Rattle.section.specs.Told.{toldWrite}
-use Rattle.calling.specs.Writing.{sized}
 use borrow.Author.Needs.{needs}
 use Rattle.calling.proofs.give_written.Statement.{statement}
 use Rattle.calling.proofs.give_written.Tie as tie
@@ -25,11 +24,10 @@ same-length : tie.Need-same-length
 same-length c = search needs
 
 returns : tie.Need-returns
-unfolding sized one
+unfolding one
 returns c = on-given one _ _ _ (ap toldWrite (c .before .before .before .before .before .answer .given .1)) (c .before .before .give-place .ensures)
 
 returns-2 : tie.Need-returns-2
-unfolding sized
 returns-2 c = on-refused one _ _ _ (ap toldWrite (c .before .before .answer2 .given .1)) (c .number .ensures)
 
 pub give-written-spec : {M : Type 1} → statement M
