@@ -5,13 +5,14 @@ use mathlib.Core.Path.{_≡_, refl, sym, ap, _∙_}
 use mathlib.Core.List.{List, [], _∷_}
 use mathlib.Core.Bool.{true}
 use native.Mathlib.Omega.{arith}
-use lib.ListN.{length, getD, drop, length-append, length-replicate, length-drop}
+use lib.ListN.{length, getD, drop, length-drop}
 use mir.Syntax.{w64}
 use mir.Val.{SFits}
 use mir.ValLaws.{toZ-fits}
 use lib.Seq.{take-append-seam}
 use Rattle.whole.specs.Answer.{good, given}
 use Rattle.whole.specs.Lists.{all, ascend, Each}
+use Rattle.whole.proofs.Padded.{length-padded}
 use Rattle.whole.proofs.Cases.{yes, holds, is-upTo, is-between, less-false, both-first, both-second}
 use Rattle.words.specs.Words.{signedWord}
 use Rattle.words.proofs.Words.{Bytes, word-small}
@@ -25,7 +26,6 @@ use Rattle.limits.specs.declared.Label.{Label}
 use Rattle.limits.specs.declared.Station.{Station}
 use Rattle.heading.specs.declared.Heading.{Heading}
 use Rattle.arckinds.specs.Kinds.{labelAt, stationAtOk, settingsKind, labelKind, stationKind, recordKind, recordSize}
-use Rattle.arcsections.specs.Sections.{padded}
 use Rattle.arcread.specs.Arc.{headingOf, Arc, readArc}
 
 -- ---- its four sections
@@ -111,9 +111,6 @@ pub single : {A : Type 0} (l : List A) (d : A) → length l ≡ 1 → l ≡ getD
 single [] d e = absurd (omega arith)
 single (x ∷ []) d e = refl
 single (x ∷ (y ∷ l)) d e = absurd (omega arith)
-
-length-padded : {A : Type 0} (n : ℕ) (d : A) (l : List A) → length l ≤ n → length (padded n d l) ≡ n
-length-padded n d l h = length-append l _ ∙ simp length-replicate (omega arith)
 
 -- ---- the heading that was read
 module _ (s : List ℕ) (a : Arc) (e : readArc s ≡ good a) where

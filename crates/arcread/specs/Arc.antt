@@ -11,7 +11,7 @@ use Rattle.limits.specs.declared.Station.{Station}
 use Rattle.heading.specs.declared.Heading.{Heading}
 use Rattle.arckinds.specs.Kinds.{settingsKind, labelKind, stationKind, recordKind}
 use Rattle.section.specs.Told.{toldAnswer}
-use Rattle.arcsections.specs.Sections.{padded}
+use Rattle.whole.specs.Lists.{padded}
 use Rattle.arcread.specs.declared.ArcRead.{ArcRead}
 
 -- a heading of what was read; slots past the counts are 0

@@ -1,32 +1,20 @@
 -- A section's records put one by one into an array of one filling, with the code's count upwards: what is left at each turn, for every
 -- kind of record.
 -- Assumes nothing.
-use Prim.Native.Nat.{ℕ, zero, suc, _+_, _-_, _≤_, _<_}
-use mathlib.Core.Path.{_≡_, sym, ap, _∙_}
-use mathlib.Core.List.{List, _++_}
+use Prim.Native.Nat.{ℕ, _+_, _-_, _≤_, _<_}
+use mathlib.Core.Path.{_≡_}
+use mathlib.Core.List.{List}
 use native.Mathlib.Omega.{arith}
-use native.Mathlib.Nat.{sub-zero, zero-sub, zero-add, suc-sub-suc}
+use native.Mathlib.Nat.{sub-zero}
 use native.Mathlib.Numerals.{add-one}
-use lib.ListN.{length, set, drop, replicate, length-replicate}
-use lib.Seq.{sets, sets-eq}
+use lib.ListN.{length, set, replicate}
+use lib.Seq.{sets}
 use Rattle.whole.specs.Answer.{Judged, good, bad}
+use Rattle.whole.proofs.Padded.{put-padded}
 use Rattle.section.specs.Section.{Kind, Run, andThen, judgedAt, records}
 use Rattle.section.proofs.Walk.{records-end, records-good, records-bad, records-next}
 use Rattle.section.proofs.Chains.{then-made, then-same}
-use Rattle.arcsections.specs.Sections.{padded, Slots, slotted}
-
--- ---- an array of one filling
-drop-replicate : {A : Type 0} (k n : ℕ) (d : A) → drop k (replicate n d) ≡ replicate (n - k) d
-drop-replicate zero n d = ap (λ m. replicate m d) (sym (sub-zero n))
-drop-replicate (suc k) zero d = ap (λ m. replicate m d) (sym (zero-sub (suc k)))
-drop-replicate (suc k) (suc n) d = drop-replicate k n d ∙ ap (λ m. replicate m d) (sym (suc-sub-suc n k))
-
--- elements put from its front on are a padded list
-pub put-padded : {A : Type 0} (n : ℕ) (d : A) (l : List A) → length l ≤ n → sets (replicate n d) 0 l ≡ padded n d l
-put-padded n d l h =
-    let long : length (replicate n d) ≡ n = length-replicate n d in
-    sets-eq l (replicate n d) 0 (omega arith)
-    ∙ ap (λ r. l ++ r) (ap (λ k. drop k (replicate n d)) (zero-add (length l)) ∙ drop-replicate (length l) n d)
+use Rattle.arcsections.specs.Sections.{Slots, slotted}
 
 -- ---- the loop
 -- what comes of an array of which the elements from i on are still to be put: n count in all

@@ -1,9 +1,10 @@
 -- The sections of an arc file after its settings, each with what it leaves in an array.
-use Prim.Native.Nat.{ℕ, _+_, _-_}
-use mathlib.Core.List.{List, _++_}
-use lib.ListN.{length, replicate}
+use Prim.Native.Nat.{ℕ, _+_}
+use mathlib.Core.List.{List}
+use lib.ListN.{length}
 use Rattle.limits.specs.Limits.{noLabel, noStation}
 use Rattle.whole.specs.Answer.{Judged, good}
+use Rattle.whole.specs.Lists.{padded}
 use Rattle.section.specs.Section.{Run, andThen, countAt, records, sectionAt}
 use Rattle.section.specs.Told.{Span, spanOf, toldSection}
 use Rattle.section.specs.declared.SectionAnswer.{SectionAnswer}
@@ -18,10 +19,6 @@ pub record Slots (A : Type 0) : Type 0 where
   pub count : ℕ
   pub items : List A
   pub next : ℕ
-
--- a list with a filling after it, n elements in all
-abbrev pub padded : {A : Type 0} → ℕ → A → List A → List A
-padded n d l = l ++ replicate (n - length l) d
 
 -- what was read, in an array of n with a filling d
 abbrev pub slotted : {A : Type 0} → ℕ → A → Run A → Slots A

@@ -12,7 +12,7 @@ use Rattle.limits.specs.Limits.{noLabel, noStation}
 use Rattle.heading.specs.Judge.{labelsOf, stationsOf}
 use Rattle.heading.specs.declared.Heading.{Heading}
 use Rattle.arckinds.specs.Kinds.{settingsAt, settingsBytes, labelAt, labelBytes, stationAt, stationBytes}
-use Rattle.arcsections.specs.Sections.{padded}
+use Rattle.whole.specs.Lists.{padded}
 use Rattle.words.specs.Stands.{stands}
 use Rattle.lenttally.specs.Tally.{hasTally}
 

@@ -7,7 +7,7 @@ ghost use Prim.Native.Nat.{_≤_, min};
 ghost use Rattle.words.specs.Words.{word, lay};
 ghost use Rattle.limits.specs.Limits.{noLabel, noStation};
 ghost use Rattle.arckinds.specs.Kinds.{labelAt, stationAt};
-ghost use Rattle.arcsections.specs.Sections.{padded};
+ghost use Rattle.whole.specs.Lists.{padded};
 ghost use Rattle.words.specs.Stands.{stands};
 ghost use Rattle.lent.specs.Lent.{headingIn, headingBytes, hasHeading, hasBoth};
 

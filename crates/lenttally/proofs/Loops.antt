@@ -8,13 +8,12 @@ use native.Mathlib.Omega.{arith}
 use native.Mathlib.Nat.{sub-zero}
 use lib.ListN.{length, getD, replicate}
 use lib.Seq.{sets, take-all}
-use Rattle.whole.specs.Lists.{rest}
+use Rattle.whole.specs.Lists.{rest, padded}
 use Rattle.whole.proofs.Walks.{rest-end, rest-more}
 use Rattle.words.specs.Words.{lay}
 use Rattle.words.proofs.Words.{lay-append}
 use Rattle.section.specs.Section.{encoded}
-use Rattle.arcsections.specs.Sections.{padded}
-use Rattle.arcsections.proofs.Fill.{put-padded}
+use Rattle.whole.proofs.Padded.{put-padded}
 use Rattle.words.specs.Stands.{stands}
 use Rattle.words.proofs.Stands.{length-stands}
 

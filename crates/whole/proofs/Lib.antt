@@ -3,3 +3,4 @@ pub mod Cases
 pub mod Walks
 pub mod Tables
 pub mod Adding
+pub mod Padded

@@ -1,8 +1,8 @@
--- Lists that are judged: each element by a test, and their order by a key.
-use Prim.Native.Nat.{ℕ, _+_}
+-- Lists that are judged: each element by a test, and their order by a key; lists that are walked over, filled up and put into room.
+use Prim.Native.Nat.{ℕ, _+_, _-_}
 use mathlib.Core.List.{List, [], _∷_, _++_}
 use mathlib.Core.Bool.{Bool, true}
-use lib.ListN.{length, take, drop}
+use lib.ListN.{length, take, drop, replicate}
 use Rattle.whole.specs.Tests.{upTo, both}
 
 -- each element passes
@@ -23,6 +23,10 @@ ascend key floor (x ∷ xs) = both (upTo floor (key x)) (ascend key (key x + 1) 
 -- the first n elements without the first i: what a walk over n elements has before it when i are done
 unfoldable pub rest : {A : Type 0} → List A → ℕ → ℕ → List A
 rest l n i = drop i (take n l)
+
+-- a list with a filling after it, n elements in all
+abbrev pub padded : {A : Type 0} → ℕ → A → List A → List A
+padded n d l = l ++ replicate (n - length l) d
 
 -- "A longer buffer keeps its rest": values at the front of a room
 unfoldable pub over : {A : Type 0} → List A → List A → List A

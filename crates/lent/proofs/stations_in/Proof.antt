@@ -6,7 +6,7 @@ use mathlib.Core.Path.{_≡_, sym, _∙_}
 use lib.Seq.{sets}
 use Rattle.arckinds.specs.Kinds.{stationAt}
 use Rattle.limits.specs.Limits.{noStation}
-use Rattle.arcsections.specs.Sections.{padded}
+use Rattle.whole.specs.Lists.{padded}
 use Rattle.words.specs.Stands.{stands}
 use Rattle.words.proofs.Stands.{put-end, put-turn}
 use Rattle.lenttally.proofs.Loops.{fill-start}
