@@ -11,17 +11,8 @@ use lib.Signed.{ltZ}
 use lib.ListN.{getD}
 use Rattle.whole.proofs.Cases.{apart, by-cases}
 use Rattle.sums.specs.Sound.{entry, isZero, breaks, breaksSide}
-use Rattle.sums.proofs.Tests.{zero-true, zero-is, plain-of, plain-is, not-above, not-under}
+use Rattle.sums.proofs.Tests.{chosen, other, zero-true, zero-is, plain-of, plain-is, not-above, not-under}
 use Rattle.system.proofs.Sound.{cond-false, entry-within, side-within}
-
--- ---- a choice
-chosen : {A : Type 0} (t : Bool) (x y : A) → t ≡ true → cond t x y ≡ x
-chosen true x y e = refl
-chosen false x y e = absurd (apart (sym e))
-
-other : {A : Type 0} (t : Bool) (x y : A) → t ≡ false → cond t x y ≡ y
-other true x y e = absurd (apart e)
-other false x y e = refl
 
 -- ---- a matrix sum
 pub record Kept (b : ℕ) (m : List ℤ) (i j : ℕ) : Type 0 where

@@ -7,7 +7,7 @@ use Prim.Native.Nat.{ℕ, _+_}
 use lib.IntN.{_+ℤ_}
 use Rattle.whole.specs.Tests.{either}
 use Rattle.whole.proofs.Cases.{by-cases}
-use Rattle.system.specs.System.{System, has, unsoundIn, nowhere}
+use Rattle.system.specs.System.{System, has}
 use Rattle.joining.proofs.Union.{has-union}
 use Rattle.merging.specs.Merge.{keysOf, labelAt, value, side, mergedOf, mergeNumber, Proper}
 use Rattle.merging.proofs.Values.{formed}
@@ -59,9 +59,6 @@ module _ (x y : System) (p : Proper x) (q : Proper y) where
   -- ---- two accepted ones give what an accepted file has, sound sums among it
   pub merge-proper : mergeNumber x y ≡ 0 → Proper (mergedOf x y)
   merge-proper = merged-proper x y p q
-
-  pub merge-sound : mergeNumber x y ≡ 0 → unsoundIn (mergedOf x y) ≡ nowhere
-  merge-sound e = merge-proper e .sound
 
 -- ---- three in either grouping: the same system, and accepted in the one where in the other
 module _ (x y z : System) (p : Proper x) (q : Proper y) (r : Proper z) where

@@ -1,7 +1,7 @@
 -- A double times 2 ^ k: exact, or an infinity where it is too large; and what the tests on the product say of the double. Assumes nothing.
 use mathlib.Core.Path.{_≡_, refl, sym, ap, ap₂, _∙_, subst}
 use Prim.Native.Nat.{ℕ, zero, suc, _+_, _-_, _*_, _/_, _%_, _^_, _≤_, _<_, compare, Ordering, Ordering·lt, compare·zero-suc}
-use native.Mathlib.Nat.{lt-irrefl, le-trans, le-of-eq, lt-of-lt-of-le, lt-of-not-le, not-le-of-lt, le-of-suc-le-suc, mul-one, one-mul, mul-assoc, mul-comm, mul-right-comm, mul-le-mul-right, le-of-mul-le-mul-right, mul-pos, mul-div-cancel, mul-mod-left, zero-lt-suc}
+use native.Mathlib.Nat.{lt-irrefl, add-comm, le-trans, le-of-eq, lt-of-lt-of-le, lt-of-not-le, not-le-of-lt, le-of-suc-le-suc, mul-one, one-mul, mul-assoc, mul-comm, mul-right-comm, mul-le-mul-right, le-of-mul-le-mul-right, mul-pos, mul-div-cancel, mul-mod-left, zero-lt-suc}
 use native.Mathlib.Omega.{arith}
 use mathlib.Core.Logic.{_⊎_, inl, inr, ⊎-elim}
 use mathlib.Core.Bool.{Bool, true, false, not, cond, _&&_, true≢false, false≢true}
@@ -146,9 +146,6 @@ carried x d P D p h g =
 not-none : (a b : ℕ) → 0 < b → a + b ≤ 0 → ⊥
 not-none a b h g = omega arith
 
-not-none' : (a b : ℕ) → 0 < a → a + b ≤ 0 → ⊥
-not-none' a b h g = omega arith
-
 over-high : (y : Float) (s : Bool) (P D : ℕ) → HasValue y s P D → lt y below51 ≡ false → 2 ^ 51 * D ≤ P
 unfolding lt
 over-high (fin false m e) s P D v h = carried (m * up e) (down e) P D (down-pos e) (v .1) (ltb-false (m * up e * 1) (2 ^ 51 * down e) h)
@@ -159,7 +156,7 @@ over-low : (y : Float) (s : Bool) (P D : ℕ) → HasValue y s P D → lt above5
 unfolding lt
 over-low (fin true m e) s P D v h = carried (m * up e) (down e) P D (down-pos e) (v .1) (ltb-false (m * up e * 1) (2 ^ 51 * down e) h)
 over-low (fin false m e) s P D v h =
-    absurd (not-none' (2 ^ 51 * down e) (m * up e * 1) (mul-pos (pow-pos 51) (down-pos e)) (ltb-false 0 (2 ^ 51 * down e + m * up e * 1) h))
+    absurd (not-none (m * up e * 1) (2 ^ 51 * down e) (mul-pos (pow-pos 51) (down-pos e)) (subst (λ (z : ℕ). z ≤ 0) (add-comm (2 ^ 51 * down e) (m * up e * 1)) (ltb-false 0 (2 ^ 51 * down e + m * up e * 1) h)))
 
 too-large : (k : ℕ) (lo hi : ℤ) (s : Bool) (m : ℕ) (e : ℤ) → T (fits binary64 (fin s m e)) → natAbs lo ≤ 2 ^ 40 → natAbs hi ≤ 2 ^ 40
     → 2 ^ 51 * down e ≤ m * up e * 2 ^ k → unitWithin k lo hi (fin s m e) ≡ (refused 16)

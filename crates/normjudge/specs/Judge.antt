@@ -1,11 +1,9 @@
--- The judging of a system in lent room in the parts that the code has: what it asks of the rooms' lengths, and the sums after the matrix.
-use Prim.Native.Nat.{ℕ, _^_, _≤_}
-use mathlib.Core.List.{List, [], _∷_}
-use lib.IntN.{ℤ, pos}
+-- The judging of a system in lent room in the parts that the code has: what it asks of the rooms' lengths, and what follows the counts.
+use Prim.Native.Nat.{ℕ, _≤_}
+use mathlib.Core.List.{[], _∷_}
 use Rattle.refusal.specs.First.{unless, first}
 use Rattle.sums.specs.Triangle.{tri}
-use Rattle.sums.specs.Sound.{breaksSide}
-use Rattle.system.specs.System.{System, boundOf, Where, firstFrom, afterRights, totalsWhere}
+use Rattle.system.specs.System.{System}
 use Rattle.normroom.specs.Room.{headsLong, fieldsFit, ordersFit, sumsFit}
 
 -- counts within their limits, and rooms long enough for them
@@ -15,11 +13,6 @@ pub record Roomed (a p heads matrix rights : ℕ) : Type 0 where
   pub heads-fit : headsLong a p ≤ heads
   pub matrix-fits : tri p ≤ matrix
   pub rights-fit : p ≤ rights
-
--- 6, of the right sides and the totals
-unfoldable pub sidesWhere : ℕ → ℕ → List ℤ → List ℤ → ℕ → ℕ → Where
-sidesWhere arcs p m r n q =
-    afterRights (firstFrom (breaksSide (pos (boundOf arcs n (2 ^ 55))) m r) 0 p) (totalsWhere arcs n q)
 
 -- 4, 5, 6
 unfoldable pub valuesNumber : System → ℕ

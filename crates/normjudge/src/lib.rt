@@ -11,9 +11,9 @@ ghost use lib.ListN.{length};
 ghost use Rattle.refusal.specs.First.{answered};
 ghost use Rattle.heading.specs.Judge.{toldVerdict};
 ghost use Rattle.sums.specs.Triangle.{tri};
-ghost use Rattle.system.specs.System.{boundOf, totalsWhere, sumsWhere};
+ghost use Rattle.system.specs.System.{boundOf, totalsWhere, sidesWhere, sumsWhere};
 ghost use Rattle.normroom.specs.Room.{systemIn, isNowhere, sumsFit, systemNumber};
-ghost use Rattle.normjudge.specs.Judge.{sidesWhere, valuesNumber, Roomed};
+ghost use Rattle.normjudge.specs.Judge.{valuesNumber, Roomed};
 
 // ---- 6
 

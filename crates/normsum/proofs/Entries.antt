@@ -15,6 +15,7 @@ use lib.Dec.{eqb}
 use lib.ListN.{getD}
 use Rattle.whole.proofs.Cases.{apart}
 use Rattle.sums.specs.Sound.{entry, isZero, breaks, breaksSide}
+use Rattle.sums.proofs.Tests.{chosen, other}
 use Rattle.sums.specs.Triangle.{tri}
 use Rattle.normsum.specs.Sums.{sumsAt, past}
 
@@ -25,13 +26,6 @@ module _ (s : List ℕ) (start n k : ℕ) (x : ℤ) (fits : SFits w64 x) (told :
 
   pub entry-read : (i j : ℕ) → k ≡ tri j + i → tri j + i < n → toZ w64 (ofZ w64 x) ≡ entry (sumsAt s start n) i j
   entry-read i j e h = sum-read (omega arith) ∙ ap (λ p. getD (sumsAt s start n) p (pos 0)) e
-
--- ---- a choice
-pub pick-first : (t x y : Bool) → t ≡ true → cond t x y ≡ x
-pick-first t x y e = rw e
-
-pub pick-second : (t x y : Bool) → t ≡ false → cond t x y ≡ y
-pick-second t x y e = rw e
 
 -- ---- a bound
 cond-true : (a b : Bool) → cond a true b ≡ true → (c : Bool) → cond a true (cond b true c) ≡ true
@@ -63,27 +57,27 @@ module _ (b : ℕ) (m : List ℤ) (i j : ℕ) (x : ℤ) (is : x ≡ entry m i j)
 
     pub entry-diagonal : i ≡ j → ltZ x (pos 0) ≡ breaks (pos b) m i j
     unfolding breaks
-    entry-diagonal d = ap (λ z. ltZ z (pos 0)) is ∙ sym (within _ ∙ pick-first (eqb i j) _ _ (eq-eqb i j d))
+    entry-diagonal d = ap (λ z. ltZ z (pos 0)) is ∙ sym (within _ ∙ chosen (eqb i j) _ _ (eq-eqb i j d))
 
     module _ (d : i ≡ j → ⊥) where
       beside : (c : Bool) → cond (eqb i j) (ltZ (entry m i j) (pos 0)) c ≡ c
-      beside c = pick-second (eqb i j) _ _ (ne-eqb i j d)
+      beside c = other (eqb i j) _ _ (ne-eqb i j d)
 
       pub entry-zero : isZero x ≡ true → false ≡ breaks (pos b) m i j
       unfolding breaks
-      entry-zero z = sym (within _ ∙ beside _ ∙ pick-first (isZero (entry m i j)) _ _ (rw is at z))
+      entry-zero z = sym (within _ ∙ beside _ ∙ chosen (isZero (entry m i j)) _ _ (rw is at z))
 
       module _ (z : isZero x ≡ false) where
-        other : (c : Bool) → cond (isZero (entry m i j)) false c ≡ c
-        other c = pick-second (isZero (entry m i j)) _ _ (rw is at z)
+        beyond : (c : Bool) → cond (isZero (entry m i j)) false c ≡ c
+        beyond c = other (isZero (entry m i j)) _ _ (rw is at z)
 
         pub entry-row : isZero (entry m i i) ≡ true → true ≡ breaks (pos b) m i j
         unfolding breaks
-        entry-row r = sym (within _ ∙ beside _ ∙ other _ ∙ pick-first (isZero (entry m i i)) _ _ r)
+        entry-row r = sym (within _ ∙ beside _ ∙ beyond _ ∙ chosen (isZero (entry m i i)) _ _ r)
 
         pub entry-column : isZero (entry m i i) ≡ false → isZero (entry m j j) ≡ breaks (pos b) m i j
         unfolding breaks
-        entry-column r = sym (within _ ∙ beside _ ∙ other _ ∙ pick-second (isZero (entry m i i)) _ _ r)
+        entry-column r = sym (within _ ∙ beside _ ∙ beyond _ ∙ other (isZero (entry m i i)) _ _ r)
 
 -- ---- a right side, y
 module _ (b : ℕ) (m r : List ℤ) (i : ℕ) (y : ℤ) (is : y ≡ getD r i (pos 0)) where
@@ -97,8 +91,8 @@ module _ (b : ℕ) (m r : List ℤ) (i : ℕ) (y : ℤ) (is : y ≡ getD r i (po
 
     pub side-zero : isZero y ≡ true → false ≡ breaksSide (pos b) m r i
     unfolding breaksSide
-    side-zero z = sym (inside _ ∙ pick-first (isZero (getD r i (pos 0))) _ _ (rw is at z))
+    side-zero z = sym (inside _ ∙ chosen (isZero (getD r i (pos 0))) _ _ (rw is at z))
 
     pub side-diagonal : isZero y ≡ false → isZero (entry m i i) ≡ breaksSide (pos b) m r i
     unfolding breaksSide
-    side-diagonal z = sym (inside _ ∙ pick-second (isZero (getD r i (pos 0))) _ _ (rw is at z))
+    side-diagonal z = sym (inside _ ∙ other (isZero (getD r i (pos 0))) _ _ (rw is at z))

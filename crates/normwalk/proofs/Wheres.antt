@@ -3,24 +3,22 @@
 use Prim.Native.Nat.{ℕ, _+_, _^_, _<_}
 use mathlib.Core.Path.{_≡_}
 use mathlib.Core.List.{List}
-use lib.IntN.{pos}
+use lib.IntN.{ℤ, pos}
 use Rattle.words.specs.Words.{word}
 use Rattle.sums.specs.Triangle.{tri}
 use Rattle.sums.specs.Sound.{breaks, breaksSide}
-use Rattle.system.specs.System.{boundOf, inMatrix, inRights, none, at, firstFrom, columnsFrom, afterMatrix, afterRights, totalsWhere, sumsWhere}
+use Rattle.system.specs.System.{boundOf, inMatrix, inRights, none, at, firstFrom, columnsFrom, afterMatrix, afterRights, totalsWhere, sidesWhere, sumsWhere}
 use Rattle.system.proofs.Sound.{matrix-inside, rights-inside}
 use Rattle.normsum.specs.Sums.{sumsAt}
-use Rattle.normwalk.specs.Walk.{beyondWhere, unsoundAt}
+use Rattle.normwalk.specs.Walk.{unsoundAt}
 
-module _ (s : List ℕ) (arcs p matrix rights accepted square b : ℕ) (e : b ≡ boundOf arcs accepted (2 ^ 55)) where
-  pub beyond-right : (k : ℕ) → firstFrom (breaksSide (pos b) (sumsAt s matrix (tri p)) (sumsAt s rights p)) 0 p ≡ at k
-      → inRights k ≡ beyondWhere s arcs p matrix rights accepted square
-  unfolding beyondWhere afterRights
+module _ (arcs p : ℕ) (m r : List ℤ) (accepted square b : ℕ) (e : b ≡ boundOf arcs accepted (2 ^ 55)) where
+  pub beyond-right : (k : ℕ) → firstFrom (breaksSide (pos b) m r) 0 p ≡ at k → inRights k ≡ sidesWhere arcs p m r accepted square
+  unfolding sidesWhere afterRights
   beyond-right k f = let g = rw e at f in rw g
 
-  pub beyond-totals : firstFrom (breaksSide (pos b) (sumsAt s matrix (tri p)) (sumsAt s rights p)) 0 p ≡ none
-      → totalsWhere arcs accepted square ≡ beyondWhere s arcs p matrix rights accepted square
-  unfolding beyondWhere afterRights
+  pub beyond-totals : firstFrom (breaksSide (pos b) m r) 0 p ≡ none → totalsWhere arcs accepted square ≡ sidesWhere arcs p m r accepted square
+  unfolding sidesWhere afterRights
   beyond-totals f = let g = rw e at f in rw g
 
 module _ (s : List ℕ) (arcs p matrix rights totals accepted square b : ℕ) (n : accepted ≡ word 8 s totals) (q : square ≡ word 8 s (totals + 8))
@@ -32,8 +30,8 @@ module _ (s : List ℕ) (arcs p matrix rights totals accepted square b : ℕ) (n
     unsound-matrix k f = let g = rw (e, n) at f in rw g
 
     pub unsound-beyond : columnsFrom (breaks (pos b) (sumsAt s matrix (tri p))) 0 p ≡ none
-        → beyondWhere s arcs p matrix rights accepted square ≡ unsoundAt s arcs p matrix rights totals
-    unfolding unsoundAt sumsWhere afterMatrix beyondWhere
+        → sidesWhere arcs p (sumsAt s matrix (tri p)) (sumsAt s rights p) accepted square ≡ unsoundAt s arcs p matrix rights totals
+    unfolding unsoundAt sumsWhere afterMatrix
     unsound-beyond f = let g = rw (e, n) at f in rw (g, n, q)
 
 -- ---- an unsound sum is one of its section

@@ -1,20 +1,12 @@
 -- The first unsound sum of a normal file, and what a walk over its sums answers.
-use Prim.Native.Nat.{ℕ, _+_, _^_}
+use Prim.Native.Nat.{ℕ, _+_}
 use mathlib.Core.List.{List}
-use lib.IntN.{pos}
 use Rattle.words.specs.Words.{word}
 use Rattle.sums.specs.Triangle.{tri}
 use Rattle.normsum.specs.Sums.{sumsAt}
-use Rattle.sums.specs.Sound.{breaksSide}
-use Rattle.system.specs.System.{boundOf, Where, Found, none, at, firstFrom, afterRights, totalsWhere, sumsWhere}
+use Rattle.system.specs.System.{Where, Found, none, at, sumsWhere}
 use Rattle.normwalk.specs.declared.Search.{Search}
 use Rattle.normwalk.specs.declared.Search.the-variants as Searches
-
--- the first unsound sum after the matrix sums
-unfoldable pub beyondWhere : List ℕ → ℕ → ℕ → ℕ → ℕ → ℕ → ℕ → Where
-beyondWhere s arcs p matrix rights accepted square =
-    afterRights (firstFrom (breaksSide (pos (boundOf arcs accepted (2 ^ 55))) (sumsAt s matrix (tri p)) (sumsAt s rights p)) 0 p)
-    (totalsWhere arcs accepted square)
 
 -- the first unsound sum of those that stand at these places
 unfoldable pub unsoundAt : List ℕ → ℕ → ℕ → ℕ → ℕ → ℕ → Where

@@ -6,9 +6,9 @@ ghost use lib.IntN.{pos};
 ghost use lib.ListN.{length};
 ghost use Rattle.sums.specs.Triangle.{tri};
 ghost use Rattle.sums.specs.Sound.{breaks, breaksSide};
-ghost use Rattle.system.specs.System.{firstFrom, columnsFrom};
+ghost use Rattle.system.specs.System.{firstFrom, columnsFrom, sidesWhere};
 ghost use Rattle.normsum.specs.Sums.{sumsAt};
-ghost use Rattle.normwalk.specs.Walk.{beyondWhere, unsoundAt, toldSearch};
+ghost use Rattle.normwalk.specs.Walk.{unsoundAt, toldSearch};
 ghost use Rattle.normtotals.specs.Told.{toldWhere};
 
 // The number of the first unsound one of some sums.
@@ -69,7 +69,7 @@ fn first_beyond(
 ) -> Unsound
     requires { ⌜ (arcs ≤ 16) × (p ≤ 500) ⌝ }
     requires { ⌜ (matrix + 8 * tri p ≤ length (now s)) × (rights + 8 * p ≤ length (now s)) ⌝ }
-    ensures { λ r. ⌜ toldWhere r ≡ beyondWhere (now (s .entry)) arcs p matrix rights accepted square ⌝ }
+    ensures { λ r. ⌜ toldWhere r ≡ sidesWhere arcs p (sumsAt (now (s .entry)) matrix (tri p)) (sumsAt (now (s .entry)) rights p) accepted square ⌝ }
 {
     let bound = normtotals::bound_of(arcs, accepted, 36028797018963968);
     match first_side(s, matrix, rights, p, bound) {

@@ -1,7 +1,7 @@
 -- The machine's tests of signed numbers.
 -- Assumes nothing.
 use mathlib.Core.Path.{_≡_, refl, sym, ap, _∙_, subst}
-use mathlib.Core.Bool.{Bool, true, false}
+use mathlib.Core.Bool.{Bool, true, false, cond}
 use Prim.Native.Nat.{ℕ, zero, suc, _-_, _^_, _<_, _≤_, zero-le}
 use native.Mathlib.Omega.{arith}
 use borrow.Author.Tests.{eq-eqb, ne-eqb, eqb-true, le-ltb, ltb-false}
@@ -43,6 +43,15 @@ lower-back b p f = ap (λ z. toZ w64 (ofZ w64 z)) (lower b f) ∙ toZ-ofZ w64 (n
 -- a test of two numbers, from the machine's test of what it reads back
 pub test-of : (x y a b : ℤ) (t : Bool) → x ≡ a → y ≡ b → ltZ x y ≡ t → ltZ a b ≡ t
 test-of x y a b t p q e = subst (λ z. ltZ z b ≡ t) p (subst (λ z. ltZ x z ≡ t) q e)
+
+-- ---- a choice by a test
+pub chosen : {A : Type 0} (t : Bool) (x y : A) → t ≡ true → cond t x y ≡ x
+chosen true x y e = refl
+chosen false x y e = absurd (apart (sym e))
+
+pub other : {A : Type 0} (t : Bool) (x y : A) → t ≡ false → cond t x y ≡ y
+other true x y e = absurd (apart e)
+other false x y e = refl
 
 -- ---- zero, and not below it
 pub zero-true : (z : ℤ) → isZero z ≡ true → z ≡ pos 0

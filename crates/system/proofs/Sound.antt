@@ -18,7 +18,7 @@ use Rattle.whole.proofs.Ints.{within-fits}
 use Rattle.sums.proofs.Tests.{between-bounds, not-above, not-under}
 use Rattle.sums.specs.Triangle.{tri}
 use Rattle.sums.specs.Sound.{entry, breaks, breaksSide}
-use Rattle.system.specs.System.{System, arcOk, normalLabelOk, keyOf, boundOf, Where, nowhere, inMatrix, inRights, inAccepted, inSquare, Found, none, at, afterMatrix, afterRights, totalsWhere, sumsWhere, unsoundIn}
+use Rattle.system.specs.System.{System, arcOk, normalLabelOk, keyOf, boundOf, Where, nowhere, inMatrix, inRights, inAccepted, inSquare, Found, none, at, afterMatrix, afterRights, totalsWhere, sidesWhere, sumsWhere, unsoundIn}
 use Rattle.system.proofs.Firsts.{first-none, first-sound, first-inside, columns-none, columns-sound, columns-inside}
 
 -- ---- one part after another
@@ -46,7 +46,7 @@ pub record SoundSums (arcs p : ℕ) (m r : List ℤ) (n q : ℕ) : Type 0 where
 
 module _ (arcs p : ℕ) (m r : List ℤ) (n q : ℕ) where
   pub where-sound : sumsWhere arcs p m r n q ≡ nowhere → SoundSums arcs p m r n q
-  unfolding sumsWhere totalsWhere
+  unfolding sumsWhere sidesWhere totalsWhere
   where-sound e =
       let a = matrix-nowhere _ _ e in
       let b = rights-nowhere _ _ (a .1) in
@@ -60,7 +60,7 @@ module _ (arcs p : ℕ) (m r : List ℤ) (n q : ℕ) where
       }
 
   pub sound-where : SoundSums arcs p m r n q → sumsWhere arcs p m r n q ≡ nowhere
-  unfolding sumsWhere totalsWhere afterMatrix afterRights
+  unfolding sumsWhere sidesWhere totalsWhere afterMatrix afterRights
   sound-where s =
       let a = columns-sound (breaks (pos (boundOf arcs n (2 ^ 58))) m) p (s .matrix) in
       let b = first-sound (breaksSide (pos (boundOf arcs n (2 ^ 55))) m r) p (s .rights) in
@@ -173,11 +173,11 @@ module _ (arcs n q k : ℕ) where
 
 module _ (arcs p : ℕ) (m r : List ℤ) (n q k : ℕ) where
   pub matrix-inside : sumsWhere arcs p m r n q ≡ inMatrix k → k < tri p
-  unfolding sumsWhere
+  unfolding sumsWhere sidesWhere
   matrix-inside e = columns-inside _ p k (matrix-at _ _ k (rights-not _ _ k (totals-not-matrix arcs n q k)) e)
 
   pub rights-inside : sumsWhere arcs p m r n q ≡ inRights k → k < p
-  unfolding sumsWhere
+  unfolding sumsWhere sidesWhere
   rights-inside e = first-inside _ p k (rights-at _ _ k (totals-not-right arcs n q k) (matrix-to _ _ k e))
 
 -- ---- a system that a normal file may hold

@@ -85,11 +85,14 @@ unfoldable pub totalsWhere : ℕ → ℕ → ℕ → Where
 totalsWhere arcs accepted square =
     pick (less (arcs * 4096) accepted) inAccepted (pick (less (boundOf arcs accepted (2 ^ 51)) square) inSquare nowhere)
 
+-- what follows the matrix sums
+unfoldable pub sidesWhere : ℕ → ℕ → List ℤ → List ℤ → ℕ → ℕ → Where
+sidesWhere arcs p m r accepted square =
+    afterRights (firstFrom (breaksSide (pos (boundOf arcs accepted (2 ^ 55))) m r) 0 p) (totalsWhere arcs accepted square)
+
 unfoldable pub sumsWhere : ℕ → ℕ → List ℤ → List ℤ → ℕ → ℕ → Where
 sumsWhere arcs p m r accepted square =
-    afterMatrix (columnsFrom (breaks (pos (boundOf arcs accepted (2 ^ 58))) m) 0 p)
-    (afterRights (firstFrom (breaksSide (pos (boundOf arcs accepted (2 ^ 55))) m r) 0 p)
-    (totalsWhere arcs accepted square))
+    afterMatrix (columnsFrom (breaks (pos (boundOf arcs accepted (2 ^ 58))) m) 0 p) (sidesWhere arcs p m r accepted square)
 
 -- the first unsound sum of a system
 unfoldable pub unsoundIn : System → Where

@@ -6,6 +6,7 @@ use libc::STDIN_FILENO;
 use limits::Label;
 use limits::Settings;
 use limits::Station;
+use refusal::Refusal;
 use takeone::TakeAnswer;
 use tally::Row;
 use tally::Tally;
@@ -252,6 +253,19 @@ fn before(line: &[u8]) -> &[u8] {
     )
 }
 
+// The state after a record that was accepted, and the one before it as it was read.
+fn put_accepted(line: &[u8], t: Tally, matrix: &[i64], rights: &[i64]) {
+    lines::put(b"0 ");
+    lines::put(before(line));
+    put_state(b" after.", t, matrix, rights);
+}
+
+// The number of a refusal, and the state as it is after it.
+fn put_refused(why: Refusal, t: Tally, matrix: &[i64], rights: &[i64]) {
+    lines::put_number(refusal::number(why) as u64, b"");
+    put_state(b" before.", t, matrix, rights);
+}
+
 // Takes a line's record into its state, and writes the line from the answer on.
 fn answer_line(line: &[u8], matrix: &mut [i64], rights: &mut [i64], bytes: &[u8]) {
     let r = taking::take(heading_of(line), tally_of(line), matrix, rights, bytes);
@@ -259,15 +273,8 @@ fn answer_line(line: &[u8], matrix: &mut [i64], rights: &mut [i64], bytes: &[u8]
     let t = r.tally;
     lines::put(b"answer=");
     match answer {
-        TakeAnswer::Accepted => {
-            lines::put(b"0 ");
-            lines::put(before(line));
-            put_state(b" after.", t, matrix, rights);
-        }
-        TakeAnswer::Refused(why) => {
-            lines::put_number(refusal::number(why) as u64, b"");
-            put_state(b" before.", t, matrix, rights);
-        }
+        TakeAnswer::Accepted => put_accepted(line, t, matrix, rights),
+        TakeAnswer::Refused(why) => put_refused(why, t, matrix, rights),
     }
 }
 

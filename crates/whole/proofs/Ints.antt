@@ -1,13 +1,13 @@
--- Laws of ℤ that the kit lacks: products, cancellation, magnitudes, squares, and the machine's signed numbers.
+-- Laws of ℤ that the kit lacks: products, magnitudes, squares, and the machine's signed numbers.
 -- Assumes nothing.
 use mathlib.Core.Path.{_≡_, refl, sym, ap, _∙_, subst}
 use mathlib.Core.Bool.{Bool, true, false, not, cond}
-use Prim.Native.Nat.{ℕ, zero, suc, _+_, _*_, _-_, _^_, _<_, _≤_, zero-le}
+use Prim.Native.Nat.{ℕ, zero, suc, _+_, _*_, _-_, _^_, _<_, _≤_}
 use native.Mathlib.Nat.{mul-zero, mul-assoc, le-refl, mul-le-mul, lt-of-le-of-lt, le-suc}
 use native.Mathlib.Omega.{arith}
-use lib.Dec.{T, ltb, ltb→lt, le→leb}
-use lib.IntN.{ℤ, pos, negsuc, negℤ, natAbs, subℕ, predℤ, _+ℤ_, _-ℤ_, _*ℤ_, negℤ-negℤ, sucℤ-+ℤ, predℤ-+ℤ, sucℤ-*ℤ, predℤ-*ℤ, +ℤ-assoc, +ℤ-comm, +ℤ-idl, +ℤ-invl, zero-*ℤ, *ℤ-comm}
-use lib.Signed.{mag, _≤ℤ_, leZ-yes}
+use lib.Dec.{T, ltb, ltb→lt}
+use lib.IntN.{ℤ, pos, negsuc, negℤ, natAbs, subℕ, predℤ, _+ℤ_, _-ℤ_, _*ℤ_, negℤ-negℤ, sucℤ-+ℤ, predℤ-+ℤ, sucℤ-*ℤ, predℤ-*ℤ, +ℤ-assoc, +ℤ-comm, +ℤ-idl, zero-*ℤ, *ℤ-comm}
+use lib.Signed.{mag}
 use mir.Syntax.{Width}
 use mir.Val.{SFits, hbits}
 
@@ -56,16 +56,6 @@ pub +-* : (a b c : ℤ) → (a +ℤ b) *ℤ c ≡ a *ℤ c +ℤ b *ℤ c
 
 pub *-+ : (a b c : ℤ) → a *ℤ (b +ℤ c) ≡ a *ℤ b +ℤ a *ℤ c
 *-+ a b c = *ℤ-comm a (b +ℤ c) ∙ +-* b c a ∙ (λ i. *ℤ-comm b a i +ℤ *ℤ-comm c a i)
-
--- ---- cancellation of a summand
-pub +-cancel-left : (a b c : ℤ) → a +ℤ b ≡ a +ℤ c → b ≡ c
-+-cancel-left a b c e = sym (back a b) ∙ ap (λ x. negℤ a +ℤ x) e ∙ back a c
-  where
-    back : (a b : ℤ) → negℤ a +ℤ (a +ℤ b) ≡ b
-    back a b = sym (+ℤ-assoc (negℤ a) a b) ∙ ap (λ x. x +ℤ b) (+ℤ-invl a) ∙ +ℤ-idl b
-
-pub +-cancel-right : (a b c : ℤ) → a +ℤ c ≡ b +ℤ c → a ≡ b
-+-cancel-right a b c e = +-cancel-left c a b (+ℤ-comm c a ∙ e ∙ +ℤ-comm b c)
 
 -- ---- magnitudes
 pub natAbs-neg : (z : ℤ) → natAbs (negℤ z) ≡ natAbs z
@@ -121,11 +111,7 @@ abs-mag (negsuc n) h = h
 pub fits-within : (w : Width) (z : ℤ) → SFits w z → natAbs z ≤ 2 ^ hbits w
 fits-within w z f = abs-mag z (f .sfits)
 
--- ---- a square is not negative
+-- ---- a square is that of the magnitude
 pub square : (z : ℤ) → z *ℤ z ≡ pos (natAbs z * natAbs z)
 square (pos n) = refl
 square (negsuc n) = refl
-
-pub square-nonneg : (z : ℤ) → pos 0 ≤ℤ (z *ℤ z)
-square-nonneg (pos n) = leZ-yes (le→leb 0 (n * n) zero-le)
-square-nonneg (negsuc n) = leZ-yes (le→leb 0 (suc n * suc n) zero-le)

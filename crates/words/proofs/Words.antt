@@ -215,10 +215,3 @@ write-read (suc k) s at h =
     let low : (getD s at 0 + 256 * word k s (suc at)) % 256 ≡ getD s at 0 = omega (arith, h at) in
     let high : (getD s at 0 + 256 * word k s (suc at)) / 256 ≡ word k s (suc at) = omega (arith, h at) in
     rw (low, high, set-getD s at 0) (write-read k s (suc at) h)
-
--- a word that the run does not touch is as it was
-pub word-before : (k : ℕ) (s : List ℕ) (i at : ℕ) (bs : List ℕ) → i + k ≤ at → word k (lay s at bs) i ≡ word k s i
-word-before k s i at bs h = word-same k (lay s at bs) s i (λ j p q. lay-before bs s at j (omega arith))
-
-pub word-beyond : (k : ℕ) (s : List ℕ) (i at : ℕ) (bs : List ℕ) → at + length bs ≤ i → word k (lay s at bs) i ≡ word k s i
-word-beyond k s i at bs h = word-same k (lay s at bs) s i (λ j p q. lay-beyond bs s at j (omega arith))

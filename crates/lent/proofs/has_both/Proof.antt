@@ -1,5 +1,6 @@
 -- `lent::has_both` meets its contract.
 -- Assumes nothing.
+use mathlib.Core.Path.{sym, _∙_}
 use Rattle.whole.proofs.Cases.{holds, fails}
 use borrow.Author.Needs.{needs}
 use Rattle.lent.proofs.has_both.Statement.{statement}
@@ -12,10 +13,10 @@ has-tally-requires : tie.Need-has-tally-requires
 has-tally-requires c κs = search needs
 
 returns : tie.Need-returns
-returns c = holds _ _ (cc) (c .has-tally .ensures)
+returns c = holds _ _ (sym (c .before .before .has-heading .ensures) ∙ c .before .if1 .taken) (c .has-tally .ensures)
 
 returns-2 : tie.Need-returns-2
-returns-2 c = fails _ _ (cc)
+returns-2 c = fails _ _ (sym (c .before .has-heading .ensures) ∙ c .if1 .left)
 
 pub has-both-spec : {M : Type 1} → statement M
 has-both-spec = tie.close (tie.spec has-heading-requires has-tally-requires returns returns-2)

@@ -16,7 +16,7 @@ read-u64-requires c κs = search needs
 
 returns : tie.Need-returns
 unfolding tallyIn
-returns c = cc
+returns c = λ i. record { square = c .read-u64 .ensures i; counts = c .before .before .counts-in .ensures i; rows = c .before .rows-in .ensures i }
 
 pub tally-in-spec : {M : Type 1} → statement M
 tally-in-spec = tie.close (tie.spec counts-in-requires rows-in-requires read-u64-requires returns)

@@ -10,8 +10,7 @@ use mir.ValLaws.{toZ-ofZ}
 use Rattle.sums.specs.Sound.{RightSides}
 use Rattle.sums.specs.declared.Walked.{Walked}
 use Rattle.sums.specs.declared.Walked.the-variants.{Sound, Unsound}
-use Rattle.system.specs.System.{boundOf}
-use Rattle.normjudge.specs.Judge.{sidesWhere}
+use Rattle.system.specs.System.{boundOf, sidesWhere}
 use Rattle.sums.proofs.Tests.{not-below}
 use Rattle.normjudge.proofs.Sums.{rights-sound, rights-unsound}
 use Rattle.normjudge.proofs.sides_sound.Statement.{statement}

@@ -10,8 +10,7 @@ use mir.ValLaws.{toZ-ofZ}
 use Rattle.sums.specs.Sound.{Right}
 use Rattle.sums.specs.declared.Walked.{Walked}
 use Rattle.sums.specs.declared.Walked.the-variants.{Sound, Unsound}
-use Rattle.system.specs.System.{boundOf, sumsWhere}
-use Rattle.normjudge.specs.Judge.{sidesWhere}
+use Rattle.system.specs.System.{boundOf, sidesWhere, sumsWhere}
 use Rattle.sums.proofs.Tests.{not-below}
 use Rattle.normjudge.proofs.Sums.{matrix-sound, matrix-unsound}
 use Rattle.normjudge.proofs.sums_sound.Statement.{statement}

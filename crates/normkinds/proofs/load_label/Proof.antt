@@ -36,7 +36,7 @@ read-i64-requires c κs = search needs
 
 returns : tie.Need-returns
 unfolding normalLabelAt
-returns c = rw (toZ-ofZ w64 (c .read-i64 .result) (record { sfits = c .read-i64 .ok })) (cc)
+returns c = rw (toZ-ofZ w64 (c .read-i64 .result) (record { sfits = c .read-i64 .ok }), c .before .before .before .before .read-u16 .ensures, c .before .before .before .read-u162 .ensures, c .before .before .read-u32 .ensures, c .before .read-u322 .ensures, c .read-i64 .ensures)
 
 pub load-label-spec : {M : Type 1} → statement M
 load-label-spec =

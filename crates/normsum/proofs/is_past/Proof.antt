@@ -10,9 +10,8 @@ use native.Mathlib.Omega.{arith}
 use mir.Syntax.{w64}
 use mir.Val.{SFits, toZ, ofZ}
 use mir.ValLaws.{toZ-ofZ}
-use Rattle.sums.proofs.Tests.{neg-fits, lower, lower-back, test-of}
+use Rattle.sums.proofs.Tests.{neg-fits, lower, lower-back, test-of, chosen, other}
 use Rattle.normsum.specs.Sums.{past}
-use Rattle.normsum.proofs.Entries.{pick-first, pick-second}
 use borrow.Author.Needs.{needs}
 use Rattle.normsum.proofs.is_past.Statement.{statement}
 use Rattle.normsum.proofs.is_past.Tie as tie
@@ -28,14 +27,14 @@ cast-b c = search needs
 
 returns : tie.Need-returns
 unfolding past
-returns c = sym (pick-first _ _ _ (above (c .before) true (c .if1 .taken)))
+returns c = sym (chosen _ _ _ (above (c .before) true (c .if1 .taken)))
 
 sub-result : tie.Need-sub-result
 sub-result c = rw (lower _ (bits (c .before))) (neg-fits _ (leZ-yes (le→leb 0 (c .before .args .bound) zero-le)) (bits (c .before)))
 
 returns-2 : tie.Need-returns-2
 unfolding past
-returns-2 c = ap₂ ltZ (toZ-ofZ w64 _ (c .before .fits .x)) (lower-back _ (leZ-yes (le→leb 0 (c .before .args .bound) zero-le)) (bits (c .before))) ∙ sym (pick-second _ _ _ (above (c .before) false (c .if1 .left)))
+returns-2 c = ap₂ ltZ (toZ-ofZ w64 _ (c .before .fits .x)) (lower-back _ (leZ-yes (le→leb 0 (c .before .args .bound) zero-le)) (bits (c .before))) ∙ sym (other _ _ _ (above (c .before) false (c .if1 .left)))
 
 pub is-past-spec : {M : Type 1} → statement M
 is-past-spec = tie.close (tie.spec cast-b returns sub-result returns-2)
