@@ -19,7 +19,7 @@ use Rattle.normwrite.specs.Write as write
 use Rattle.normstate.specs.OfState as state
 use Rattle.normmerge.specs.Files.{fromFile, pairLeft, mergeLeft}
 use Rattle.listing.specs.Listing.{listLeft}
-use Rattle.takecalls.specs.Taking.{Lent, stateIn}
+use Rattle.wheloruka.specs.Taking.{Lent, stateIn}
 use Rattle.calling.specs.Reading.{judgedNumber}
 use Rattle.wheloruka.specs.Writing.{stateFile, stateFileLeft}
 use Rattle.wheloruka.proofs.Numbers.{as-told}

@@ -5,7 +5,7 @@ use Rattle.whole.specs.Tests.{pick}
 use Rattle.whole.specs.Answer.{Answered, refused}
 use Rattle.lent.specs.Lent.{headingIn, hasBoth}
 use Rattle.normstate.specs.OfState as state
-use Rattle.takecalls.specs.Taking.{Lent, stateIn}
+use Rattle.wheloruka.specs.Taking.{Lent, stateIn}
 
 -- ---- the normal file of a state in lent room: 20 where the heading or the tally is not there whole, else as for the state by value
 unfoldable pub stateFile : List ℕ → Lent → ℕ → Answered ℕ

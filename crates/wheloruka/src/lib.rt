@@ -1,6 +1,7 @@
 // The library for callers in C and in Rust: numbers and slices only, no requirement on any of them. A call answers 0 where it is done, else the
 // paper's refusal number; results go into lent room, and a refusal changes nothing there. include/wheloruka.h declares the calls.
 use days::Date;
+use heading::Verdict;
 use section::ReadAnswer;
 ghost use mathlib.Core.Path.{_≡_};
 ghost use lib.ListN.{length};
@@ -15,7 +16,7 @@ ghost use Rattle.listing.specs.Listing.{listAnswer, listLeft};
 ghost use Rattle.wheloruka.specs.Numbers.{dayValues, dateValues, cellValues, indexValues, unitValues, doubleValues};
 ghost use Rattle.calling.specs.Reading.{placeOf, readNumber, headingLeft, placesLeft, judgedNumber};
 ghost use Rattle.wheloruka.specs.Reading.{normalValues};
-ghost use Rattle.takecalls.specs.Taking.{
+ghost use Rattle.wheloruka.specs.Taking.{
   lent,
   startNumber,
   startLeft,
@@ -156,7 +157,20 @@ pub extern "C" fn whl_start(
     ensures { λ r. ⌜ r ≡ startNumber (now (heading .entry)) (lent (now (tally .entry)) (now (matrix .entry)) (now (rights .entry))) ⌝ }
     ensures left { λ _. ⌜ lent (now (tally .exit)) (now (matrix .exit)) (now (rights .exit)) ≡ startLeft (now (heading .entry)) (lent (now (tally .entry)) (now (matrix .entry)) (now (rights .entry))) ⌝ }
 {
-    takecalls::start(heading, tally, matrix, rights)
+    if lent::has_both(heading, tally) {
+        let started = state::start(lent::heading_in(heading), matrix, rights);
+        let answer = started.answer;
+        let t = started.tally;
+        match answer {
+            Verdict::Sound => {
+                lenttally::put_tally(t, tally);
+                0
+            }
+            Verdict::Refused(e) => refusal::number(e),
+        }
+    } else {
+        20
+    }
 }
 
 // A heading and a state judged.
@@ -164,7 +178,16 @@ pub extern "C" fn whl_start(
 pub extern "C" fn whl_judge(heading: &[u8], tally: &[u8], matrix: &[i64], rights: &[i64]) -> u32
     ensures { λ r. ⌜ r ≡ judgeNumber (now (heading .entry)) (lent (now (tally .entry)) (now (matrix .entry)) (now (rights .entry))) ⌝ }
 {
-    takecalls::judge(heading, tally, matrix, rights)
+    if lent::has_both(heading, tally) {
+        let h = lent::heading_in(heading);
+        let t = lenttally::tally_in(tally);
+        match state::judge_state(h, t, matrix, rights) {
+            Verdict::Sound => 0,
+            Verdict::Refused(e) => refusal::number(e),
+        }
+    } else {
+        20
+    }
 }
 
 // A record taken into a state.
@@ -179,7 +202,13 @@ pub extern "C" fn whl_take(
     ensures { λ r. ⌜ r ≡ takeNumber (now (heading .entry)) (now (bytes .entry)) (lent (now (tally .entry)) (now (matrix .entry)) (now (rights .entry))) ⌝ }
     ensures left { λ _. ⌜ lent (now (tally .exit)) (now (matrix .exit)) (now (rights .exit)) ≡ takeLeft (now (heading .entry)) (now (bytes .entry)) (lent (now (tally .entry)) (now (matrix .entry)) (now (rights .entry))) ⌝ }
 {
-    takecalls::take(heading, tally, matrix, rights, bytes)
+    if lent::has_both(heading, tally) {
+        let h = lent::heading_in(heading);
+        let t = lenttally::tally_in(tally);
+        calling::give_taken(taking::take(h, t, matrix, rights, bytes), tally)
+    } else {
+        20
+    }
 }
 
 // A run of whole records taken into a state, each with its answer.
@@ -196,7 +225,14 @@ pub extern "C" fn whl_take_run(
     ensures left { λ _. ⌜ lent (now (tally .exit)) (now (matrix .exit)) (now (rights .exit)) ≡ runLeft (now (heading .entry)) (now (run .entry)) (length (now (answers .entry))) (lent (now (tally .entry)) (now (matrix .entry)) (now (rights .entry))) ⌝ }
     ensures told { λ _. ⌜ now (answers .exit) ≡ answersLeft (now (heading .entry)) (now (run .entry)) (now (answers .entry)) (lent (now (tally .entry)) (now (matrix .entry)) (now (rights .entry))) ⌝ }
 {
-    takecalls::take_run(heading, tally, matrix, rights, run, answers)
+    if lent::has_both(heading, tally) {
+        let h = lent::heading_in(heading);
+        let t = lenttally::tally_in(tally);
+        let taken = taking::take_run(h, t, matrix, rights, run, answers);
+        calling::give_taken(taken, tally)
+    } else {
+        20
+    }
 }
 
 // 1 where a parameter is seen, else 0.

@@ -5,7 +5,7 @@ use lib.ListN.{length, take}
 use lib.Seq.{length-take-le}
 use Rattle.state.specs.State.{stateOf}
 use Rattle.normstate.specs.OfState.{fileOf, leftIn}
-use Rattle.takecalls.specs.Taking.{lent}
+use Rattle.wheloruka.specs.Taking.{lent}
 use Rattle.wheloruka.specs.Writing.{stateFile, stateFileLeft}
 use Rattle.wheloruka.proofs.Writes.{gives, keeps, file-whole, left-whole, file-short, left-short, state-none}
 use borrow.Author.Needs.{needs}

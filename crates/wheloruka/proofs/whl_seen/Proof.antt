@@ -2,7 +2,7 @@
 -- Assumes nothing.
 use mathlib.Core.Path.{refl, sym, _∙_}
 use Rattle.whole.proofs.Cases.{yes, no}
-use Rattle.takecalls.specs.Taking.{seenNumber}
+use Rattle.wheloruka.specs.Taking.{seenNumber}
 use borrow.Author.Needs.{needs}
 use Rattle.wheloruka.proofs.whl_seen.Statement.{statement}
 use Rattle.wheloruka.proofs.whl_seen.Tie as tie

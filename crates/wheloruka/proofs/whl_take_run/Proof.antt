@@ -1,4 +1,4 @@
--- `takecalls::take_run` meets its contract: 20, taken, or refused with everything kept.
+-- `wheloruka::whl_take_run` meets its contract: 20, taken, or refused with everything kept.
 -- Assumes nothing.
 use mathlib.Core.Path.{sym, ap₂, _∙_}
 use lib.ListN.{length}
@@ -6,10 +6,10 @@ use Rattle.refusal.specs.First.{answered}
 use Rattle.state.specs.State.{stateOf}
 use Rattle.account.specs.Taking.{runNumber, runState, runAnswers}
 use Rattle.taking.proofs.Answers.{state-left}
-use Rattle.takecalls.proofs.Calls.{short, gives, answers-short, answers-whole}
+use Rattle.wheloruka.proofs.Calls.{short, gives, answers-short, answers-whole}
 use borrow.Author.Needs.{needs}
-use Rattle.takecalls.proofs.take_run.Statement.{statement}
-use Rattle.takecalls.proofs.take_run.Tie as tie
+use Rattle.wheloruka.proofs.whl_take_run.Statement.{statement}
+use Rattle.wheloruka.proofs.whl_take_run.Tie as tie
 
 has-both-requires : tie.Need-has-both-requires
 has-both-requires c κs = search needs
@@ -59,8 +59,8 @@ returns-2 c =
     let d = short _ _ _ _ e in
     (d .0, (d .1, answers-short _ _ _ _ e))
 
-pub take-run-spec : {M : Type 1} → statement M
-take-run-spec =
+pub whl-take-run-spec : {M : Type 1} → statement M
+whl-take-run-spec =
     tie.close
     (tie.spec
     has-both-requires

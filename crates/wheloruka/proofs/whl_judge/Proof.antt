@@ -1,13 +1,13 @@
--- `takecalls::judge` meets its contract.
+-- `wheloruka::whl_judge` meets its contract.
 -- Assumes nothing.
 use mathlib.Core.Path.{sym, ap, ap₂, _∙_}
 use Rattle.refusal.specs.First.{answered}
 use Rattle.heading.specs.Judge.{toldVerdict}
 use Rattle.state.specs.State.{stateOf, stateNumber}
-use Rattle.takecalls.proofs.Calls.{number-short, number-done, number-refused}
+use Rattle.wheloruka.proofs.Calls.{number-short, number-done, number-refused}
 use borrow.Author.Needs.{needs}
-use Rattle.takecalls.proofs.judge.Statement.{statement}
-use Rattle.takecalls.proofs.judge.Tie as tie
+use Rattle.wheloruka.proofs.whl_judge.Statement.{statement}
+use Rattle.wheloruka.proofs.whl_judge.Tie as tie
 
 has-both-requires : tie.Need-has-both-requires
 has-both-requires c κs = search needs
@@ -45,8 +45,8 @@ returns-2 c =
 returns-3 : tie.Need-returns-3
 returns-3 c = number-short _ _ _ (sym (c .before .has-both .ensures) ∙ c .if1 .left)
 
-pub judge-spec : {M : Type 1} → statement M
-judge-spec =
+pub whl-judge-spec : {M : Type 1} → statement M
+whl-judge-spec =
     tie.close
     (tie.spec
     has-both-requires

@@ -25,7 +25,7 @@ use Rattle.lent.specs.Lent.{headingIn, hasBoth}
 use Rattle.lenttally.specs.Tally.{tallyBytes}
 use Rattle.section.specs.Told.{onDone}
 use Rattle.calling.proofs.Rooms.{is-done, is-kept}
-use Rattle.takecalls.specs.Taking.{Lent, lent, stateIn, lentNumber, callNumber, callLeft, answersLeft}
+use Rattle.wheloruka.specs.Taking.{Lent, lent, stateIn, lentNumber, callNumber, callLeft, answersLeft}
 
 -- ---- any call: k is the number that follows
 module _ (b : List ℕ) (x : Lent) (k : ℕ) where

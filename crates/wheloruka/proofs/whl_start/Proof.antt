@@ -1,13 +1,13 @@
--- `takecalls::start` meets its contract: 20, done, or refused with everything kept.
+-- `wheloruka::whl_start` meets its contract: 20, done, or refused with everything kept.
 -- Assumes nothing.
 use mathlib.Core.Path.{sym, ap, _∙_}
 use Rattle.refusal.specs.First.{answered}
 use Rattle.heading.specs.Judge.{toldVerdict}
 use Rattle.state.specs.State.{roomNumber, started}
-use Rattle.takecalls.proofs.Calls.{short, done, kept, start-kept}
+use Rattle.wheloruka.proofs.Calls.{short, done, kept, start-kept}
 use borrow.Author.Needs.{needs}
-use Rattle.takecalls.proofs.start.Statement.{statement}
-use Rattle.takecalls.proofs.start.Tie as tie
+use Rattle.wheloruka.proofs.whl_start.Statement.{statement}
+use Rattle.wheloruka.proofs.whl_start.Tie as tie
 
 has-both-requires : tie.Need-has-both-requires
 has-both-requires c κs = search needs
@@ -74,8 +74,8 @@ same-length-7 c = search needs
 returns-3 : tie.Need-returns-3
 returns-3 c = short _ _ _ _ (sym (c .before .has-both .ensures) ∙ c .if1 .left)
 
-pub start-spec : {M : Type 1} → statement M
-start-spec =
+pub whl-start-spec : {M : Type 1} → statement M
+whl-start-spec =
     tie.close
     (tie.spec
     has-both-requires

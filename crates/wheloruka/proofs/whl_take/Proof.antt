@@ -1,13 +1,13 @@
--- `takecalls::take` meets its contract: 20, taken, or refused with everything kept.
+-- `wheloruka::whl_take` meets its contract: 20, taken, or refused with everything kept.
 -- Assumes nothing.
 use mathlib.Core.Path.{sym, ap₂, _∙_}
 use Rattle.refusal.specs.First.{answered}
 use Rattle.state.specs.State.{stateOf}
 use Rattle.account.specs.Taking.{takeAnswer, takeStep}
-use Rattle.takecalls.proofs.Calls.{short, gives, take-kept}
+use Rattle.wheloruka.proofs.Calls.{short, gives, take-kept}
 use borrow.Author.Needs.{needs}
-use Rattle.takecalls.proofs.take.Statement.{statement}
-use Rattle.takecalls.proofs.take.Tie as tie
+use Rattle.wheloruka.proofs.whl_take.Statement.{statement}
+use Rattle.wheloruka.proofs.whl_take.Tie as tie
 
 has-both-requires : tie.Need-has-both-requires
 has-both-requires c κs = search needs
@@ -49,8 +49,8 @@ same-length-4 c = search needs
 returns-2 : tie.Need-returns-2
 returns-2 c = short _ _ _ _ (sym (c .before .has-both .ensures) ∙ c .if1 .left)
 
-pub take-spec : {M : Type 1} → statement M
-take-spec =
+pub whl-take-spec : {M : Type 1} → statement M
+whl-take-spec =
     tie.close
     (tie.spec
     has-both-requires
