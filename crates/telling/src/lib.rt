@@ -1,8 +1,7 @@
 // What the desk program says of a file in one line: its name, the refusal's number and place, and the sentence of the paper's table.
 use refusal::Refusal;
 
-// The sentence of the paper's table for a refusal, in three parts, since a match of all 21 is long to prove: of a file or its room, of a
-// record, and of two files together.
+// The sentence of the paper's table for a refusal.
 fn put_sentence(r: Refusal) {
     match r {
         Refusal::Short => lines::put(
@@ -15,13 +14,6 @@ fn put_sentence(r: Refusal) {
         ),
         Refusal::Order => lines::put(b"labels, stations or arcs don't ascend"),
         Refusal::Unsound => lines::put(b"sums not sound"),
-        Refusal::Room => lines::put(b"a lent buffer shorter than needed"),
-        _ => put_record_sentence(r),
-    }
-}
-
-fn put_record_sentence(r: Refusal) {
-    match r {
         Refusal::NoStation => lines::put(b"station not listed"),
         Refusal::NoType => lines::put(b"type not 1 to 10"),
         Refusal::Sigma => lines::put(b"s not 1 to 256"),
@@ -32,17 +24,11 @@ fn put_record_sentence(r: Refusal) {
         Refusal::NotLater => lines::put(b"t not later than the last time of this station and type"),
         Refusal::Edit => lines::put(b"edit not passed"),
         Refusal::Full => lines::put(b"station already has 256"),
-        _ => put_merging_sentence(r),
-    }
-}
-
-// The last of these is the table's last.
-fn put_merging_sentence(r: Refusal) {
-    match r {
+        Refusal::Room => lines::put(b"a lent buffer shorter than needed"),
         Refusal::SharedArc => lines::put(b"both files list one arc"),
         Refusal::ManyArcs => lines::put(b"more than 16 arcs together"),
         Refusal::ManyParameters => lines::put(b"more than 500 parameters together"),
-        _ => lines::put(b"a common label with unlike prior weight or estimate"),
+        Refusal::Unlike => lines::put(b"a common label with unlike prior weight or estimate"),
     }
 }
 
