@@ -19,7 +19,7 @@ int main(void)
     }
     size_t parameters = two(heading + 12), records = found[0], start = found[1];
 
-    /* A heading that was read is sound and the rooms are the longest, so neither call refuses; it is asked all the same. */
+    /* A heading that was read is sound and the rooms are the longest, so no call below refuses; each is asked all the same. */
     refusal = whl_start(heading, sizeof heading, tally, sizeof tally, matrix, WHL_MATRIX_SUMS(50), rights, 50);
     if (!refusal)
         refusal = whl_take_run(heading, sizeof heading, tally, sizeof tally, matrix, WHL_MATRIX_SUMS(50), rights, 50, file + start, bytes - start,
@@ -34,8 +34,14 @@ int main(void)
         accepted += answers[i] == 0;
     for (size_t i = 0; i < parameters; i++) {
         const uint8_t *label = heading + 16 + 16 * i;
-        printf("%u %u %s %lld %lld\n", two(label), two(label + 2), whl_seen(matrix, WHL_MATRIX_SUMS(50), i) ? "seen" : "unseen",
-               (long long)matrix[i * (i + 3) / 2], (long long)rights[i]);
+        uint32_t seen = 0;
+        refusal = whl_seen(heading, sizeof heading, tally, sizeof tally, matrix, WHL_MATRIX_SUMS(50), rights, 50, i, &seen, 1);
+        if (refusal) {
+            printf("refused %u\n", refusal);
+            return 1;
+        }
+        printf("%u %u %s %lld %lld\n", two(label), two(label + 2), seen ? "seen" : "unseen", (long long)matrix[i * (i + 3) / 2],
+               (long long)rights[i]);
     }
     printf("%zu of %zu records accepted\n", accepted, records);
     return 0;

@@ -1,6 +1,6 @@
 /* Runs the library's calls on cases whose answers plain C works out here or in bench/peer.c, and prints what was compared: days and cells one by
-   one, units at random and at the limits, forged headings and states, rooms one element too short or longer than needed, files cut short, normal files unpacked,
-   written again and merged, listings. */
+   one, units at random and at the limits, residuals at random and across north, forged headings and states, rooms one element too short or longer
+   than needed, files cut short, arc files read and written again, normal files unpacked, written again and merged, listings. */
 #include <stdint.h>
 #include <stdio.h>
 #include <string.h>
@@ -67,6 +67,21 @@ static void cells(void)
 
 /* ---- units */
 
+static double any_double(void)
+{
+    double x;
+    u64 bits = next(1u << 31);
+    bits = bits << 31 ^ next(1u << 31);
+    bits = bits << 2 ^ next(4);
+    memcpy(&x, &bits, 8);
+    return x;
+}
+
+static double inside(const struct type *t)
+{
+    return ((double)t->low + ((double)t->high - (double)t->low) * (next(1u << 30) / 1073741824.0)) / (double)(1ULL << t->k);
+}
+
 static void unit_case(u32 kind, double x)
 {
     i64 q = 0;
@@ -86,13 +101,8 @@ static void units(void)
         const struct type *t = &types[kind - 1];
         double scale = (double)(1ULL << t->k);
         for (int i = 0; i < 20000; i++) {
-            u64 bits = next(1u << 31);
-            bits = bits << 31 ^ next(1u << 31);
-            bits = bits << 2 ^ next(4);
-            double x;
-            memcpy(&x, &bits, 8);
-            unit_case(kind, x);
-            unit_case(kind, ((double)t->low + ((double)t->high - (double)t->low) * (next(1u << 30) / 1073741824.0)) / scale);
+            unit_case(kind, any_double());
+            unit_case(kind, inside(t));
         }
         for (int half = -4; half <= 4; half++) {
             unit_case(kind, ((double)t->low + half / 2.0) / scale);
@@ -109,6 +119,58 @@ static void units(void)
     int64_t q;
     CHECK(whl_unit_of(0, 1, &q, 1) == 11 && whl_unit_of(11, 1, &q, 1) == 11 && whl_double_of(0, 1, &out, 1) == 11);
     told("units");
+}
+
+/* ---- residuals: around one turn the shorter way */
+
+static void residual_case(u32 kind, double observed, double computed)
+{
+    const struct type *t = &types[kind - 1];
+    i64 o = 0, c = 0;
+    int64_t got = 77;
+    int a = unit(t, observed, &o), b = unit(t, computed, &c), answer = a == 15 || b == 15 ? 15 : a ? a : b;
+    uint32_t n = whl_residual(kind, observed, computed, &got, 1);
+    i64 r = t->turns ? (o - c) % TURN : o - c;
+    if (t->turns && 2 * r > TURN) r -= TURN;
+    if (t->turns && 2 * r < -TURN) r += TURN;
+    CHECK(n == (u32)answer && got == (answer ? 77 : r));
+    CHECK(whl_residual(kind, observed, computed, &got, 0) == (u32)(answer ? answer : 20));
+}
+
+static void residuals(void)
+{
+    int64_t q = 77;
+    for (u32 kind = 1; kind <= 10; kind++) {
+        const struct type *t = &types[kind - 1];
+        double scale = (double)(1ULL << t->k), not_a_number = __builtin_nan("");
+        for (int i = 0; i < 20000; i++) {
+            double x = inside(t);
+            residual_case(kind, x, inside(t));
+            residual_case(kind, x, x + ((int)next(2001) - 1000) / scale);
+            residual_case(kind, any_double(), x);
+            residual_case(kind, x, any_double());
+        }
+        /* at the limits, which for azimuth and right ascension are north from both sides */
+        for (int i = -9; i <= 9; i++)
+            for (int j = -9; j <= 9; j++) {
+                double low = (double)t->low, high = (double)t->high;
+                residual_case(kind, (low + i / 2.0) / scale, (high + j / 2.0) / scale);
+                residual_case(kind, (high + i / 2.0) / scale, (low + j / 2.0) / scale);
+                residual_case(kind, (low + i / 2.0) / scale, (low + j / 2.0) / scale);
+                residual_case(kind, (high + i / 2.0) / scale, (high + j / 2.0) / scale);
+                /* half a turn apart */
+                if (t->turns) residual_case(kind, (100 + i) / scale, (100 + HALF + j) / scale);
+                if (t->turns) residual_case(kind, (100 + HALF + j) / scale, (100 + i) / scale);
+            }
+        residual_case(kind, not_a_number, (double)(t->high + 1) / scale);
+        residual_case(kind, (double)(t->low - 1) / scale, __builtin_inf());
+    }
+    /* two units before north and three behind it */
+    CHECK(whl_residual(7, (TURN - 2) / 268435456.0, 3 / 268435456.0, &q, 1) == 0 && q == -5);
+    CHECK(whl_residual(7, 3 / 268435456.0, (TURN - 2) / 268435456.0, &q, 1) == 0 && q == 5);
+    q = 77;
+    CHECK(whl_residual(0, 1, 1, &q, 1) == 11 && whl_residual(11, 1, 1, &q, 1) == 11 && whl_residual(256 + 1, 1, 1, &q, 0) == 11 && q == 77);
+    told("residuals");
 }
 
 /* ---- an arc file of P parameters, T stations and some records that are accepted: its length */
@@ -131,12 +193,12 @@ static size_t make(int p, int t, int records)
 
 /* ---- forged headings and states, against the peer's judge */
 
-static int peer_judges(void)
+/* The heading that stands in bytes, with no labels and stations where there are more than there can be. */
+static struct heading lent_heading(void)
 {
     struct heading h = { u32_at(heading), u32_at(heading + 4), u16_at(heading + 8), u16_at(heading + 10), u16_at(heading + 12), u16_at(heading + 14), { { 0, 0, 0, 0 } }, { { 0, 0 } } };
-    struct tally t = { u64_at(tally), { 0 }, { { 0 } } };
     if (h.parameters > 50 || h.stations > 16)
-        return 2;
+        return h;
     for (usize i = 0; i < h.parameters; i++) {
         const u8 *p = heading + 16 + 16 * i;
         h.labels[i] = (struct label){ u16_at(p), u16_at(p + 2), u32_at(p + 4), (i64)u64_at(p + 8) };
@@ -145,6 +207,13 @@ static int peer_judges(void)
         const u8 *p = heading + 16 + 16 * h.parameters + 8 * i;
         h.listed[i] = (struct station){ u16_at(p), (i32)u32_at(p + 4) };
     }
+    return h;
+}
+
+static int peer_judges(void)
+{
+    struct heading h = lent_heading();
+    struct tally t = { u64_at(tally), { 0 }, { { 0 } } };
     for (usize i = 0; i < 16; i++) t.counts[i] = u32_at(tally + 8 + 4 * i);
     for (usize i = 0; i < 160; i++) t.last[i / 10][i % 10] = u64_at(tally + 72 + 8 * i);
     return judge_state(&h, &t, (const i64 *)matrix, (const i64 *)rights);
@@ -212,7 +281,24 @@ static void rooms(void)
         CHECK(whl_take_run(heading, h, tally, 1352, matrix, m, rights, r, file + found[1], 2 * size, answers, 3) == 0);
         CHECK(answers[0] == 0 && answers[1] == 0 && answers[2] == 7);
         CHECK(whl_take(heading, h, tally, 1352, matrix, m, rights, r, file + found[1], size) == 17);
-        for (int i = 0; i < p; i++) CHECK(whl_seen(matrix, m, (size_t)i) == (matrix[i * (i + 3) / 2] != 0));
+        /* in taking a short room comes before a bad heading, in writing only before what it holds */
+        static uint8_t bad[sizeof heading];
+        uint64_t written = 77;
+        memcpy(bad, heading, h); bad[12] = 51;
+        CHECK(whl_of_state(bad, 15, tally, 0, matrix, 0, rights, 0, answers, 0, &written, 0) == 20 && whl_of_state(bad, 16, tally, 0, matrix, 0, rights, 0, answers, 0, &written, 0) == 2);
+        memcpy(bad, heading, h); bad[16] = 9;
+        CHECK(whl_of_state(bad, h - 1, tally, 0, matrix, 0, rights, 0, answers, 0, &written, 0) == 20 && whl_of_state(bad, h, tally, 0, matrix, 0, rights, 0, answers, 0, &written, 0) == 4);
+        CHECK(whl_judge(bad, h, tally, 1351, matrix, m, rights, r) == 20 && whl_judge(bad, h, tally, 1352, matrix, m, rights, r) == 4);
+        CHECK(whl_of_state(heading, h, tally, 1351, matrix, m, rights, r, answers, 0, &written, 1) == 20 && whl_of_state(heading, h, tally, 1352, matrix, m - 1, rights, r, answers, 0, &written, 1) == 20);
+        matrix[0] = -matrix[0] - 1;
+        CHECK(whl_of_state(heading, h, tally, 1352, matrix, m, rights, r - 1, answers, 0, &written, 1) == 20 && whl_of_state(heading, h, tally, 1352, matrix, m, rights, r, answers, 0, &written, 0) == 6);
+        matrix[0] = -matrix[0] - 1;
+        CHECK(written == 77);
+        uint32_t seen[2] = { 77, 77 };
+        CHECK(whl_seen(heading, h - 1, tally, 1352, matrix, m, rights, r, 0, seen, 1) == 20 && whl_seen(heading, h, tally, 1351, matrix, m, rights, r, 0, seen, 1) == 20);
+        CHECK(whl_seen(heading, h, tally, 1352, matrix, m - 1, rights, r, 0, seen, 1) == 20 && whl_seen(heading, h, tally, 1352, matrix, m, rights, r - 1, 0, seen, 1) == 20);
+        CHECK(whl_seen(heading, h, tally, 1352, matrix, m, rights, r, 0, seen, 0) == 20 && whl_seen(heading, h, tally, 1352, matrix, m, rights, r, (size_t)p, seen, 1) == 4 && seen[0] == 77);
+        for (int i = 0; i < p; i++) CHECK(whl_seen(heading, h, tally, 1352, matrix, m, rights, r, (size_t)i, seen, 2) == 0 && seen[0] == (matrix[i * (i + 3) / 2] != 0) && seen[1] == 77);
     }
     told("rooms");
 }
@@ -242,6 +328,84 @@ static void cuts(void)
     file[47] = 0x80; /* the diagonal sum below zero */
     CHECK(whl_normal_read(file, at, out, 5) == 6 && whl_normal_place(file, at) == 40);
     told("files");
+}
+
+/* ---- arc files written from a heading in bytes and a run */
+
+static uint8_t arc[WHL_ARC_BYTES(1, 1, 65535) + 1], long_run[65536 * WHL_RECORD_BYTES(1)];
+
+/* What is to be answered to the heading's first h bytes, a run of so many bytes, and rooms. */
+static int write_answer(size_t h, size_t run, size_t room, size_t sizes)
+{
+    struct heading x = lent_heading();
+    if (h < 16)
+        return 20;
+    if (x.parameters < 1 || x.parameters > 50 || x.stations > 16 || run / WHL_RECORD_BYTES(x.parameters) > 65535)
+        return 2;
+    if (h < WHL_HEADING_BYTES(x.parameters, x.stations))
+        return 20;
+    int n = judge_heading(&x);
+    if (n)
+        return n;
+    if (run % WHL_RECORD_BYTES(x.parameters))
+        return 1;
+    return room < WHL_ARC_BYTES(x.parameters, x.stations, run / WHL_RECORD_BYTES(x.parameters)) || sizes < 1 ? 20 : 0;
+}
+
+static uint32_t write_case(size_t h, const uint8_t *run, size_t bytes, size_t room, size_t sizes)
+{
+    static uint8_t back[WHL_HEADING_MOST];
+    uint64_t size = 77, found[2];
+    memset(arc, 7, 4096);
+    uint32_t n = whl_write(heading, h, run, bytes, arc, room, &size, sizes);
+    CHECK(n == (u32)write_answer(h, bytes, room, sizes));
+    if (n) {
+        CHECK(size == 77);
+        for (size_t i = 0; i < 4096; i += 64) CHECK(arc[i] == 7);
+        return n;
+    }
+    /* what was written is read: the same heading but for two bytes of each station, and the same records */
+    CHECK((size == room || size >= 4096 || arc[size] == 7) && whl_read(arc, size, back, sizeof back, found, 2) == 0);
+    CHECK(size - found[1] == bytes && !memcmp(arc + found[1], run, bytes) && !memcmp(back, heading, 16 + 16 * u16_at(heading + 12)));
+    return n;
+}
+
+static void writes(void)
+{
+    unsigned long numbers[32] = { 0 };
+    for (int p = 1; p <= 50; p++) {
+        int t = p % 16 + 1, records = p % 5;
+        size_t length = make(p, t, records), h = WHL_HEADING_BYTES(p, t), record = WHL_RECORD_BYTES(p);
+        uint64_t found[2];
+        CHECK(length == WHL_ARC_BYTES(p, t, records) && whl_read(file, length, heading, sizeof heading, found, 2) == 0);
+        const uint8_t *run = file + found[1];
+        CHECK(write_case(h, run, length - found[1], sizeof arc, 1) == 0 && !memcmp(arc, file, length));
+        CHECK(write_case(h, run, length - found[1], length, 1) == 0 && !memcmp(arc, file, length));
+        CHECK(write_case(h, run, length - found[1], length, 0) == 20);
+        for (size_t n = 0; n < h; n++) CHECK(write_case(n, run, length - found[1], sizeof arc, 1) == 20);
+        for (size_t n = 0; n < length; n++) CHECK(write_case(h, run, length - found[1], n, 1) == 20);
+        for (size_t n = 0; n < length - found[1]; n++) CHECK(write_case(h, run, n, sizeof arc, 1) == (n % record ? 1 : 0));
+    }
+    for (int round = 0; round < 40000; round++) {
+        int p = 1 + (int)next(50), t = (int)next(17), records = t ? (int)next(4) : 0;
+        size_t length = make(p, t, records), h = WHL_HEADING_BYTES(p, t);
+        uint64_t found[2];
+        CHECK(whl_read(file, length, heading, sizeof heading, found, 2) == 0);
+        if (next(4)) heading[next(2) ? next((u32)h) : 12 + next(4)] ^= (u8)(1 << next(8));
+        size_t bytes = length - found[1];
+        if (bytes && !next(4)) bytes -= next((u32)bytes);
+        size_t lent = next(3) ? sizeof heading : next((u32)h + 1), room = next(3) ? 4096 : next((u32)length + 1);
+        numbers[write_case(lent, file + found[1], bytes, room, next(9) ? 1 : 0)]++;
+    }
+    CHECK(numbers[0] && numbers[1] && numbers[2] && numbers[4] && numbers[5] && numbers[20]);
+    /* 65,536 records are too many, and are told before a heading that is not there whole */
+    size_t length = make(1, 1, 0), most = sizeof long_run;
+    uint64_t found[2];
+    CHECK(whl_read(file, length, heading, sizeof heading, found, 2) == 0 && found[0] == 0);
+    CHECK(write_case(40, long_run, most, sizeof arc, 1) == 2 && write_case(16, long_run, most, sizeof arc, 1) == 2 && write_case(15, long_run, most, sizeof arc, 1) == 20);
+    CHECK(write_case(16, long_run, most - 1, sizeof arc, 1) == 20 && write_case(40, long_run, most - 1, sizeof arc, 1) == 1);
+    CHECK(write_case(40, long_run, most - 34, sizeof arc, 1) == 0 && write_case(40, long_run, most - 34, sizeof arc - 2, 1) == 20);
+    told("arc files written");
 }
 
 /* ---- normal files from states, unpacked, written again and merged; listings */
@@ -284,6 +448,16 @@ static void again(const uint8_t *bytes, size_t length)
     CHECK(whl_normal_write(a, p, heads, h - 1, sums, m, sides, p, copy, sizeof copy, &size, 1) == 20);
     CHECK(whl_normal_write(a, p, heads, h, sums, m, sides, p, copy, length - 1, &size, 1) == 20 && size == 77);
     CHECK(whl_normal_write(a, p, heads, h, sums, m, sides, p, copy, sizeof copy, &size, 1) == 0 && size == length && !memcmp(copy, bytes, length));
+    /* 2 before the heads' room, 4 before the sums', 6 before the bytes' */
+    CHECK(whl_normal_write(17, p, heads, 0, sums, 0, sides, 0, copy, 0, &size, 0) == 2 && whl_normal_write(a, 501, heads, 0, sums, 0, sides, 0, copy, 0, &size, 0) == 2);
+    uint64_t kind = heads[a];
+    int64_t corner = sums[0];
+    heads[a] = 9;
+    CHECK(whl_normal_write(a, p, heads, h - 1, sums, 0, sides, 0, copy, 0, &size, 0) == 20 && whl_normal_write(a, p, heads, h, sums, 0, sides, 0, copy, 0, &size, 0) == 4);
+    heads[a] = kind; sums[0] = -1;
+    CHECK(whl_normal_write(a, p, heads, h, sums, m - 1, sides, p, copy, 0, &size, 0) == 20 && whl_normal_write(a, p, heads, h, sums, m, sides, p - 1, copy, 0, &size, 0) == 20);
+    CHECK(whl_normal_write(a, p, heads, h, sums, m, sides, p, copy, 0, &size, 0) == 6);
+    sums[0] = corner;
     heads[0]++; heads[a]++; /* another arc, another kind: never the same file, often none */
     CHECK(whl_normal_write(a, p, heads, h, sums, m, sides, p, copy, sizeof copy, &size, 1) || memcmp(copy, bytes, length));
     sums[0] = -1;
@@ -338,9 +512,11 @@ int main(void)
     days();
     cells();
     units();
+    residuals();
     forged();
     rooms();
     cuts();
+    writes();
     normals();
     listings();
     if (wrong) printf("%lu WRONG\n", wrong);

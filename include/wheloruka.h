@@ -9,10 +9,21 @@
        14 outside the window      15 not finite                16 unit out of its limits           17 not later than the last
        18 edit not passed         19 station has 256 already   20 a room too short
        21 both files list one arc 22 more than 16 arcs         23 more than 500 parameters         24 a common label with unlike priors
+     whl_merge alone answers other numbers too: 101 to 106 and 201 to 206, a refusal of the first file plus 100 or of the second plus 200.
+   - A result of type uint64_t is a place in a file, the byte where the refusal is. 0 is a place like others: an empty file is refused with 1 at
+     0, a bad first count with 2 at 0. Whether a file is accepted is told by the call that reads it, and never by the place. Where a call
+     that reads a file answers 20 the place is the file's length; the calls that give places know of no room and do not tell it.
    - A room is a pointer and a number of elements. Results stand at its front; a longer room keeps its rest. A refusal changes nothing in any
-     room. 20 for a room of results comes last; for a room that holds an input (heading, tally, sums) it comes first.
-   - No pointer may be null, not even with 0 elements; a room that is written may not overlap any other. Nothing is kept between calls, and
-     nothing is allocated: calls in different threads on different rooms do not meet. */
+     room. 20 for a room of results comes last. For a room that holds an input (heading, tally, sums, heads) it comes first in taking; in calls
+     that write bytes it comes where the judging needs what is not there.
+   - No pointer may be null, not even with 0 elements; a room that is written may not overlap any other; each is aligned as C wants for its
+     elements. A room that only takes results may be uninitialised; one that is read may not, and the state of an arc, which whl_start fills, is
+     read by every later call.
+   - Nothing is kept between calls, and nothing is allocated: calls in different threads on different rooms do not meet. Stack: whl_list 98 KB,
+     whl_merge 25 KB, every other call below 14 KB.
+   - The calls that look at doubles (whl_unit_of, whl_double_of, whl_residual, whl_take, whl_take_run, whl_list) work in the floating-point
+     environment that a C program starts with: rounding to nearest, no exception unmasked, subnormals kept. In another one they may answer
+     otherwise, or trap; no promise holds there, and nothing looks at it. */
 #ifndef WHELORUKA_H
 #define WHELORUKA_H
 #include <stddef.h>
@@ -32,8 +43,9 @@ extern "C" {
 #define WHL_TALLY_BYTES 1352
 /* The matrix sums: the packed upper triangle by columns; row i and column j, from 0 with i <= j, stand at j (j + 1) / 2 + i. */
 #define WHL_MATRIX_SUMS(P) ((size_t)(P) * ((size_t)(P) + 1) / 2)
-/* A tracking record in bytes. */
+/* A tracking record in bytes, and an arc file of so many of them. */
 #define WHL_RECORD_BYTES(P) (32 + 2 * (size_t)(P))
+#define WHL_ARC_BYTES(P, T, RECORDS) (28 + 16 * (size_t)(P) + 8 * (size_t)(T) + (size_t)(RECORDS) * WHL_RECORD_BYTES(P))
 /* A normal file in bytes; and the heads of what it holds, an element each: the A arcs; for each of the P labels kind, index, arc, prior weight and
    estimate (in two's complement); accepted; the square sum. Its matrix sums and right sides have rooms as those of a state. */
 #define WHL_NORMAL_BYTES(A, P) (36 + 4 * (size_t)(A) + 32 * (size_t)(P) + 8 * WHL_MATRIX_SUMS(P))
@@ -61,14 +73,21 @@ uint32_t whl_index_of(uint32_t letter, uint32_t degree, uint32_t order, uint32_t
 uint32_t whl_unit_of(uint32_t kind, double x, int64_t *out, size_t out_length);
 /* The double of a unit, exactly, in out[0]. 11, 16; 20: out_length < 1. */
 uint32_t whl_double_of(uint32_t kind, int64_t unit, double *out, size_t out_length);
+/* The residual of a measurement in out[0]: observed minus computed, in units; around one turn for types 7 and 9. 11, 15, 16; 20: out_length < 1. */
+uint32_t whl_residual(uint32_t kind, double observed, double computed, int64_t *out, size_t out_length);
 
 /* ---- arc files */
 
 /* The file's heading, in WHL_HEADING_BYTES of its own P and T (WHL_HEADING_MOST always suffices); the number of its records in out[0] and the
    place of the first one's first byte in out[1]. 1, 2, 3, 4, 5; 20: heading or out (2) too short; the place of 20 is the file's length. */
 uint32_t whl_read(const uint8_t *file, size_t file_length, uint8_t *heading, size_t heading_length, uint64_t *out, size_t out_length);
-/* The place of the file's refusal; 0 where it is accepted. */
+/* The place of the file's refusal; 0 where it is accepted, and also for a refusal at byte 0. Not of the 20 of whl_read, whose place is the length. */
 uint64_t whl_read_place(const uint8_t *file, size_t file_length);
+/* An arc file of a heading in bytes (below) and a run of whole records: these WHL_ARC_BYTES in out, their number in size[0]. Of any values: 20 where
+   the heading has fewer than 16 bytes, 2 (its P and T, and more than 65535 records), 20 where it is shorter than its own P and T want, 4, 5, 1 where
+   the run ends inside a record; 20 last where out is too short or size_length is 0. */
+uint32_t whl_write(const uint8_t *heading, size_t heading_length, const uint8_t *run, size_t run_length, uint8_t *out, size_t out_length,
+                   uint64_t *size, size_t size_length);
 
 /* ---- taking. A heading of bytes, and a state: a tally of WHL_TALLY_BYTES, matrix sums, right sides, P of them. All may hold any values: what is
    wrong with them is refused. 20: the heading shorter than its own P and T want (a P above 50 stands as 50, a T above 16 as 16), the tally
@@ -80,22 +99,24 @@ uint32_t whl_start(const uint8_t *heading, size_t heading_length, uint8_t *tally
 /* A heading and a state judged; 0 where they are sound. 20, 2, 4, 5, 6. */
 uint32_t whl_judge(const uint8_t *heading, size_t heading_length, const uint8_t *tally, size_t tally_length, const int64_t *matrix,
                    size_t matrix_length, const int64_t *rights, size_t rights_length);
-/* One record taken; 0 where it is accepted. 20, 2, 4, 5, 6, 1, 3, 10 to 19. The heading and the state are judged each time. */
+/* One record, its bytes, taken; 0 where it is accepted. 20, 2, 4, 5, 6, 1, 3, 10 to 19. The heading and the state are judged each time. */
 uint32_t whl_take(const uint8_t *heading, size_t heading_length, uint8_t *tally, size_t tally_length, int64_t *matrix, size_t matrix_length,
-                  int64_t *rights, size_t rights_length, const uint8_t *record, size_t record_length);
+                  int64_t *rights, size_t rights_length, const uint8_t *bytes, size_t bytes_length);
 /* A run of whole records taken, judged once; answers[i] is 0 or 10 to 19 for record i. 20 (also: fewer answers than records), 2, 4, 5, 6, and
    1 where the run ends inside a record. */
 uint32_t whl_take_run(const uint8_t *heading, size_t heading_length, uint8_t *tally, size_t tally_length, int64_t *matrix, size_t matrix_length,
                       int64_t *rights, size_t rights_length, const uint8_t *run, size_t run_length, uint8_t *answers, size_t answers_length);
-/* 1 where a parameter, counted from 0, is seen: its diagonal sum is not 0; else 0. */
-uint32_t whl_seen(const int64_t *matrix, size_t matrix_length, size_t parameter);
+/* Whether a parameter, counted from 0, is seen: in out[0] 1 where its diagonal sum is not 0, else 0. 20, 2, 4, 5, 6, judged each time; 4 where the
+   number is not below P; 20: out_length < 1. */
+uint32_t whl_seen(const uint8_t *heading, size_t heading_length, const uint8_t *tally, size_t tally_length, const int64_t *matrix,
+                  size_t matrix_length, const int64_t *rights, size_t rights_length, size_t parameter, uint32_t *out, size_t out_length);
 
 /* ---- normal files */
 
 /* In out[0] to out[4]: the numbers of arcs and of parameters, and the places of the first matrix sum, the first right side and the totals.
    1, 2, 3, 4, 5, 6; 20: out_length < 5. */
 uint32_t whl_normal_read(const uint8_t *file, size_t file_length, uint64_t *out, size_t out_length);
-/* The place of the file's refusal; 0 where it is accepted. */
+/* The same for a normal file; not of the 20 of whl_normal_read and whl_normal_unpack. */
 uint64_t whl_normal_place(const uint8_t *file, size_t file_length);
 /* What the file holds, in three rooms. 1, 2, 3, 4, 5, 6; 20: heads shorter than WHL_HEADS, matrix than WHL_MATRIX_SUMS or rights than P, for the
    file's own A and P; the place of 20 is the file's length. */
@@ -104,11 +125,12 @@ uint32_t whl_normal_unpack(const uint8_t *file, size_t file_length, uint64_t *he
 
 /* ---- calls that write bytes: these in out, their number in size[0]. 20 comes last where out is too short or size_length is 0. */
 
-/* The normal file of what stands in three rooms, of any values: WHL_NORMAL_BYTES. 20 first for the three rooms (an A above 16 stands as 16, a P
-   above 500 as 500), then 2, 4, 5, 6, 20. */
+/* The normal file of what stands in three rooms, of any values: WHL_NORMAL_BYTES. In this order: 2 for A and P; 20: heads shorter than WHL_HEADS;
+   4, 5; 20: matrix shorter than WHL_MATRIX_SUMS or rights than P; 6; 20 for out and size. */
 uint32_t whl_normal_write(size_t arcs, size_t parameters, const uint64_t *heads, size_t heads_length, const int64_t *matrix, size_t matrix_length,
                           const int64_t *rights, size_t rights_length, uint8_t *out, size_t out_length, uint64_t *size, size_t size_length);
-/* The normal file of a state, of its one arc: WHL_NORMAL_BYTES(1, P). 20 first for heading and state as in taking, then 2, 4, 5, 6, 20. */
+/* The normal file of a state, of its one arc: WHL_NORMAL_BYTES(1, P). In this order: 20: the heading shorter than 16; 2 for its P and T; 20: the
+   heading shorter than these want; 4, 5; 20: the tally, the matrix sums or the right sides too short; 6; 20 for out and size. */
 uint32_t whl_of_state(const uint8_t *heading, size_t heading_length, const uint8_t *tally, size_t tally_length, const int64_t *matrix,
                       size_t matrix_length, const int64_t *rights, size_t rights_length, uint8_t *out, size_t out_length, uint64_t *size,
                       size_t size_length);
@@ -116,7 +138,8 @@ uint32_t whl_of_state(const uint8_t *heading, size_t heading_length, const uint8
    whl_normal_place's of that file); then 21, 22, 23, 24, 20. */
 uint32_t whl_merge(const uint8_t *first, size_t first_length, const uint8_t *second, size_t second_length, uint8_t *out, size_t out_length,
                    uint64_t *size, size_t size_length);
-/* The text that the arc program prints of an arc file of at most limit bytes: a listing, or `refused N at PLACE`. 20. */
+/* The text that the arc program prints of an arc file: a listing, or `refused N at PLACE`, and `refused 20 at LIMIT` for a file of more than limit
+   bytes. The text of a refusal is a result like others, and the answer to it is 0. 20: out or size too short. */
 uint32_t whl_list(const uint8_t *file, size_t file_length, size_t limit, uint8_t *out, size_t out_length, uint64_t *size, size_t size_length);
 
 #ifdef __cplusplus

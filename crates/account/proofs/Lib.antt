@@ -12,3 +12,4 @@ pub mod Numbers
 pub mod Never
 pub mod Runs
 pub mod Priors
+pub mod Sight

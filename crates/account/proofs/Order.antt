@@ -23,7 +23,8 @@ use Rattle.account.specs.Machine.{run}
 use Rattle.account.specs.Taking.{Frame, frameOf, stationIn, placeOf, stamp, columnOf, lengthTests, recordTests, judgedBy, recordNumber, recordAnswer, recordStep, matrixTerms, rightTerms, squareTerm, book}
 use Rattle.account.specs.Mix.{keep, pairs, only, inOrder, told, toldTo}
 use Rattle.account.specs.Arc.{endOf, toldIn}
-use Rattle.account.specs.Order.{whose, strayAnswer, Order}
+use Rattle.account.specs.Order.{whose, strayAnswer, Mixes, Order}
+use Rattle.account.proofs.Lists.{in-order-alike}
 use Rattle.account.proofs.Accepted.{length-right, station-listed, not-found}
 use Rattle.account.proofs.Kept.{Fine, step-books, step-leaves}
 use Rattle.account.proofs.Guarded.{fine, held-heading, started-held, guarded-run, guarded-answers}
@@ -118,13 +119,16 @@ module _ (h : Heading) (m r : List ℤ) (e : roomNumber h m r ≡ 0) where
       let k = by-stations f few in
       let ends : (bs : List (List ℕ)) → endOf h m r bs ≡ run (recordStep f) s bs = λ bs. guarded-run h bs s v in
       let tells : (bs : List (List ℕ)) → toldIn h m r bs ≡ told (recordStep f) (recordAnswer f) s bs = λ bs. ap (pairs bs) (guarded-answers h bs s v) in
+      let hears : (bs cs : List (List ℕ)) → Mixes f bs cs → (n : ℕ) → n < 16 → toldTo (whose f) n (toldIn h m r bs) ≡ toldTo (whose f) n (toldIn h m r cs) =
+      λ bs cs x n l. ap (toldTo (whose f) n) (tells bs) ∙ same-answers (recordStep f) (recordAnswer f) (whose f) 16 k bs cs x n l s
+      ∙ sym (ap (toldTo (whose f) n) (tells cs)) in
       record {
         rows = λ b n l. (of-station f b n l, λ z. by-row f b n (z .0) (z .1));
         alone = λ bs n. ap (toldTo (whose f) n) (tells bs) ∙ alone (recordStep f) (recordAnswer f) (whose f) 16 k n bs s ∙ sym (tells (only (whose f) n bs));
         strays = λ bs. ap (keep (λ x. upTo 16 (whose f (x .0)))) (tells bs)
             ∙ stray-answers (recordStep f) (recordAnswer f) (whose f) 16 (strayAnswer f) (λ b s h. stray-answer f b few s h) bs s;
+        one-by-one = λ bs n l. hears bs (inOrder (whose f) 16 bs) (in-order-alike (whose f) 16 bs) n l;
         ends = λ bs. ends bs ∙ in-order (recordStep f) (recordAnswer f) (whose f) 16 k bs s ∙ sym (ends (inOrder (whose f) 16 bs));
-        same-answers = λ bs cs x n l. ap (toldTo (whose f) n) (tells bs) ∙ same-answers (recordStep f) (recordAnswer f) (whose f) 16 k bs cs x n l s
-            ∙ sym (ap (toldTo (whose f) n) (tells cs));
+        same-answers = hears;
         same-end = λ bs cs x. ends bs ∙ same-end (recordStep f) (recordAnswer f) (whose f) 16 k bs cs s x ∙ sym (ends cs);
       }

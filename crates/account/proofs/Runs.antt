@@ -8,6 +8,7 @@ use mathlib.Core.Logic.{_↔_}
 use native.Mathlib.Omega.{arith}
 use lib.IntN.{ℤ, pos}
 use lib.ListN.{length, drop}
+use Rattle.whole.specs.Tests.{upTo}
 use Rattle.whole.proofs.Cases.{is-same, upTo-true, yes}
 use Rattle.refusal.proofs.Firsts.{first-none, unless-none}
 use Rattle.words.specs.Words.{lay}
@@ -18,7 +19,7 @@ use Rattle.state.specs.State.{State, capped, roomNumber, started, seenIn, state
 use Rattle.account.specs.Machine.{run, answers}
 use Rattle.account.specs.Taking.{frameOf, takeAnswer, takeStep, cut, wholeRecords, recordsIn, runNumber, runState, runAnswers}
 use Rattle.whole.specs.Lists.{Each}
-use Rattle.account.specs.Mix.{pairs, told, toldTo, taken}
+use Rattle.account.specs.Mix.{keep, pairs, told, toldTo, taken}
 use Rattle.account.specs.Arc.{endOf, toldIn}
 use Rattle.account.specs.SumsOver.{partialOf, SumsOver}
 use Rattle.account.specs.Order.{whose}
@@ -86,6 +87,9 @@ module _ (h : Heading) (m r : List ℤ) (e : roomNumber h m r ≡ 0) where
         sums = λ l out n. subst₂ (λ s t. SumsOver f s (taken t)) (sym (ends l out n)) (sym (tells l out n)) (sums-over h m r e (recordsIn h l));
         unseen = λ l out n i b. subst₂ (λ s t. (seenIn (s .matrix) i ≡ false) ↔ Each (λ b. partialOf f b i ≡ pos 0) (taken t))
             (sym (ends l out n)) (sym (tells l out n)) (silence h m r e .exactly (recordsIn h l) i b);
+        one-by-one = λ l out n k b. ap (toldTo (whose f) k) (tells l out n) ∙ order h m r e .one-by-one (recordsIn h l) k b;
+        strays = λ l out n. ap (keep (λ x. upTo 16 (whose f (x .0)))) (tells l out n) ∙ order h m r e .strays (recordsIn h l);
+        ends = λ l out n. ends l out n ∙ order h m r e .ends (recordsIn h l);
         same-answers = λ l out l₁ out₁ n n₁ x k b. ap (toldTo (whose f) k) (tells l out n)
             ∙ order h m r e .same-answers (recordsIn h l) (recordsIn h l₁) x k b ∙ sym (ap (toldTo (whose f) k) (tells l₁ out₁ n₁));
         same-end = λ l out l₁ out₁ n n₁ x. ends l out n ∙ order h m r e .same-end (recordsIn h l) (recordsIn h l₁) x ∙ sym (ends l₁ out₁ n₁);

@@ -1,6 +1,6 @@
 -- Silence: a sum of weighted squares is 0 exactly where each number squared is; so a diagonal sum is, where each accepted record's partial is.
 -- Assumes nothing.
-use Prim.Native.Nat.{ℕ, _+_, _*_, _≤_, _<_}
+use Prim.Native.Nat.{ℕ, _+_, _*_, _≤_}
 use mathlib.Core.Path.{_≡_, refl, sym, ap, ap₂, _∙_, subst}
 use mathlib.Core.Bool.{false, not}
 use mathlib.Core.List.{List, [], _∷_}
@@ -10,8 +10,7 @@ use native.Mathlib.Omega.{arith}
 use borrow.Author.Tests.{not-false}
 use lib.IntN.{ℤ, pos, natAbs, _+ℤ_, _*ℤ_}
 use Rattle.whole.specs.Sums.{total}
-use Rattle.whole.proofs.Cases.{holds, is-less}
-use Rattle.sums.specs.Sound.{entry, isZero}
+use Rattle.sums.specs.Sound.{entry}
 use Rattle.heading.specs.declared.Heading.{Heading}
 use Rattle.state.specs.State.{seenIn, roomNumber, started}
 use Rattle.account.specs.Taking.{frameOf, weightIn}
@@ -57,15 +56,9 @@ module _ {R : Type 0} (w : R → ℕ) (a : R → ℤ) where
   zero-all (r ∷ l) h = ap₂ (λ x y. x +ℤ y) (ap (λ x. pos (w r) *ℤ (x *ℤ x)) (h .0) ∙ ap pos (mul-zero (w r))) (zero-all l (h .1))
 
 -- ---- what is reported unseen
-seen-is : (m : List ℤ) (i : ℕ) → i < 50 → not (isZero (entry m i i)) ≡ seenIn m i
+pub unseen : (m : List ℤ) (i : ℕ) → (seenIn m i ≡ false) ↔ (entry m i i ≡ pos 0)
 unfolding seenIn
-seen-is m i h = holds _ _ (is-less i 50 h) refl
-
-pub unseen : (m : List ℤ) (i : ℕ) → i < 50 → (seenIn m i ≡ false) ↔ (entry m i i ≡ pos 0)
-unseen m i h = (
-  λ e. zero-true (entry m i i) (not-false _ (seen-is m i h ∙ e)),
-  λ e. sym (seen-is m i h) ∙ ap not (zero-is (entry m i i) e),
-)
+unseen m i = (λ e. zero-true (entry m i i) (not-false _ e), λ e. ap not (zero-is (entry m i i) e))
 
 -- Demand 2: for every heading that is accepted, with room for its sums
 module _ (h : Heading) (m r : List ℤ) (e : roomNumber h m r ≡ 0) where
@@ -78,7 +71,7 @@ module _ (h : Heading) (m r : List ℤ) (e : roomNumber h m r ≡ 0) where
       λ bs. each-accepted h m r e bs (λ b. 1 ≤ weightIn b) (λ b s a. terms f b _ _ (few .level) (accepted-in f b s a) .heavy) in
       record {
         exactly = λ bs i l.
-            let u = unseen (endOf h m r bs .matrix) i (omega (arith, few .few)) in
+            let u = unseen (endOf h m r bs .matrix) i in
             let d = sums-over h m r e bs .matrix i i (le-refl i) l in (
               λ z. all-zero weightIn (λ b. partialOf f b i) (acceptedIn h m r bs) (heavy bs) (sym d ∙ u .0 z),
               λ z. u .1 (d ∙ zero-all weightIn (λ b. partialOf f b i) (acceptedIn h m r bs) z),
@@ -86,7 +79,7 @@ module _ (h : Heading) (m r : List ℤ) (e : roomNumber h m r ≡ 0) where
         nothing = λ bs z.
             let s : SumsOver f (endOf h m r bs) [] = subst (SumsOver f (endOf h m r bs)) z (sums-over h m r e bs) in
             record {
-              unseen = λ i l. unseen (endOf h m r bs .matrix) i (omega (arith, few .few)) .1 (s .matrix i i (le-refl i) l);
+              unseen = λ i l. unseen (endOf h m r bs .matrix) i .1 (s .matrix i i (le-refl i) l);
               matrix = s .matrix;
               rights = s .rights;
               square = ap natAbs (s .square);

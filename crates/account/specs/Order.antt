@@ -1,5 +1,6 @@
--- Demand 3, order: however the stations' records are mixed, each record gets the answer that it gets where its station's records are taken
--- alone, and the sums, counts and last times end the same. A mix keeps each station's own order; records of no station stand anywhere.
+-- Demand 3, order: however the stations' records are mixed, each record gets the same answer as with the stations taken one after another, which
+-- is the one that it gets where its station's records are taken alone, and the sums, counts and last times end the same. A mix keeps each station's
+-- own order; records of no station stand anywhere.
 use Prim.Native.Nat.{ℕ, _<_}
 use mathlib.Core.Path.{_≡_}
 use mathlib.Core.List.{List, [], _∷_, map}
@@ -37,7 +38,11 @@ pub record Order (h : Heading) (m r : List ℤ) : Type 0 where
   pub strays : (bs : List (List ℕ))
       → keep (λ x. upTo 16 (whose (frameOf h) (x .0))) (toldIn h m r bs)
       ≡ map (λ b. (b, strayAnswer (frameOf h) b)) (keep (λ b. upTo 16 (whose (frameOf h) b)) bs)
-  -- the end is that of the stations taken one after another
+  -- each station's records are told what they are told with the stations taken one after another. Records of no station are not in that order:
+  -- what they are told is `strays`
+  pub one-by-one : (bs : List (List ℕ)) (k : ℕ) → k < 16
+      → toldTo (whose (frameOf h)) k (toldIn h m r bs) ≡ toldTo (whose (frameOf h)) k (toldIn h m r (inOrder (whose (frameOf h)) 16 bs))
+  -- and the end is that of the stations taken one after another
   pub ends : (bs : List (List ℕ)) → endOf h m r bs ≡ endOf h m r (inOrder (whose (frameOf h)) 16 bs)
   -- hence two mixes give each record the same answer, and end in the same state
   pub same-answers : (bs cs : List (List ℕ)) → Mixes (frameOf h) bs cs → (k : ℕ) → k < 16

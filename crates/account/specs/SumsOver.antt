@@ -1,5 +1,7 @@
 -- Demand 2, the sums: a state has the sums, counts and last times of just these records, by document 01's terms: "w·aᵢ·aⱼ to each matrix sum,
--- w·aᵢ·R to each right side, w·R² to the square sum, 1 to the station's count". No prior weight stands in it.
+-- w·aᵢ·R to each right side, w·R² to the square sum, 1 to the station's count". No prior weight stands in it. Entry by entry it is BᵀWB and
+-- BᵀW times the residuals of GEODYN volume 1, section 10.1 (source document 004), where B has a row of partials for each accepted record, W
+-- is diagonal with their weights, and the residuals are their R.
 use Prim.Native.Nat.{ℕ, _≤_, _<_}
 use mathlib.Core.Path.{_≡_}
 use mathlib.Core.List.{List, map}

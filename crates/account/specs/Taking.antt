@@ -111,7 +111,9 @@ recordNumber f b t = judgedBy f b (getD (lastTimes t (placeOf f b) .times) (colu
 
 -- ---- what an accepted record adds
 -- "w·aᵢ·aⱼ to each matrix sum, w·aᵢ·R to each right side, w·R² to the square sum, 1 to the station's count, and sets the last time of that
--- station and type to t"
+-- station and type to t". These are the terms of one observation in the normal equations of GEODYN volume 1, section 10.1 (source document
+-- 004): B has the record's partials a as a row, the diagonal W its weight w and the residuals dm its R. Row i and column j of BᵀWB gain
+-- w·aᵢ·aⱼ, row i of BᵀW·dm gains w·aᵢ·R. The a priori terms of that section, the prior weights, are not added.
 unfoldable pub matrixTerms : Frame → List ℕ → List ℤ
 matrixTerms f b = triangle (pos (weightIn b)) (partialsIn (f .parameters) b)
 

@@ -1,10 +1,15 @@
-// The arc program: reads an arc file on standard input, and prints its listing and nothing else. An input that ends early, or can't be read, is
-// listed as far as it came.
+// The arc program: reads an arc file on standard input, and prints its listing and nothing else. An input that can't be read is told on standard
+// error, and nothing is listed.
 use libc::STDIN_FILENO;
 
 fn run(file: &mut [u8], out: &mut [u8]) {
-    let n = io::read_full(STDIN_FILENO, file);
-    prints::print(&file[..n], out);
+    let got = files::load(STDIN_FILENO, file);
+    let n = got.length;
+    if got.is_whole {
+        prints::print(&file[..n], out);
+    } else {
+        os::fail(b"standard input");
+    }
 }
 
 fn main() {

@@ -1,10 +1,12 @@
 -- Document 01: the bytes of an arc file as it is written, and what holds where it is put.
 use Prim.Native.Nat.{ℕ, _+_, _/_, _≤_}
 use mathlib.Core.List.{List, _++_}
+use mathlib.Core.Bool.{Bool}
 use lib.ListN.{length}
+use Rattle.whole.specs.Tests.{upTo, both}
 use Rattle.words.specs.Words.{bytesOf}
 use Rattle.section.specs.Section.{encoded}
-use Rattle.heading.specs.Judge.{labelsOf, stationsOf}
+use Rattle.heading.specs.Judge.{labelsOf, stationsOf, countsOk}
 use Rattle.heading.specs.declared.Heading.{Heading}
 use Rattle.arckinds.specs.Kinds.{settingsBytes, labelBytes, stationBytes, recordSize}
 use Rattle.arcfields.specs.Sizes.{neededFor}
@@ -12,6 +14,10 @@ use Rattle.arcfields.specs.Sizes.{neededFor}
 -- how many whole records a run has
 unfoldable pub recordsIn : Heading → List ℕ → ℕ
 recordsIn h run = length run / recordSize (h .parameters)
+
+-- the numbers of a file: the heading's counts, and "Records, 0 to 65,535"
+unfoldable pub allowed : Heading → List ℕ → Bool
+allowed h run = both (countsOk h) (upTo (recordsIn h run) 65535)
 
 -- the bytes of the file: four sections, each after its count
 unfoldable pub arcBytes : Heading → List ℕ → List ℕ

@@ -1,4 +1,4 @@
-// The bytes of an arc file's sections, put into lent room.
+// The numbers of an arc file that is written, judged, and the bytes of its sections, put into lent room.
 use heading::Heading;
 ghost use mathlib.Core.Path.{_≡_};
 ghost use Prim.Native.Nat.{_+_, _≤_};
@@ -7,7 +7,18 @@ ghost use Rattle.words.specs.Words.{lay};
 ghost use Rattle.section.specs.Section.{encoded};
 ghost use Rattle.heading.specs.Judge.{labelsOf, stationsOf};
 ghost use Rattle.arckinds.specs.Kinds.{labelBytes, stationBytes};
-ghost use Rattle.arcput.specs.Bytes.{arcBytes, Writable};
+ghost use Rattle.arcput.specs.Bytes.{allowed, arcBytes, Writable};
+
+// Whether the numbers are allowed: the heading's two, and how many records a run has. A forged number of parameters has no size of a record.
+pub fn is_allowed(h: Heading, run: &[u8]) -> bool
+    ensures { λ r. ⌜ r ≡ allowed h (now (run .entry)) ⌝ }
+{
+    if limits::numbers_ok(h.parameters, h.stations) {
+        arcfields::records_in(h.parameters, run.len()) <= 65535
+    } else {
+        false
+    }
+}
 
 // The labels that count, one after the other.
 pub fn put_labels(h: Heading, out: &mut [u8], start: usize)

@@ -22,8 +22,8 @@ use Rattle.heading.specs.declared.Heading.{Heading}
 use Rattle.arckinds.specs.Kinds.{settingsBytes, labelBytes, stationBytes, settingsKind, labelKind, stationKind, recordSize}
 use Rattle.arcread.specs.Arc.{Arc, headingOf, readArc}
 use Rattle.arcread.proofs.Accepted.{Parts, read-parts, records-section, long-run, run-few, labels-of, stations-of, single, Passed, heading-passed}
-use Rattle.arcput.specs.Bytes.{recordsIn, arcBytes}
-use Rattle.section.specs.Told.{onDone}
+use Rattle.arcput.specs.Bytes.{recordsIn, arcBytes, allowed}
+use Rattle.section.proofs.Writing.{done-new}
 use Rattle.arcwrite.specs.Write.{writeArc, leftIn}
 use Rattle.arckinds.proofs.Records.{settings-forth, label-forth, station-forth}
 use Rattle.arcwrite.proofs.Back.{records-on, stations-on, labels-on, file}
@@ -31,7 +31,7 @@ use Rattle.arcwrite.proofs.Back.{records-on, stations-on, labels-on, fi
 -- ---- what the writer accepts
 module _ (h : Heading) (run : List ℕ) (passed : Passed h) (bound : recordsIn h run ≤ 65535) (whole : length run % recordSize (h .parameters) ≡ 0) where
   pub written : (room : ℕ) → length (arcBytes h run) ≤ room → writeArc h run room ≡ given (length (arcBytes h run))
-  unfolding writeArc
+  unfolding writeArc allowed
   written room fits =
       sym
       (yes _ _ _ (sym (holds _ _ (passed .counts) (sym (is-upTo _ _ bound))))
@@ -42,8 +42,8 @@ module _ (h : Heading) (run : List ℕ) (passed : Passed h) (bound : recordsIn h
 
   -- the file, and the rest of the buffer as it was
   pub left : (out : List ℕ) → length (arcBytes h run) ≤ length out → leftIn h run out ≡ arcBytes h run ++ drop (length (arcBytes h run)) out
-  unfolding leftIn onDone
-  left out fits = rw (written (length out) fits) (lay-front out (arcBytes h run) fits)
+  unfolding leftIn
+  left out fits = sym (done-new _ _ out (written (length out) fits)) ∙ lay-front out (arcBytes h run) fits
 
 -- ---- what was read
 -- a heading of what was read, written

@@ -3,19 +3,19 @@
 use Prim.Native.Nat.{ℕ, _%_}
 use mathlib.Core.List.{List}
 use lib.ListN.{length}
-use Rattle.whole.specs.Tests.{less, upTo, same, pick, both}
+use Rattle.whole.specs.Tests.{less, same, pick}
 use Rattle.whole.specs.Answer.{Answered, given, refused}
 use Rattle.words.specs.Words.{lay}
 use Rattle.section.specs.Told.{onDone}
-use Rattle.heading.specs.Judge.{countsOk, fieldsOk, ordersOk}
+use Rattle.heading.specs.Judge.{fieldsOk, ordersOk}
 use Rattle.heading.specs.declared.Heading.{Heading}
 use Rattle.arckinds.specs.Kinds.{recordSize}
-use Rattle.arcput.specs.Bytes.{recordsIn, arcBytes}
+use Rattle.arcput.specs.Bytes.{allowed, arcBytes}
 
--- 2 for the heading's counts and for more than 65,535 records, 4, 5, 1, 20, else the length
+-- 2 for the numbers, 4, 5, 1, 20, else the length
 unfoldable pub writeArc : Heading → List ℕ → ℕ → Answered ℕ
 writeArc h run room =
-    pick (both (countsOk h) (upTo (recordsIn h run) 65535))
+    pick (allowed h run)
     (pick (fieldsOk h)
     (pick (ordersOk h)
     (pick (same (length run % recordSize (h .parameters)) 0)

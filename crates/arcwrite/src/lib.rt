@@ -28,18 +28,14 @@ fn judge_room(parameters: usize, stations: usize, bytes: usize, room: usize) -> 
     }
 }
 
-// What is to be answered: 2 first, for a forged number of parameters has no size of a record.
+// What is to be answered.
 fn judge(h: Heading, run: &[u8], room: usize) -> WriteAnswer
     ensures { λ r. ⌜ toldWrite r ≡ writeArc h (now (run .entry)) room ⌝ }
 {
-    if heading::counts_ok(h) {
-        if arcfields::records_in(h.parameters, run.len()) <= 65535 {
-            match heading::judge(h) {
-                Verdict::Refused(refusal) => WriteAnswer::Refused(refusal),
-                Verdict::Sound => judge_room(h.parameters, h.stations, run.len(), room),
-            }
-        } else {
-            WriteAnswer::Refused(Refusal::Count)
+    if arcput::is_allowed(h, run) {
+        match heading::judge(h) {
+            Verdict::Refused(refusal) => WriteAnswer::Refused(refusal),
+            Verdict::Sound => judge_room(h.parameters, h.stations, run.len(), room),
         }
     } else {
         WriteAnswer::Refused(Refusal::Count)

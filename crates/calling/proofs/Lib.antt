@@ -1,1 +1,3 @@
+pub mod Arcs
+pub mod Again
 pub mod Rooms

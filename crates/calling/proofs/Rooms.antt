@@ -1,7 +1,7 @@
 -- What a call that reads an arc file leaves, and one that takes records.
 -- Assumes nothing.
 use Prim.Native.Nat.{ℕ}
-use mathlib.Core.Path.{_≡_, refl, sym, _∙_}
+use mathlib.Core.Path.{_≡_, refl, sym, _∙_, ap}
 use mathlib.Core.List.{List, [], _∷_}
 use mathlib.Core.Bool.{true, false}
 use lib.ListN.{length}
@@ -17,6 +17,7 @@ use Rattle.rooms.proofs.Rooms.{roomy}
 use Rattle.lent.specs.Lent.{headingBytes}
 use Rattle.calling.specs.Reading.{arcOf, readRoomy, arcRoomy, readNumber, headingLeft, placesLeft}
 use Rattle.section.specs.Told.{onDone}
+use Rattle.section.proofs.Writing.{done-new, done-old}
 
 -- ---- what a reader shows
 pub shown-good : (x : Shown) → x .verdict ≡ good tt → arcOf x ≡ good (x .arc)
@@ -51,9 +52,9 @@ module _ (j : Judged Arc) (room out : List ℕ) where
 -- ---- an answer w: done, with the new bytes in the room, or kept
 module _ {A : Type 0} (w : Answered A) (new old : List ℕ) where
   pub is-done : {a : A} {left : List ℕ} → w ≡ given a → left ≡ new → (0 ≡ numberIn w) × (left ≡ onDone w new old)
-  unfolding numberIn onDone
-  is-done e f = rw e (refl, f)
+  unfolding numberIn
+  is-done e f = (ap numberIn (sym e), f ∙ done-new w new old e)
 
   pub is-kept : {k n : ℕ} → w ≡ refused k → n ≡ k → (n ≡ numberIn w) × (old ≡ onDone w new old)
-  unfolding numberIn onDone
-  is-kept e f = rw e (f, refl)
+  unfolding numberIn
+  is-kept e f = (f ∙ ap numberIn (sym e), done-old w new old e)

@@ -1,2 +1,4 @@
+pub mod Arcs
 pub mod Reading
 pub mod Writing
+pub mod Taking

@@ -1,8 +1,10 @@
 // Inner to `wheloruka`: what a call answers for what an entry told, in numbers, with its results in lent room.
 use arcread::ArcRead;
 use normmerge::MergeAnswer;
+use refusal::Refusal;
 use section::ReadAnswer;
 use section::WriteAnswer;
+use state::Sight;
 use takeone::TakeAnswer;
 use takeone::Taken;
 ghost use mathlib.Core.Path.{_≡_};
@@ -14,10 +16,13 @@ ghost use Rattle.section.specs.Told.{toldAnswer, toldWrite, onDone};
 ghost use Rattle.rooms.specs.Result.{resultNumber, resultLeft, told, one};
 ghost use Rattle.arcread.specs.Arc.{toldRead};
 ghost use Rattle.lenttally.specs.Tally.{tallyBytes};
+ghost use Rattle.state.specs.State.{toldSight};
 ghost use Rattle.takeone.specs.Told.{toldTake};
 ghost use Rattle.normmerge.specs.Files.{toldMerge};
 ghost use Rattle.calling.specs.Reading.{arcOf, placeOf, judgedNumber, readRoomy, readNumber, headingLeft, placesLeft};
 ghost use Rattle.calling.specs.Writing.{mergeNumber};
+ghost use Rattle.calling.specs.Arcs.{arcFile, arcLeft};
+ghost use Rattle.calling.specs.Taking.{seenNumbers};
 
 // ---- files that are read
 
@@ -101,6 +106,28 @@ pub fn give_merged(size: &mut [u64], answer: MergeAnswer) -> u32
     }
 }
 
+// ---- an arc file of a heading in lent bytes
+
+// The file at the start of a lent buffer, or a refusal that changes nothing: 2 comes before 20 where the heading's numbers are there and the rest is not.
+pub fn write_arc(b: &[u8], run: &[u8], out: &mut [u8]) -> WriteAnswer
+    ensures { λ r. ⌜ toldWrite r ≡ arcFile (now (b .entry)) (now (run .entry)) (length (now (out .entry))) ⌝ }
+    ensures left { λ _. ⌜ now (out .exit) ≡ arcLeft (now (b .entry)) (now (run .entry)) (now (out .entry)) ⌝ }
+{
+    if b.len() < 16 {
+        return WriteAnswer::Refused(Refusal::Room);
+    }
+    let h = lent::heading_in(b);
+    if arcput::is_allowed(h, run) {
+        if lent::has_heading(b) {
+            arcwrite::write(h, run, out)
+        } else {
+            WriteAnswer::Refused(Refusal::Room)
+        }
+    } else {
+        WriteAnswer::Refused(Refusal::Count)
+    }
+}
+
 // ---- records that are taken
 
 // The tally after a taking in its room, or the refusal.
@@ -116,5 +143,17 @@ pub fn give_taken(taken: Taken, tally: &mut [u8]) -> u32
             0
         }
         TakeAnswer::Refused(e) => refusal::number(e),
+    }
+}
+
+// Whether a parameter is seen, 1 or 0 in lent room, or the refusal.
+pub fn give_sight(out: &mut [u32], answer: Sight) -> u32
+    ensures { λ r. ⌜ r ≡ resultNumber (told seenNumbers (toldSight answer)) (length (now (out .entry))) ⌝ }
+    ensures left { λ _. ⌜ now (out .exit) ≡ resultLeft (told seenNumbers (toldSight answer)) (now (out .entry)) ⌝ }
+{
+    match answer {
+        Sight::Seen => rooms::give_one(out, 1),
+        Sight::Unseen => rooms::give_one(out, 0),
+        Sight::Refused(e) => refusal::number(e),
     }
 }

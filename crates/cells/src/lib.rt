@@ -3,7 +3,7 @@ mod table;
 
 use refusal::Refusal;
 ghost use mathlib.Core.Path.{_≡_};
-ghost use Rattle.cells.specs.Cells.{isCell, indexOf, cellAt, isParameter, toldCell, toldIndex};
+ghost use Rattle.cells.specs.Cells.{isCell, indexOf, cellAt, toldCell, toldIndex};
 ghost use Rattle.cells.specs.Table.{decoded};
 
 pub enum Letter {
@@ -88,14 +88,4 @@ pub fn index_of(cell: Cell) -> IndexAnswer
     } else {
         IndexAnswer::Refused(Refusal::Limits)
     }
-}
-
-// Whether a parameter of kind 1 may have this index.
-pub fn is_parameter(index: u32) -> bool
-    ensures { λ r. ⌜ r ≡ isParameter index ⌝ }
-{
-    if index >= 990 {
-        return false;
-    }
-    index % 33 + 1 != 33
 }

@@ -41,7 +41,7 @@ fn put_cell(index: u32) {
 
 // Writes whether a parameter may have an index, and ends the line.
 fn put_parameter(index: u32) {
-    if cells::is_parameter(index) {
+    if limits::is_parameter(index) {
         lines::put(b"parameter\n");
     } else {
         lines::put(b"never\n");

@@ -14,6 +14,6 @@ sumOf (c ∷ l) = c + sumOf l
 abbrev pub Few : List ℕ → Type 0
 Few counts = (i : ℕ) → i < 16 → getD counts i 0 ≤ 256
 
--- "a count above 256 .. or anything but 0 in a slot past the .. stations"
+-- "a count above 256, .. or anything but 0 in a slot past the parameters or stations": counts have slots past the stations (docs/DECISIONS.md D21)
 unfoldable pub countsSound : ℕ → List ℕ → Bool
 countsSound stations counts = below (λ i. upTo (getD counts i 0) (pick (less i stations) 256 0)) 16

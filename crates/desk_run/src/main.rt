@@ -9,17 +9,17 @@ fn parts(i: usize) -> bool {
 }
 
 // One command.
-fn run_one(at: usize, count: usize, big: &mut [u8], second: &mut [u8], out: &mut [u8]) {
-    desking::run(at, count, big, second, out);
+fn run_one(at: usize, count: usize) {
+    desking::run(at, count);
     lines::put(b"then\n");
 }
 
 // The command before word i where that word parts two commands: where the next one begins.
-fn run_part(at: usize, i: usize, big: &mut [u8], second: &mut [u8], out: &mut [u8]) -> usize {
+fn run_part(at: usize, i: usize) -> usize {
     if i < 1000000 {
         if at <= i {
             if parts(i) {
-                run_one(at, i - at, big, second, out);
+                run_one(at, i - at);
                 return i + 1;
             }
         }
@@ -28,21 +28,18 @@ fn run_part(at: usize, i: usize, big: &mut [u8], second: &mut [u8], out: &mut [u
 }
 
 // Every command.
-fn run_all(words: usize, big: &mut [u8], second: &mut [u8], out: &mut [u8]) {
+fn run_all(words: usize) {
     let mut at: usize = 1;
     let mut i: usize = 1;
     while i < words {
-        at = run_part(at, i, big, second, out);
+        at = run_part(at, i);
         i += 1;
     }
     if at < words {
-        run_one(at, words - at, big, second, out);
+        run_one(at, words - at);
     }
 }
 
 fn main() {
-    let mut big = files::arc_room();
-    let mut second = files::normal_room();
-    let mut out = files::normal_room();
-    run_all(os::arg_count(), &mut big, &mut second, &mut out);
+    run_all(os::arg_count());
 }

@@ -20,6 +20,8 @@ use Rattle.fitting.specs.declared.Fitted.{Fitted}
 use Rattle.fitting.specs.declared.Fitted.the-variants as Fits
 use Rattle.fitting.specs.declared.TimeAnswer.{TimeAnswer}
 use Rattle.fitting.specs.declared.TimeAnswer.the-variants as Times
+use Rattle.fitting.specs.declared.Found.{Found}
+use Rattle.fitting.specs.declared.Found.the-variants as Founds
 
 -- what is kept of a record: where it stands in the state, its time, its sigma and residual, and its type's step and F
 unfoldable pub fitOf : Frame → List ℕ → Fit
@@ -53,6 +55,10 @@ toldTime (Times.Refused r) = refused (numberOf r)
 abbrev pub toldFit : Fitted → Answered Fit
 toldFit (Fits.Is x) = given x
 toldFit (Fits.Refused r) = refused (numberOf r)
+
+abbrev pub toldFound : Found → Answered ℕ
+toldFound (Founds.At i) = given i
+toldFound Founds.Nowhere = refused 10
 
 -- ---- what the parts of the judging promise each other, of any bytes that the record was decoded from
 -- a record r of a listed station and of a type

@@ -1,5 +1,4 @@
 // Inner to `taking`: one record fitted to its heading, by numbers alone: 1, 3, 10 to 16, or what is kept of it.
-use heading::Found;
 use limits::Settings;
 use measures::MeasurementAnswer;
 use records::Record;
@@ -13,13 +12,13 @@ ghost use lib.ListN.{length};
 ghost use Rattle.whole.specs.Answer.{refused};
 ghost use Rattle.whole.specs.Tests.{pick};
 ghost use Rattle.limits.specs.Limits.{settingsOk};
-ghost use Rattle.heading.specs.Judge.{findFrom, toldFound};
+ghost use Rattle.heading.specs.Judge.{findFrom};
 ghost use Rattle.types.specs.Types.{isType};
 ghost use Rattle.measures.specs.Measures.{reading};
 ghost use Rattle.units.specs.Units.{toldUnit};
 ghost use Rattle.residuals.specs.Residuals.{residualOf};
 ghost use Rattle.account.specs.Taking.{frame};
-ghost use Rattle.fitting.specs.Fit.{Listed, Decoded, fitted, timed, toldFit, toldTime};
+ghost use Rattle.fitting.specs.Fit.{Listed, Decoded, fitted, timed, toldFit, toldTime, toldFound};
 
 // A record that fits its heading: its row and column in the state, its time, its sigma and residual, its type's step and F.
 pub struct Fit {
@@ -40,6 +39,12 @@ pub enum Fitted {
 pub enum TimeAnswer {
     Is(u64),
     Refused(Refusal),
+}
+
+// Where a station stands among the listed ones.
+enum Found {
+    At(usize),
+    Nowhere,
 }
 
 // Where a number stands in a list of stations' numbers.

@@ -1,10 +1,12 @@
-// Inner to `wheloruka`: what days, cells and units answer, put into lent room; cells by their letters' numbers.
+// Inner to `wheloruka`: what days, cells, units and residuals answer, put into lent room; cells by their letters' numbers,
+// residuals by their types'.
 use cells::Cell;
 use cells::CellAnswer;
 use cells::IndexAnswer;
 use cells::Letter;
 use days::DateAnswer;
 use days::DayAnswer;
+use measures::MeasurementAnswer;
 use refusal::Refusal;
 use units::DoubleAnswer;
 use units::UnitAnswer;
@@ -14,7 +16,7 @@ ghost use Rattle.rooms.specs.Result.{resultNumber, resultLeft, told, one};
 ghost use Rattle.days.specs.Calendar.{toldDay, toldDate};
 ghost use Rattle.cells.specs.Cells.{toldCell, toldIndex};
 ghost use Rattle.units.specs.Units.{toldUnit, toldDouble};
-ghost use Rattle.giving.specs.Given.{dateNumbers, letterNumber, cellNumbers, indexBy};
+ghost use Rattle.giving.specs.Given.{dateNumbers, letterNumber, cellNumbers, indexBy, residualAs};
 
 // ---- days
 
@@ -100,6 +102,16 @@ pub fn give_unit(out: &mut [i64], answer: UnitAnswer) -> u32
     match answer {
         UnitAnswer::Is(q) => rooms::give_unit(out, q),
         UnitAnswer::Refused(e) => refusal::number(e),
+    }
+}
+
+// The residual of a measurement by its type's number.
+pub fn residual_as(kind: u32, observed: f64, computed: f64) -> UnitAnswer
+    ensures { λ r. ⌜ toldUnit r ≡ residualAs kind observed computed ⌝ }
+{
+    match measures::measured(kind, observed, computed) {
+        MeasurementAnswer::Is(m) => residuals::residual(m),
+        MeasurementAnswer::Refused(e) => UnitAnswer::Refused(e),
     }
 }
 

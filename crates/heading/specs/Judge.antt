@@ -8,14 +8,12 @@ use Rattle.whole.specs.Tests.{upTo, same, pick, both, between}
 use Rattle.whole.specs.Answer.{Answered, given, refused}
 use Rattle.whole.specs.Lists.{all, ascend}
 use Rattle.refusal.specs.Number.{numberOf}
-use Rattle.limits.specs.Limits.{settingsOk, labelOk, labelKey, stationOk, stationKey}
+use Rattle.limits.specs.Limits.{settingsOk, labelOk, labelKey, stationOk, stationKey, numbersOk}
 use Rattle.limits.specs.declared.Label.{Label}
 use Rattle.limits.specs.declared.Station.{Station}
 use Rattle.heading.specs.declared.Heading.{Heading}
 use Rattle.heading.specs.declared.Verdict.{Verdict}
 use Rattle.heading.specs.declared.Verdict.the-variants as Verdicts
-use Rattle.heading.specs.declared.Found.{Found}
-use Rattle.heading.specs.declared.Found.the-variants.{At, Nowhere}
 
 -- the labels and the stations that count
 unfoldable pub labelsOf : Heading → List Label
@@ -24,9 +22,8 @@ labelsOf h = take (h .parameters) (h .labels)
 unfoldable pub stationsOf : Heading → List Station
 stationsOf h = take (h .stations) (h .listed)
 
--- "Parameters, 1 to 50"; "Stations, 0 to 16"
 unfoldable pub countsOk : Heading → Bool
-countsOk h = both (between 1 (h .parameters) 50) (upTo (h .stations) 16)
+countsOk h = numbersOk (h .parameters) (h .stations)
 
 unfoldable pub fieldsOk : Heading → Bool
 fieldsOk h = both (settingsOk (h .settings)) (both (all labelOk (labelsOf h)) (all stationOk (stationsOf h)))
@@ -46,15 +43,7 @@ findFrom number i (x ∷ l) = pick (same x number) (given i) (findFrom number (i
 unfoldable pub numbersOf : List Station → List ℕ
 numbersOf ts = map stationKey ts
 
--- among the stations of a heading: a count past the capacity is as the capacity
-unfoldable pub rowOf : Heading → ℕ → Answered ℕ
-rowOf h number = findFrom number 0 (numbersOf (stationsOf h))
-
 -- ---- what the answers say
 abbrev pub toldVerdict : Verdict → Answered (Unit {0})
 toldVerdict Verdicts.Sound = given tt
 toldVerdict (Verdicts.Refused r) = refused (numberOf r)
-
-abbrev pub toldFound : Found → Answered ℕ
-toldFound (At i) = given i
-toldFound Nowhere = refused 10

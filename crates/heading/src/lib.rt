@@ -10,13 +10,10 @@ ghost use Rattle.limits.specs.Limits.{labelOk, labelKey, stationOk, stationKey}
 ghost use Rattle.heading.specs.Judge.{
   labelsOf,
   stationsOf,
-  countsOk,
   fieldsOk,
   ordersOk,
   judged,
-  rowOf,
   toldVerdict,
-  toldFound,
 };
 
 // Of the labels the first `parameters` count, of the listed stations the first `stations`.
@@ -32,23 +29,6 @@ pub struct Heading {
 pub enum Verdict {
     Sound,
     Refused(Refusal),
-}
-
-// Where a station stands among the listed ones.
-pub enum Found {
-    At(usize),
-    Nowhere,
-}
-
-// Whether the two counts are ones that the paper allows.
-pub fn counts_ok(h: Heading) -> bool
-    ensures { λ r. ⌜ r ≡ countsOk h ⌝ }
-{
-    if whole::within(1, h.parameters as u64, 50) {
-        h.stations <= 16
-    } else {
-        false
-    }
 }
 
 fn labels_ok(h: Heading) -> bool
@@ -150,7 +130,7 @@ fn orders_ok(h: Heading) -> bool
 pub fn judge(h: Heading) -> Verdict
     ensures { λ r. ⌜ toldVerdict r ≡ judged h ⌝ }
 {
-    if counts_ok(h) {
+    if limits::numbers_ok(h.parameters, h.stations) {
         if fields_ok(h) {
             if orders_ok(h) {
                 Verdict::Sound
@@ -163,20 +143,4 @@ pub fn judge(h: Heading) -> Verdict
     } else {
         Verdict::Refused(Refusal::Count)
     }
-}
-
-// The row of a station among the listed ones; a count past the capacity is taken as the capacity.
-pub fn station_at(h: Heading, number: u16) -> Found
-    ensures { λ r. ⌜ toldFound r ≡ rowOf h number ⌝ }
-{
-    let n = whole::least(h.stations, 16);
-    let mut i: usize = 0;
-    while i < n {
-        let t = h.listed[i];
-        if t.number == number {
-            return Found::At(i);
-        }
-        i += 1;
-    }
-    Found::Nowhere
 }

@@ -2,14 +2,15 @@
 -- byte past the end counts as 0. Document 01: "for a heading, state, system or record in lent room, a length that
 -- docs/ fixes by its numbers of parameters, stations and arcs alone (a number past its capacity standing as the capacity)".
 use Prim.Native.Nat.{ℕ, _+_, _*_, min}
-use mathlib.Core.List.{List, _++_}
+use mathlib.Core.List.{List, [], _∷_, _++_}
 use mathlib.Core.Bool.{Bool}
 use lib.ListN.{length}
 use Rattle.whole.specs.Tests.{upTo, both}
+use Rattle.refusal.specs.First.{unless, first}
 use Rattle.words.specs.Words.{word, bytesOf}
 use Rattle.section.specs.Section.{encoded}
 use Rattle.limits.specs.Limits.{noLabel, noStation}
-use Rattle.heading.specs.Judge.{labelsOf, stationsOf}
+use Rattle.heading.specs.Judge.{labelsOf, stationsOf, countsOk}
 use Rattle.heading.specs.declared.Heading.{Heading}
 use Rattle.arckinds.specs.Kinds.{settingsAt, settingsBytes, labelAt, labelBytes, stationAt, stationBytes}
 use Rattle.whole.specs.Lists.{padded}
@@ -53,3 +54,8 @@ hasHeading b = upTo (headingLong (labelsHeld b) (stationsHeld b)) (length b)
 -- whether a heading and a tally are there whole
 abbrev pub hasBoth : List ℕ → List ℕ → Bool
 hasBoth b t = both (hasHeading b) (hasTally t)
+
+-- ---- writing, of a heading in lent bytes: 20 where its two numbers are not there, 2 where they are none that the paper allows, 20 where the
+-- heading is not there whole; 0 where its fields can be judged
+unfoldable pub headNumber : List ℕ → ℕ
+headNumber b = first (unless 20 (upTo 16 (length b)) ∷ unless 2 (countsOk (headingIn b)) ∷ unless 20 (hasHeading b) ∷ [])

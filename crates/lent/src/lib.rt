@@ -9,7 +9,7 @@ ghost use Rattle.limits.specs.Limits.{noLabel, noStation};
 ghost use Rattle.arckinds.specs.Kinds.{labelAt, stationAt};
 ghost use Rattle.whole.specs.Lists.{padded};
 ghost use Rattle.words.specs.Stands.{stands};
-ghost use Rattle.lent.specs.Lent.{headingIn, headingBytes, hasHeading, hasBoth};
+ghost use Rattle.lent.specs.Lent.{headingIn, headingBytes, hasHeading, hasBoth, headNumber};
 
 // ---- reading
 
@@ -21,7 +21,7 @@ fn held(b: &[u8], at: usize, most: usize) -> usize
 }
 
 // Whether the bytes are as many as their own numbers want.
-fn has_heading(b: &[u8]) -> bool
+pub fn has_heading(b: &[u8]) -> bool
     ensures { λ r. ⌜ r ≡ hasHeading (now (b .entry)) ⌝ }
 {
     16 + 16 * held(b, 12, 50) + 8 * held(b, 14, 16) <= b.len()
@@ -109,5 +109,20 @@ pub fn has_both(heading: &[u8], tally: &[u8]) -> bool
         lenttally::has_tally(tally)
     } else {
         false
+    }
+}
+
+// What is wrong with a heading before its fields are judged, in writing: 20 for its numbers, 2, 20 for the whole; 0 where nothing is.
+pub fn judge_head(heading: &[u8]) -> u32
+    ensures { λ r. ⌜ r ≡ headNumber (now (heading .entry)) ⌝ }
+{
+    if heading.len() < 16 {
+        return 20;
+    }
+    let h = heading_in(heading);
+    if limits::numbers_ok(h.parameters, h.stations) {
+        if has_heading(heading) { 0 } else { 20 }
+    } else {
+        2
     }
 }

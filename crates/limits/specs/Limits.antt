@@ -46,6 +46,10 @@ stationOk t = both (upTo (t .number) 999) (correctionOk (t .correction))
 unfoldable pub stationKey : Station → ℕ
 stationKey t = t .number
 
+-- "Parameters, 1 to 50"; "Stations, 0 to 16"
+abbrev pub numbersOk : ℕ → ℕ → Bool
+numbersOk parameters stations = both (between 1 parameters 50) (upTo stations 16)
+
 -- ---- what a slot that holds nothing has
 abbrev pub noSettings : Settings
 noSettings = record { arc = 0; first = 0; days = 0; level = 0 }

@@ -1,6 +1,7 @@
 // Settings, labels and stations of an arc, by value: the limits of their fields, and the order of labels.
 ghost use mathlib.Core.Path.{_≡_};
 ghost use Prim.Native.Nat.{_<_};
+ghost use Rattle.cells.specs.Cells.{isParameter};
 ghost use Rattle.limits.specs.Limits.{
   windowOk,
   settingsOk,
@@ -10,6 +11,7 @@ ghost use Rattle.limits.specs.Limits.{
   correctionOk,
   stationOk,
   stationKey,
+  numbersOk,
 };
 
 pub struct Settings {
@@ -59,11 +61,21 @@ pub fn settings_ok(s: Settings) -> bool
     }
 }
 
+// Whether a parameter of kind 1 may have this index: a cell's, but none of column 33.
+pub fn is_parameter(index: u32) -> bool
+    ensures { λ r. ⌜ r ≡ isParameter index ⌝ }
+{
+    if index >= 990 {
+        return false;
+    }
+    index % 33 + 1 != 33
+}
+
 pub fn index_ok(kind: u16, index: u16) -> bool
     ensures { λ r. ⌜ r ≡ indexOk kind index ⌝ }
 {
     match kind {
-        1 => cells::is_parameter(index as u32),
+        1 => is_parameter(index as u32),
         2 => index < 3000,
         3 => index < 6,
         4 => index < 2,
@@ -107,4 +119,15 @@ pub fn station_key(t: Station) -> u64
     ensures { λ r. ⌜ (r ≡ stationKey t) × (r < 65536) ⌝ }
 {
     t.number as u64
+}
+
+// Whether a heading may have so many parameters and stations.
+pub fn numbers_ok(parameters: usize, stations: usize) -> bool
+    ensures { λ r. ⌜ r ≡ numbersOk parameters stations ⌝ }
+{
+    if whole::within(1, parameters as u64, 50) {
+        stations <= 16
+    } else {
+        false
+    }
 }

@@ -1,5 +1,6 @@
 // What the programs that run vectors share: a text's lines, a line's words and numbers, and the pieces of a line
 // that is written. Nothing here refuses: past the end a byte is 0, and where no digit stands the number is 0.
+use libc::STDIN_FILENO;
 use libc::STDOUT_FILENO;
 use refusal::Refusal;
 ghost use Prim.Native.Nat.{_+_, _<_, _≤_, min};
@@ -222,14 +223,31 @@ pub fn small(line: &[u8], count: usize) -> u32 {
     as_u32(decimal_at(line, word(line, count)))
 }
 
+// Says once that standard output takes no more. What would still be written there goes to a device that keeps nothing, under the number of standard
+// output: no program here can end early, and each later write would fail and be told again.
+fn lose() {
+    os::fail(b"standard output");
+    libc::close(STDOUT_FILENO);
+    if os::open_append(b"/dev/null") == STDIN_FILENO {
+        os::open_append(b"/dev/null");
+    }
+}
+
+// What a write to standard output answered: a failure is told.
+fn look(is_written: bool) {
+    if !is_written {
+        lose();
+    }
+}
+
 // Writes bytes to standard output.
 pub fn put(bytes: &[u8]) {
-    io::write_all(STDOUT_FILENO, bytes);
+    look(io::write_all(STDOUT_FILENO, bytes));
 }
 
 // Writes a number in decimal, and what stands after it.
 pub fn put_number(value: u64, after: &[u8]) {
-    io::print_decimal(STDOUT_FILENO, value);
+    look(io::print_decimal(STDOUT_FILENO, value));
     put(after);
 }
 
@@ -243,7 +261,7 @@ pub fn put_signed(value: i64, after: &[u8]) {
 
 // Writes a number as 16 hexadecimal digits, and what stands after it.
 pub fn put_hex(value: u64, after: &[u8]) {
-    io::print_hex(STDOUT_FILENO, value, 16);
+    look(io::print_hex(STDOUT_FILENO, value, 16));
     put(after);
 }
 
@@ -251,7 +269,7 @@ pub fn put_hex(value: u64, after: &[u8]) {
 pub fn put_bytes(bytes: &[u8]) {
     let mut i: usize = 0;
     while i < bytes.len() {
-        io::print_hex(STDOUT_FILENO, byte_at(bytes, i) as u64, 2);
+        look(io::print_hex(STDOUT_FILENO, byte_at(bytes, i) as u64, 2));
         i += 1;
     }
 }

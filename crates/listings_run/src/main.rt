@@ -1,10 +1,13 @@
-// Prints the listings of the arc files that the arguments name, one after another.
+// Prints the listings of the arc files that the arguments name, one after another. A file that can't be read is told on standard error.
 
 // The listing of the file of argument i.
 fn run_arg(i: usize, path: &mut [u8], buf: &mut [u8], out: &mut [u8]) {
     let n = os::arg(i, path);
-    let k = files::load_path(&path[..n], buf).length;
-    prints::print(&buf[..k], out);
+    let got = files::load_path(&path[..n], buf);
+    let k = got.length;
+    if got.is_whole {
+        prints::print(&buf[..k], out);
+    }
 }
 
 // Every file that the arguments name.

@@ -1,11 +1,11 @@
--- What is known of a file that was read: its system is proper, it has at most 16 arcs and 500 labels, and its parts stand where reading says.
+-- What is known of a file that was read: its system is sound, it has at most 16 arcs and 500 labels, and its parts stand where reading says.
 -- Assumes nothing.
-use mathlib.Core.Path.{_≡_, refl, sym, ap, ap₂, _∙_, subst}
+use mathlib.Core.Path.{_≡_, sym, ap, ap₂, _∙_, subst}
 use mathlib.Core.List.{List}
 use Prim.Native.Nat.{ℕ, _+_, _*_, _≤_}
 use native.Mathlib.Omega.{arith}
 use lib.ListN.{length}
-use Rattle.whole.specs.Answer.{Judged, good, bad}
+use Rattle.whole.specs.Answer.{good}
 use Rattle.words.specs.Words.{word}
 use Rattle.section.proofs.Walk.{not-bad, by-judged}
 use Rattle.sums.specs.Triangle.{tri}
@@ -16,10 +16,11 @@ use Rattle.normread.specs.declared.NormalRead.{NormalRead}
 use Rattle.section.specs.declared.ReadAnswer.the-variants.{Read}
 use Rattle.normread.proofs.Accepted.{accepted-sound, accepted-standing}
 use Rattle.mergeread.specs.Read.{keysAt}
-use Rattle.merging.specs.Merge.{keysOf, Proper}
-use Rattle.merging.proofs.Files.{proper, stands-in}
+use Rattle.merging.specs.Merge.{keysOf}
+use Rattle.merging.proofs.Files.{stands-in}
 use Rattle.merging.proofs.Written.{StandsIn, keys-stand}
 use Rattle.mergeput.specs.Parts.{normalOr, normalIn, systemIn, Taken}
+use Rattle.system.proofs.Sound.{SoundSystem}
 
 -- ---- from the reader's answer
 taken-of : (s : List ℕ) (r : NormalRead) (x : Normal) → readNormal s ≡ good x → toldRead r ≡ shown (good x) → Taken s r
@@ -43,7 +44,7 @@ taken s r t e =
 
 -- ---- what follows
 pub record Known (s : List ℕ) (r : NormalRead) : Type 0 where
-  pub whole : Proper (systemIn s)
+  pub whole : SoundSystem (systemIn s)
   pub stands : StandsIn s (8 + 4 * r .arcs) (r .matrix) (r .rights) (systemIn s)
   pub arcs-many : r .arcs ≡ length (systemIn s .arcs)
   pub labels-many : r .parameters ≡ length (systemIn s .labels)
@@ -76,7 +77,7 @@ known s r t =
     let c : x .totals ≡ x .rights + 8 * length (x .holds .labels) + 4 = d .totals-at in
     let e : length s ≡ x .totals + 16 = d .long in
     record {
-      whole = proper (x .holds) o;
+      whole = o;
       stands = subst (λ n. StandsIn s (8 + 4 * n) (r .matrix) (r .rights) (x .holds)) (sym (t .arcs))
           (subst (λ n. StandsIn s (8 + 4 * length (x .holds .arcs)) n (r .rights) (x .holds)) (sym (t .matrix))
           (subst (λ n. StandsIn s (8 + 4 * length (x .holds .arcs)) (x .matrix) n (x .holds)) (sym (t .rights)) st));

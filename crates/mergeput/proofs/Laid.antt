@@ -12,7 +12,7 @@ use Rattle.section.proofs.Trips.{length-encoded}
 use Rattle.system.specs.System.{System}
 use Rattle.normkinds.specs.Kinds.{arcBytes, normalLabelBytes, sumBytes, totalsBytes}
 use Rattle.normread.specs.Normal.{normalBytes, sectioned}
-use Rattle.normkinds.proofs.Records.{length-arc, length-label, length-sum, length-totals}
+use Rattle.normkinds.proofs.Records.{length-arc, length-label, length-sum}
 use Rattle.mergeput.specs.Parts.{headBytes, middleBytes, lastBytes}
 
 -- ---- two sections
@@ -65,19 +65,9 @@ module _ (z : System) where
       ∙ lay-append out at (at + 12) (u ++ v) w (ap (λ n. at + n) (sym both))
       ∙ ap (lay out at) (append-assoc u v w ∙ ap (λ t. u ++ t) (sym (append-nil (v ++ w)) ∙ sym (append-nil ((v ++ w) ++ [])))))
 
-  last-long : length (lastBytes z) ≡ 20
-  unfolding lastBytes encoded
-  last-long = simp (length-append, length-bytesOf, length-totals)
-
   parts : normalBytes z ≡ headBytes z ++ (middleBytes z ++ lastBytes z)
   unfolding normalBytes headBytes middleBytes lastBytes
   parts = simp append-assoc
-
-  pub file-long : length (normalBytes z) ≡ 36 + 4 * length (z .arcs) + 24 * length (z .labels) + 8 * length (z .matrix) + 8 * length (z .rights)
-  file-long =
-      let l : length (lastBytes z) ≡ 20 = last-long in
-      ap length parts ∙ length-append (headBytes z) (middleBytes z ++ lastBytes z) ∙ ap (λ n. length (headBytes z) + n) (length-append (middleBytes z) (lastBytes z))
-      ∙ omega (arith, head-long, middle-long)
 
   pub file-laid : (out : List ℕ) (middle last : ℕ) → middle ≡ 8 + 4 * length (z .arcs) + 24 * length (z .labels)
       → last ≡ middle + (8 + 8 * length (z .matrix) + 8 * length (z .rights))

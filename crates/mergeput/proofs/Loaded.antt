@@ -8,7 +8,7 @@ use native.Mathlib.Omega.{arith}
 use lib.ListN.{length, take, drop}
 use lib.Seq.{take-at, length-take-le}
 use Rattle.whole.specs.Lists.{all}
-use Rattle.whole.proofs.Cases.{both-first, both-second, between-true}
+use Rattle.whole.proofs.Cases.{both-first, both-second}
 use Rattle.words.specs.Words.{lay}
 use Rattle.words.proofs.Words.{length-lay, lay-front}
 use Rattle.section.specs.Section.{encoded}
@@ -26,7 +26,7 @@ use Rattle.joining.specs.Join.{ascending, union, Placed, Joins}
 use Rattle.joining.proofs.Places.{left-placed, right-placed}
 use Rattle.joining.proofs.Shared.{union-long}
 use Rattle.merging.specs.Merge.{keysOf}
-use Rattle.merging.proofs.Values.{keys-ascend, keys-long}
+use Rattle.merging.proofs.Values.{keys-ascend, keys-long, arcs-in-order}
 use Rattle.mergeput.specs.Parts.{systemIn, Joined}
 use Rattle.mergeput.proofs.Known.{Known}
 
@@ -71,35 +71,35 @@ module _ (a : List ℕ) (x : NormalRead) (ka : Known a x) (b : List ℕ) (y : No
   module _ (e : us ≡ systemIn a .arcs) (f : vs ≡ systemIn b .arcs) where
     pub arcs-ascend : (ascending us ≡ true) × (ascending vs ≡ true)
     arcs-ascend = (
-      subst (λ l. ascending l ≡ true) (sym e) (ka .whole .arcs-ascend),
-      subst (λ l. ascending l ≡ true) (sym f) (kb .whole .arcs-ascend),
+      subst (λ l. ascending l ≡ true) (sym e) (arcs-in-order (ka .whole)),
+      subst (λ l. ascending l ≡ true) (sym f) (arcs-in-order (kb .whole)),
     )
 
     pub arcs-room : length us + length vs ≤ 32
     arcs-room =
         let m : length us ≡ length (systemIn a .arcs) = ap length e in
         let n : length vs ≡ length (systemIn b .arcs) = ap length f in
-        omega (arith, between-true 1 (length (systemIn a .arcs)) 16 (ka .whole .arcs-count) .1, between-true 1 (length (systemIn b .arcs)) 16 (kb .whole .arcs-count) .1)
+        omega (arith, ka .whole .few-arcs, kb .whole .few-arcs)
 
     -- arcs are short numbers
     pub arcs-short : Short us × Short vs
     arcs-short = (
-      subst Short (sym e) (all-short (systemIn a .arcs) (ka .whole .arcs-ok)),
-      subst Short (sym f) (all-short (systemIn b .arcs) (kb .whole .arcs-ok)),
+      subst Short (sym e) (all-short (systemIn a .arcs) (ka .whole .arcs)),
+      subst Short (sym f) (all-short (systemIn b .arcs) (kb .whole .arcs)),
     )
 
   module _ (e : us ≡ keysOf (systemIn a)) (f : vs ≡ keysOf (systemIn b)) where
     pub keys-ascending : (ascending us ≡ true) × (ascending vs ≡ true)
     keys-ascending = (
-      subst (λ l. ascending l ≡ true) (sym e) (keys-ascend (systemIn a) (ka .whole .labels-ascend)),
-      subst (λ l. ascending l ≡ true) (sym f) (keys-ascend (systemIn b) (kb .whole .labels-ascend)),
+      subst (λ l. ascending l ≡ true) (sym e) (keys-ascend (systemIn a) (ka .whole .labels-up)),
+      subst (λ l. ascending l ≡ true) (sym f) (keys-ascend (systemIn b) (kb .whole .labels-up)),
     )
 
     pub keys-room : length us + length vs ≤ 1000
     keys-room =
         let m : length us ≡ length (systemIn a .labels) = ap length e ∙ keys-long (systemIn a) in
         let n : length vs ≡ length (systemIn b .labels) = ap length f ∙ keys-long (systemIn b) in
-        omega (arith, between-true 1 (length (systemIn a .labels)) 500 (ka .whole .labels-count) .1, between-true 1 (length (systemIn b .labels)) 500 (kb .whole .labels-count) .1)
+        omega (arith, ka .whole .few-labels, kb .whole .few-labels)
 
 pub labels-joined : (a b ka kb left₀ right₀ left right : List ℕ) (n : ℕ) → ka ≡ keysOf (systemIn a) → kb ≡ keysOf (systemIn b)
     → length ka + length kb ≤ length left₀ → length ka + length kb ≤ length right₀ → Joins ka kb left₀ right₀ n left right → Joined a b n left right

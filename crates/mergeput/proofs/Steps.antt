@@ -6,7 +6,6 @@ use Prim.Native.Nat.{ℕ, _+_, _*_, _^_, _≤_, _<_}
 use native.Mathlib.Omega.{arith}
 use lib.ListN.{length}
 use mir.Syntax.{w64}
-use Rattle.whole.proofs.Cases.{between-true}
 use Rattle.words.specs.Words.{lay, bytesOf, signedBytes}
 use Rattle.section.specs.Section.{encoded}
 use Rattle.sums.specs.Triangle.{tri}
@@ -14,6 +13,7 @@ use Rattle.system.proofs.Sound.{bound-most}
 use Rattle.normkinds.specs.Kinds.{arcBytes, normalLabelBytes, sumBytes}
 use Rattle.normread.specs.Normal.{normalBytes}
 use Rattle.normread.specs.declared.NormalRead.{NormalRead}
+use Rattle.normread.proofs.Back.{length-normal}
 use Rattle.normkinds.proofs.Records.{length-arc, length-label, length-sum}
 use Rattle.joining.specs.Join.{union}
 use Rattle.mergesums.specs.Table.{rowsOf, columnsOf}
@@ -24,7 +24,7 @@ use Rattle.merging.proofs.Merged.{merged-arcs, merged-accepted, merged-square}
 use Rattle.merging.proofs.Soundness.{judged}
 use Rattle.mergeput.specs.Parts.{systemIn, Joined, ArcsFit, headBytes, middleBytes, lastBytes}
 use Rattle.mergeput.proofs.Known.{Known}
-use Rattle.mergeput.proofs.Laid.{two-laid, file-long, file-laid, last-laid}
+use Rattle.mergeput.proofs.Laid.{two-laid, file-laid, last-laid}
 use Rattle.mergeput.proofs.Sums.{labels-written, matrix-written, rights-written, labels-count, matrix-count, rights-count}
 
 module _ (a : List ℕ) (x : NormalRead) (ka : Known a x) (b : List ℕ) (y : NormalRead) (kb : Known b y) (left right : List ℕ) (n : ℕ) (j : Joined a b n left right) where
@@ -55,7 +55,7 @@ module _ (a : List ℕ) (x : NormalRead) (ka : Known a x) (b : List ℕ) (y : No
         let d : length (z .labels) ≡ n = labels-count a x ka b y kb left right n j in
         let s : length (z .matrix) ≡ tri n = matrix-count a x ka b y kb left right n j in
         let r : length (z .rights) ≡ n = rights-count a x ka b y kb left right n j in
-        file-long z ∙ omega arith
+        length-normal z ∙ omega arith
 
     pub file-put : (out one two three : List ℕ) (middle last : ℕ) → middle ≡ 8 + 4 * m + 24 * n → last ≡ middle + 8 + 8 * tri n + 8 * n
         → one ≡ lay out 0 (headBytes (mergedOf (systemIn a) (systemIn b))) → two ≡ lay one middle (middleBytes (mergedOf (systemIn a) (systemIn b)))
@@ -89,10 +89,10 @@ module _ (a : List ℕ) (x : NormalRead) (ka : Known a x) (b : List ℕ) (y : No
 module _ (a : List ℕ) (x : NormalRead) (ka : Known a x) (b : List ℕ) (y : NormalRead) (kb : Known b y) where
   pub totals-fit : (systemIn a .accepted + systemIn b .accepted < 2 ^ 64) × (systemIn a .square + systemIn b .square < 2 ^ 64)
   totals-fit =
-      let p = judged (systemIn a) (ka .whole .sound) in
-      let q = judged (systemIn b) (kb .whole .sound) in
-      let m : length (systemIn a .arcs) ≤ 16 = between-true 1 (length (systemIn a .arcs)) 16 (ka .whole .arcs-count) .1 in
-      let n : length (systemIn b .arcs) ≤ 16 = between-true 1 (length (systemIn b .arcs)) 16 (kb .whole .arcs-count) .1 in (
+      let p = judged (systemIn a) (ka .whole .sums) in
+      let q = judged (systemIn b) (kb .whole .sums) in
+      let m : length (systemIn a .arcs) ≤ 16 = ka .whole .few-arcs in
+      let n : length (systemIn b .arcs) ≤ 16 = kb .whole .few-arcs in (
         omega (arith, p .accepted, q .accepted),
         omega (arith, p .square, q .square, bound-most (length (systemIn a .arcs)) (systemIn a .accepted) (2 ^ 51), bound-most (length (systemIn b .arcs)) (systemIn b .accepted) (2 ^ 51)),
       )

@@ -1,5 +1,5 @@
--- What reading accepts is what merging takes: the system of an accepted file is proper, and its labels and sums stand where reading says. Of two
--- that may be merged each has at most fifteen arcs.
+-- What reading accepts is what merging takes: the labels and sums of an accepted file stand where reading says. Of two that may be merged each
+-- has at most fifteen arcs.
 -- Assumes nothing.
 use mathlib.Core.Path.{sym, subst}
 use mathlib.Core.List.{List, [], _∷_, map}
@@ -8,53 +8,19 @@ use Prim.Native.Nat.{ℕ, zero, suc, _+_, _*_, _≤_}
 use native.Mathlib.Omega.{arith}
 use lib.ListN.{length, getD}
 use Rattle.whole.specs.Tests.{pick}
-use Rattle.whole.proofs.Cases.{is-between, between-true}
 use Rattle.whole.specs.Lists.{Each}
 use Rattle.system.specs.System.{System, has}
 use Rattle.system.specs.declared.NormalLabel.{NormalLabel}
 use Rattle.system.proofs.Sound.{SoundSystem}
 use Rattle.normread.specs.Normal.{Normal}
 use Rattle.normread.proofs.Accepted.{Standing}
-use Rattle.joining.specs.Join.{ascending, union}
+use Rattle.joining.specs.Join.{union}
 use Rattle.joining.proofs.Shared.{union-full}
-use Rattle.merging.specs.Merge.{keysOf, noLabel, labelAt, carried, mergedOf, Proper}
+use Rattle.merging.specs.Merge.{keysOf, noLabel, labelAt, carried, mergedOf}
 use Rattle.merging.proofs.Merged.{merged-labels}
 use Rattle.merging.proofs.Numbers.{Mergeable}
 use Rattle.merging.proofs.Written.{StandsIn}
-
-pub proper : (x : System) → SoundSystem x → Proper x
-unfolding ascending
-proper x o =
-    record {
-      arcs-count = is-between 1 (length (x .arcs)) 16 (o .some-arcs) (o .few-arcs);
-      arcs-ok = o .arcs;
-      arcs-ascend = o .arcs-up;
-      labels-count = is-between 1 (length (x .labels)) 500 (o .some-labels) (o .few-labels);
-      labels-ok = o .labels;
-      labels-ascend = o .labels-up;
-      matrix-long = o .matrix;
-      rights-long = o .rights;
-      sound = o .sums;
-    }
-
-pub sound-system : (x : System) → Proper x → SoundSystem x
-unfolding ascending
-sound-system x p =
-    let arcs = between-true 1 (length (x .arcs)) 16 (p .arcs-count) in
-    let labels = between-true 1 (length (x .labels)) 500 (p .labels-count) in
-    record {
-      some-arcs = arcs .0;
-      few-arcs = arcs .1;
-      arcs = p .arcs-ok;
-      arcs-up = p .arcs-ascend;
-      some-labels = labels .0;
-      few-labels = labels .1;
-      labels = p .labels-ok;
-      labels-up = p .labels-ascend;
-      matrix = p .matrix-long;
-      rights = p .rights-long;
-      sums = p .sound;
-    }
+use Rattle.merging.proofs.Values.{arcs-in-order}
 
 -- ---- what each label of both systems is, and what stands past them, each label of the merged system is
 each-get : {A : Type 0} (P : A → Type 0) (d : A) → P d → (l : List A) → Each P l → (i : ℕ) → P (getD l i d)
@@ -81,14 +47,14 @@ pub stands-in : (s : List ℕ) (x : Normal) → Standing s x (length (x .holds .
     → StandsIn s (8 + 4 * length (x .holds .arcs)) (x .matrix) (x .rights) (x .holds)
 stands-in s x t = record { labels-are = t .labels; matrix-are = t .matrix; rights-are = t .rights }
 
-module _ (x y : System) (p : Proper x) (q : Proper y) (m : Mergeable x y) where
+module _ (x y : System) (p : SoundSystem x) (q : SoundSystem y) (m : Mergeable x y) where
   pub arcs-together : length (x .arcs) + length (y .arcs) ≤ 16
   arcs-together =
-      let full = union-full (x .arcs) (y .arcs) (p .arcs-ascend) (q .arcs-ascend) (m .none-shared) in
+      let full = union-full (x .arcs) (y .arcs) (arcs-in-order p) (arcs-in-order q) (m .none-shared) in
       omega (arith, m .arcs-fit)
 
   pub first-fifteen : length (x .arcs) ≤ 15
-  first-fifteen = omega (arith, arcs-together, between-true 1 (length (y .arcs)) 16 (q .arcs-count) .0)
+  first-fifteen = omega (arith, arcs-together, q .some-arcs)
 
   pub second-fifteen : length (y .arcs) ≤ 15
-  second-fifteen = omega (arith, arcs-together, between-true 1 (length (x .arcs)) 16 (p .arcs-count) .0)
+  second-fifteen = omega (arith, arcs-together, p .some-arcs)

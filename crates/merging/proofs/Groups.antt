@@ -11,12 +11,13 @@ use Rattle.whole.specs.Tests.{same, both, either}
 use Rattle.whole.specs.Lists.{all}
 use Rattle.whole.proofs.Cases.{apart, holds, not-less, by-cases}
 use Rattle.system.specs.System.{System, has}
+use Rattle.system.proofs.Sound.{SoundSystem}
 use Rattle.joining.specs.Join.{ascending, union, share}
 use Rattle.joining.specs.Alike.{alike}
 use Rattle.joining.proofs.Union.{union-ascends, union-comm, union-assoc, has-union, has-head, either-second, either-false, either-none}
 use Rattle.joining.proofs.Shared.{union-more, share-union, share-comm}
-use Rattle.merging.specs.Merge.{keysOf, labelAt, mergedOf, agree, mergeNumber, Proper}
-use Rattle.merging.proofs.Values.{keys-ascend}
+use Rattle.merging.specs.Merge.{keysOf, labelAt, mergedOf, agree, mergeNumber}
+use Rattle.merging.proofs.Values.{keys-ascend, arcs-in-order}
 use Rattle.merging.proofs.Merged.{merged-keys, merged-arcs, has-merged, in-merged-first, in-merged-second, label-first, label-second}
 use Rattle.merging.proofs.Numbers.{Mergeable, gives-none, all-has, label-same}
 
@@ -47,7 +48,7 @@ agree-of x y e k a b =
     rw (a, b) at g
 
 -- ---- from the one grouping to the other
-module _ (x y z : System) (p : Proper x) (q : Proper y) (r : Proper z) (m : Mergeable x y) (n : Mergeable (mergedOf x y) z) where
+module _ (x y z : System) (p : SoundSystem x) (q : SoundSystem y) (r : SoundSystem z) (m : Mergeable x y) (n : Mergeable (mergedOf x y) z) where
   abbrev xy : System
   xy = mergedOf x y
 
@@ -81,13 +82,13 @@ module _ (x y z : System) (p : Proper x) (q : Proper y) (r : Proper z) (m : Merg
 
   arcs-group : union (xy .arcs) (z .arcs) ≡ union (x .arcs) (yz .arcs)
   arcs-group =
-      ap (λ u. union u (z .arcs)) (merged-arcs x y) ∙ union-assoc (x .arcs) (y .arcs) (z .arcs) (p .arcs-ascend) (q .arcs-ascend) (r .arcs-ascend)
+      ap (λ u. union u (z .arcs)) (merged-arcs x y) ∙ union-assoc (x .arcs) (y .arcs) (z .arcs) (arcs-in-order p) (arcs-in-order q) (arcs-in-order r)
       ∙ ap (union (x .arcs)) (sym (merged-arcs y z))
 
   keys-group : union (keysOf xy) (keysOf z) ≡ union (keysOf x) (keysOf yz)
   keys-group =
       ap (λ u. union u (keysOf z)) (merged-keys x y)
-      ∙ union-assoc (keysOf x) (keysOf y) (keysOf z) (keys-ascend x (p .labels-ascend)) (keys-ascend y (q .labels-ascend)) (keys-ascend z (r .labels-ascend))
+      ∙ union-assoc (keysOf x) (keysOf y) (keysOf z) (keys-ascend x (p .labels-up)) (keys-ascend y (q .labels-up)) (keys-ascend z (r .labels-up))
       ∙ ap (union (keysOf x)) (sym (merged-keys y z))
 
   second-long : (u v : List ℕ) → ascending u ≡ true → ascending v ≡ true → length v ≤ length (union u v)
@@ -95,13 +96,13 @@ module _ (x y z : System) (p : Proper x) (q : Proper y) (r : Proper z) (m : Merg
 
   pub second-accepted : Mergeable y z
   second-accepted =
-      let arcs : ascending (yz .arcs) ≡ true = subst (λ u. ascending u ≡ true) (sym (merged-arcs y z)) (union-ascends (y .arcs) (z .arcs) (q .arcs-ascend) (r .arcs-ascend)) in
-      let keys : ascending (union (keysOf y) (keysOf z)) ≡ true = union-ascends (keysOf y) (keysOf z) (keys-ascend y (q .labels-ascend)) (keys-ascend z (r .labels-ascend)) in
+      let arcs : ascending (yz .arcs) ≡ true = subst (λ u. ascending u ≡ true) (sym (merged-arcs y z)) (union-ascends (y .arcs) (z .arcs) (arcs-in-order q) (arcs-in-order r)) in
+      let keys : ascending (union (keysOf y) (keysOf z)) ≡ true = union-ascends (keysOf y) (keysOf z) (keys-ascend y (q .labels-up)) (keys-ascend z (r .labels-up)) in
       record {
         none-shared = shared .1;
         arcs-fit = subst (λ u. length u ≤ 16) (merged-arcs y z)
-            (le-trans (second-long (x .arcs) (yz .arcs) (p .arcs-ascend) arcs) (subst (λ u. length u ≤ 16) arcs-group (n .arcs-fit)));
-        labels-fit = le-trans (second-long (keysOf x) (union (keysOf y) (keysOf z)) (keys-ascend x (p .labels-ascend)) keys)
+            (le-trans (second-long (x .arcs) (yz .arcs) (arcs-in-order p) arcs) (subst (λ u. length u ≤ 16) arcs-group (n .arcs-fit)));
+        labels-fit = le-trans (second-long (keysOf x) (union (keysOf y) (keysOf z)) (keys-ascend x (p .labels-up)) keys)
             (subst (λ u. length (union (keysOf x) u) ≤ 500) (merged-keys y z) (subst (λ u. length u ≤ 500) keys-group (n .labels-fit)));
         all-agree = all-each (agree y z) (union (keysOf y) (keysOf z)) (λ k h. agree-is y z k (agreed-second k));
       }
@@ -110,9 +111,9 @@ module _ (x y z : System) (p : Proper x) (q : Proper y) (r : Proper z) (m : Merg
   first-accepted =
       record {
         none-shared = ap (share (x .arcs)) (merged-arcs y z)
-            ∙ share-comm (x .arcs) (union (y .arcs) (z .arcs)) (p .arcs-ascend) (union-ascends (y .arcs) (z .arcs) (q .arcs-ascend) (r .arcs-ascend))
+            ∙ share-comm (x .arcs) (union (y .arcs) (z .arcs)) (arcs-in-order p) (union-ascends (y .arcs) (z .arcs) (arcs-in-order q) (arcs-in-order r))
             ∙ share-union (y .arcs) (z .arcs) (x .arcs)
-            ∙ either-none (share-comm (y .arcs) (x .arcs) (q .arcs-ascend) (p .arcs-ascend) ∙ m .none-shared) (share-comm (z .arcs) (x .arcs) (r .arcs-ascend) (p .arcs-ascend) ∙ shared .0);
+            ∙ either-none (share-comm (y .arcs) (x .arcs) (arcs-in-order q) (arcs-in-order p) ∙ m .none-shared) (share-comm (z .arcs) (x .arcs) (arcs-in-order r) (arcs-in-order p) ∙ shared .0);
         arcs-fit = subst (λ u. length u ≤ 16) arcs-group (n .arcs-fit);
         labels-fit = subst (λ u. length u ≤ 500) keys-group (n .labels-fit);
         all-agree = all-each (agree x yz) (union (keysOf x) (keysOf yz)) (λ k h. agree-is x yz k (agreed-first k));

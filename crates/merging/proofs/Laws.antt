@@ -8,17 +8,18 @@ use lib.IntN.{_+ℤ_}
 use Rattle.whole.specs.Tests.{either}
 use Rattle.whole.proofs.Cases.{by-cases}
 use Rattle.system.specs.System.{System, has}
+use Rattle.system.proofs.Sound.{SoundSystem}
 use Rattle.joining.proofs.Union.{has-union}
-use Rattle.merging.specs.Merge.{keysOf, labelAt, value, side, mergedOf, mergeNumber, Proper}
-use Rattle.merging.proofs.Values.{formed}
+use Rattle.merging.specs.Merge.{keysOf, labelAt, value, side, mergedOf, mergeNumber}
+use Rattle.merging.proofs.Values.{formed, arcs-in-order}
 use Rattle.merging.proofs.Merged.{merged-arcs, merged-value, merged-side, merged-accepted, merged-square, has-merged, label-first, label-second}
 use Rattle.merging.proofs.Numbers.{mergeable, number-comm, label-same}
 use Rattle.merging.proofs.Orders.{merged-either, merged-group}
-use Rattle.merging.proofs.Whole.{merged-proper}
+use Rattle.merging.proofs.Whole.{merged-sound}
 use Rattle.merging.proofs.Groups.{mergeable-is, first-accepted, second-accepted}
 
 -- ---- "Merging adds sums of like labels"
-module _ (x y : System) (p : Proper x) (q : Proper y) where
+module _ (x y : System) (p : SoundSystem x) (q : SoundSystem y) where
   -- the merged sum at two labels is the sum of what each has there, 0 where it has none
   pub merge-value : (k l : ℕ) → value (mergedOf x y) k l ≡ value x k l +ℤ value y k l
   merge-value = merged-value x y (formed x p) (formed y q)
@@ -38,7 +39,7 @@ module _ (x y : System) (k : ℕ) where
   merge-arcs = ap (has k) (merged-arcs x y) ∙ has-union k (x .arcs) (y .arcs)
 
 -- ---- "carries priors over without adding them": a label of either is the same label, prior weight and estimate with it, in the result
-module _ (x y : System) (p : Proper x) (q : Proper y) (accepted : mergeNumber x y ≡ 0) (k : ℕ) where
+module _ (x y : System) (p : SoundSystem x) (q : SoundSystem y) (accepted : mergeNumber x y ≡ 0) (k : ℕ) where
   pub priors-first : has k (keysOf x) ≡ true → labelAt (mergedOf x y) k ≡ labelAt x k
   priors-first = label-first x y k
 
@@ -49,7 +50,7 @@ module _ (x y : System) (p : Proper x) (q : Proper y) (accepted : mergeNumber x 
       (λ a. label-second x y k a b)
 
 -- ---- "The two may be given in either order"
-module _ (x y : System) (p : Proper x) (q : Proper y) where
+module _ (x y : System) (p : SoundSystem x) (q : SoundSystem y) where
   pub merge-either : mergeNumber x y ≡ 0 → mergedOf x y ≡ mergedOf y x
   merge-either e = merged-either x y p q (mergeable x y e .all-agree)
 
@@ -57,13 +58,13 @@ module _ (x y : System) (p : Proper x) (q : Proper y) where
   refuse-either = number-comm x y p q
 
   -- ---- two accepted ones give what an accepted file has, sound sums among it
-  pub merge-proper : mergeNumber x y ≡ 0 → Proper (mergedOf x y)
-  merge-proper = merged-proper x y p q
+  pub merge-sound : mergeNumber x y ≡ 0 → SoundSystem (mergedOf x y)
+  merge-sound = merged-sound x y p q
 
 -- ---- three in either grouping: the same system, and accepted in the one where in the other
-module _ (x y z : System) (p : Proper x) (q : Proper y) (r : Proper z) where
+module _ (x y z : System) (p : SoundSystem x) (q : SoundSystem y) (r : SoundSystem z) where
   pub merge-groups : mergedOf (mergedOf x y) z ≡ mergedOf x (mergedOf y z)
-  merge-groups = merged-group x y z (formed x p) (formed y q) (formed z r) (p .arcs-ascend) (q .arcs-ascend) (r .arcs-ascend)
+  merge-groups = merged-group x y z (formed x p) (formed y q) (formed z r) (arcs-in-order p) (arcs-in-order q) (arcs-in-order r)
 
   pub accept-groups : mergeNumber x y ≡ 0 → mergeNumber (mergedOf x y) z ≡ 0 → (mergeNumber y z ≡ 0) × (mergeNumber x (mergedOf y z) ≡ 0)
   accept-groups e f = (
@@ -73,12 +74,12 @@ module _ (x y z : System) (p : Proper x) (q : Proper y) (r : Proper z) where
 
   pub accept-back : mergeNumber y z ≡ 0 → mergeNumber x (mergedOf y z) ≡ 0 → (mergeNumber x y ≡ 0) × (mergeNumber (mergedOf x y) z ≡ 0)
   accept-back e f =
-      let yz = merge-proper y z q r e in
+      let yz = merge-sound y z q r e in
       let zy : mergeNumber z y ≡ 0 = refuse-either z y r q ∙ e in
       let turned : mergeNumber (mergedOf z y) x ≡ 0 = ap (λ g. mergeNumber g x) (sym (merge-either y z q r e)) ∙ refuse-either (mergedOf y z) x yz p ∙ f in
       let g = accept-turned zy turned in
       let xy : mergeNumber x y ≡ 0 = refuse-either x y p q ∙ g .0 in
-      (xy, refuse-either (mergedOf x y) z (merge-proper x y p q xy) r ∙ ap (mergeNumber z) (merge-either x y p q xy) ∙ g .1)
+      (xy, refuse-either (mergedOf x y) z (merge-sound x y p q xy) r ∙ ap (mergeNumber z) (merge-either x y p q xy) ∙ g .1)
     where
       accept-turned : mergeNumber z y ≡ 0 → mergeNumber (mergedOf z y) x ≡ 0 → (mergeNumber y x ≡ 0) × (mergeNumber z (mergedOf y x) ≡ 0)
       accept-turned e f = (

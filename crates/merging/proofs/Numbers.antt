@@ -14,13 +14,14 @@ use Rattle.refusal.specs.First.{when, unless, first}
 use Rattle.refusal.proofs.Firsts.{when-true, when-false, unless-true, unless-false, when-none, unless-none, first-pass, first-stop, first-none, first-one}
 use Rattle.system.specs.System.{System, has, normalLabelOk}
 use Rattle.system.proofs.Labels.{label-small}
+use Rattle.system.proofs.Sound.{SoundSystem}
 use Rattle.joining.specs.Join.{union, seat, share}
 use Rattle.joining.specs.Alike.{alike}
 use Rattle.joining.proofs.Alike.{alike-comm, one-label}
 use Rattle.joining.proofs.Union.{union-comm, has-union, either-second}
 use Rattle.joining.proofs.Shared.{share-comm}
-use Rattle.merging.specs.Merge.{keysOf, noLabel, labelAt, agree, mergeNumber, Proper}
-use Rattle.merging.proofs.Values.{keys-ascend, within, label-key}
+use Rattle.merging.specs.Merge.{keysOf, noLabel, labelAt, agree, mergeNumber}
+use Rattle.merging.proofs.Values.{keys-ascend, within, label-key, arcs-in-order}
 
 -- ---- the tests in their order
 module _ (x y : System) where
@@ -107,12 +108,12 @@ unfolding agree
 agree-comm x y k =
     (λ i. either (not (both-comm (has k (keysOf x)) (has k (keysOf y)) i)) (alike-comm (labelAt x k) (labelAt y k) i))
 
-pub number-comm : (x y : System) → Proper x → Proper y → mergeNumber x y ≡ mergeNumber y x
+pub number-comm : (x y : System) → SoundSystem x → SoundSystem y → mergeNumber x y ≡ mergeNumber y x
 unfolding mergeNumber
 number-comm x y p q =
-    let arcs : union (x .arcs) (y .arcs) ≡ union (y .arcs) (x .arcs) = union-comm (x .arcs) (y .arcs) (p .arcs-ascend) (q .arcs-ascend) in
-    let keys : union (keysOf x) (keysOf y) ≡ union (keysOf y) (keysOf x) = union-comm (keysOf x) (keysOf y) (keys-ascend x (p .labels-ascend)) (keys-ascend y (q .labels-ascend)) in
-    let meet : share (x .arcs) (y .arcs) ≡ share (y .arcs) (x .arcs) = share-comm (x .arcs) (y .arcs) (p .arcs-ascend) (q .arcs-ascend) in
+    let arcs : union (x .arcs) (y .arcs) ≡ union (y .arcs) (x .arcs) = union-comm (x .arcs) (y .arcs) (arcs-in-order p) (arcs-in-order q) in
+    let keys : union (keysOf x) (keysOf y) ≡ union (keysOf y) (keysOf x) = union-comm (keysOf x) (keysOf y) (keys-ascend x (p .labels-up)) (keys-ascend y (q .labels-up)) in
+    let meet : share (x .arcs) (y .arcs) ≡ share (y .arcs) (x .arcs) = share-comm (x .arcs) (y .arcs) (arcs-in-order p) (arcs-in-order q) in
     (λ i. first (when 21 (meet i) ∷ when 22 (less 16 (length (arcs i))) ∷ when 23 (less 500 (length (keys i))) ∷ unless 24 (all (λ k. agree-comm x y k i) (keys i)) ∷ []))
 
 -- ---- a label that two systems have is one and the same
@@ -124,17 +125,17 @@ all-has f (a ∷ l) k e h =
     (λ t. subst (λ m. f m ≡ true) (same-true a k t) (both-first _ _ e))
     (λ t. all-has f l k (both-second _ _ e) (at-last _ _ t refl ∙ h))
 
-pub label-ok : (x : System) → Proper x → (k : ℕ) → has k (keysOf x) ≡ true → normalLabelOk (x .arcs) (labelAt x k) ≡ true
+pub label-ok : (x : System) → SoundSystem x → (k : ℕ) → has k (keysOf x) ≡ true → normalLabelOk (x .arcs) (labelAt x k) ≡ true
 unfolding labelAt
-label-ok x p k h = all-at (normalLabelOk (x .arcs)) (x .labels) noLabel (seat (keysOf x) k) (p .labels-ok) (within x k h)
+label-ok x p k h = all-at (normalLabelOk (x .arcs)) (x .labels) noLabel (seat (keysOf x) k) (p .labels) (within x k h)
 
-pub label-same : (x y : System) → Proper x → Proper y → all (agree x y) (union (keysOf x) (keysOf y)) ≡ true → (k : ℕ) → has k (keysOf x) ≡ true
+pub label-same : (x y : System) → SoundSystem x → SoundSystem y → all (agree x y) (union (keysOf x) (keysOf y)) ≡ true → (k : ℕ) → has k (keysOf x) ≡ true
     → has k (keysOf y) ≡ true → labelAt x k ≡ labelAt y k
 unfolding agree either both
 label-same x y p q all-agree k a b =
     let h : has k (union (keysOf x) (keysOf y)) ≡ true = has-union k (keysOf x) (keysOf y) ∙ either-second (has k (keysOf x)) b in
     let e : either (not (both (has k (keysOf x)) (has k (keysOf y)))) (alike (labelAt x k) (labelAt y k)) ≡ true = all-has (agree x y) (union (keysOf x) (keysOf y)) k all-agree h in
-    one-label (labelAt x k) (labelAt y k) (label-small (x .arcs) (labelAt x k) (p .arcs-ok) (label-ok x p k a)) (label-small (y .arcs) (labelAt y k) (q .arcs-ok) (label-ok y q k b))
+    one-label (labelAt x k) (labelAt y k) (label-small (x .arcs) (labelAt x k) (p .arcs) (label-ok x p k a)) (label-small (y .arcs) (labelAt y k) (q .arcs) (label-ok y q k b))
     (label-key x k a ∙ sym (label-key y k b)) (second e)
   where
     second : either (not (both (has k (keysOf x)) (has k (keysOf y)))) (alike (labelAt x k) (labelAt y k)) ≡ true → alike (labelAt x k) (labelAt y k) ≡ true

@@ -10,10 +10,11 @@ use Rattle.whole.specs.Lists.{all}
 use Rattle.whole.proofs.Cases.{apart, at-last, by-cases}
 use Rattle.whole.proofs.Adding.{plus-comm}
 use Rattle.system.specs.System.{System, has}
+use Rattle.system.proofs.Sound.{SoundSystem}
 use Rattle.joining.specs.Join.{ascending, union}
 use Rattle.joining.proofs.Union.{union-comm, union-assoc, has-union, either-none}
-use Rattle.merging.specs.Merge.{keysOf, value, side, blank, carried, joined, addInto, mergedOf, agree, Proper, table}
-use Rattle.merging.proofs.Values.{Formed, keys-ascend}
+use Rattle.merging.specs.Merge.{keysOf, value, side, blank, carried, joined, addInto, mergedOf, agree, table}
+use Rattle.merging.proofs.Values.{Formed, keys-ascend, arcs-in-order}
 use Rattle.merging.proofs.Merged.{map-alike, carried-first, carried-second, merged-keys, merged-labels, merged-arcs, merged-matrix, merged-rights, merged-value, merged-side, merged-accepted, merged-square, has-merged, in-merged-first, in-merged-second, label-first, label-second}
 use Rattle.merging.proofs.Numbers.{label-same}
 
@@ -34,7 +35,7 @@ add-either g x y =
     (swap (g .accepted) (x .accepted) (y .accepted))
     (swap (g .square) (x .square) (y .square))
 
-module _ (x y : System) (p : Proper x) (q : Proper y) (agreed : all (agree x y) (union (keysOf x) (keysOf y)) ≡ true) where
+module _ (x y : System) (p : SoundSystem x) (q : SoundSystem y) (agreed : all (agree x y) (union (keysOf x) (keysOf y)) ≡ true) where
   pub carried-either : (k : ℕ) → has k (union (keysOf x) (keysOf y)) ≡ true → carried x y k ≡ carried y x k
   carried-either k h =
       by-cases (has k (keysOf x))
@@ -49,9 +50,9 @@ module _ (x y : System) (p : Proper x) (q : Proper y) (agreed : all (agree x y) 
   unfolding joined
   joined-either =
       ap₂ blank
-      (union-comm (x .arcs) (y .arcs) (p .arcs-ascend) (q .arcs-ascend))
+      (union-comm (x .arcs) (y .arcs) (arcs-in-order p) (arcs-in-order q))
       (map-alike (carried x y) (carried y x) (union (keysOf x) (keysOf y)) carried-either
-      ∙ ap (map (carried y x)) (union-comm (keysOf x) (keysOf y) (keys-ascend x (p .labels-ascend)) (keys-ascend y (q .labels-ascend))))
+      ∙ ap (map (carried y x)) (union-comm (keysOf x) (keysOf y) (keys-ascend x (p .labels-up)) (keys-ascend y (q .labels-up))))
 
   pub merged-either : mergedOf x y ≡ mergedOf y x
   unfolding mergedOf

@@ -14,11 +14,12 @@ use Rattle.whole.proofs.Cases.{yes, no, is-less, not-less, is-upTo, not-upTo, l
 use Rattle.sums.specs.Triangle.{tri}
 use Rattle.sums.specs.Sound.{entry}
 use Rattle.system.specs.System.{System, has, keyOf}
+use Rattle.system.proofs.Sound.{SoundSystem}
 use Rattle.joining.specs.Join.{ascending, seat}
 use Rattle.joining.proofs.Union.{asc-of, asc-to}
 use Rattle.joining.proofs.Seats.{seated, unseated, seats-rise, seats-order}
 use Rattle.mergesums.specs.Table.{sumAt}
-use Rattle.merging.specs.Merge.{keysOf, noLabel, labelAt, value, side, Proper}
+use Rattle.merging.specs.Merge.{keysOf, noLabel, labelAt, value, side}
 
 -- ---- the shape of a system: its keys ascend, and it has as many sums as its labels ask for
 pub record Formed (x : System) : Type 0 where
@@ -30,8 +31,12 @@ pub keys-ascend : (x : System) → ascend keyOf 0 (x .labels) ≡ true → ascen
 unfolding keysOf
 keys-ascend x e = asc-to (map keyOf (x .labels)) (asc-of keyOf 0 (x .labels) e)
 
-pub formed : (x : System) → Proper x → Formed x
-formed x p = record { ascend = keys-ascend x (p .labels-ascend); matrix-long = p .matrix-long; rights-long = p .rights-long }
+pub arcs-in-order : {x : System} → SoundSystem x → ascending (x .arcs) ≡ true
+unfolding ascending
+arcs-in-order p = p .arcs-up
+
+pub formed : (x : System) → SoundSystem x → Formed x
+formed x p = record { ascend = keys-ascend x (p .labels-up); matrix-long = p .matrix; rights-long = p .rights }
 
 pub keys-long : (x : System) → length (keysOf x) ≡ length (x .labels)
 unfolding keysOf

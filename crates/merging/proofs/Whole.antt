@@ -3,19 +3,20 @@
 use mathlib.Core.Path.{_≡_, refl, sym, ap, _∙_, subst}
 use mathlib.Core.List.{List, [], _∷_, map}
 use mathlib.Core.Bool.{Bool, true, false}
-use Prim.Native.Nat.{ℕ, _+_}
+use Prim.Native.Nat.{ℕ, _+_, _≤_}
 use native.Mathlib.Omega.{arith}
 use lib.ListN.{length, length-map}
-use Rattle.whole.specs.Tests.{same, upTo, pick, between}
+use Rattle.whole.specs.Tests.{same, upTo, pick}
 use Rattle.whole.specs.Lists.{all, ascend}
-use Rattle.whole.proofs.Cases.{apart, yes, no, holds, at-once, is-between, between-true, both-first, both-second, by-cases}
+use Rattle.whole.proofs.Cases.{apart, yes, no, holds, at-once, both-first, both-second, by-cases}
 use Rattle.system.specs.System.{System, has, arcOk, arcListed, normalLabelOk, keyOf}
 use Rattle.system.specs.declared.NormalLabel.{NormalLabel}
+use Rattle.system.proofs.Sound.{SoundSystem}
 use Rattle.joining.specs.Join.{ascending, union}
 use Rattle.joining.proofs.Union.{by-order, asc-from, asc-is, union-ascends, has-union, has-head, either-second, either-none}
 use Rattle.joining.proofs.Shared.{union-more, union-full}
-use Rattle.merging.specs.Merge.{keysOf, carried, mergedOf, mergeNumber, Proper}
-use Rattle.merging.proofs.Values.{formed, keys-long}
+use Rattle.merging.specs.Merge.{keysOf, carried, mergedOf, mergeNumber}
+use Rattle.merging.proofs.Values.{formed, keys-long, arcs-in-order}
 use Rattle.merging.proofs.Merged.{carried-first, carried-second, merged-labels, merged-arcs, merged-formed}
 use Rattle.merging.proofs.Numbers.{mergeable, label-ok}
 use Rattle.merging.proofs.Soundness.{judged, judged-sound, merged-judged}
@@ -49,13 +50,17 @@ ok-more few many more l e =
         (λ t. sym (yes _ _ _ t (sym (yes _ _ _ t refl ∙ h))))
         (λ t. sym (no _ _ _ t (sym (more (l .arc) (no _ _ _ t refl ∙ h)))))
 
+ascends : (u : List ℕ) → ascending u ≡ true → ascend (λ a. a) 0 u ≡ true
+unfolding ascending
+ascends u e = e
+
 labels-in-order : (x : System) → ascending (keysOf x) ≡ true → ascend keyOf 0 (x .labels) ≡ true
 unfolding keysOf
 labels-in-order x e = asc-is keyOf 0 (x .labels) (asc-from (map keyOf (x .labels)) e)
 
-module _ (x y : System) (p : Proper x) (q : Proper y) (accepted : mergeNumber x y ≡ 0) where
+module _ (x y : System) (p : SoundSystem x) (q : SoundSystem y) (accepted : mergeNumber x y ≡ 0) where
   arcs-sum : length (union (x .arcs) (y .arcs)) ≡ length (x .arcs) + length (y .arcs)
-  arcs-sum = union-full (x .arcs) (y .arcs) (p .arcs-ascend) (q .arcs-ascend) (mergeable x y accepted .none-shared)
+  arcs-sum = union-full (x .arcs) (y .arcs) (arcs-in-order p) (arcs-in-order q) (mergeable x y accepted .none-shared)
 
   carried-ok : (k : ℕ) → has k (union (keysOf x) (keysOf y)) ≡ true → normalLabelOk (union (x .arcs) (y .arcs)) (carried x y k) ≡ true
   carried-ok k h =
@@ -69,26 +74,25 @@ module _ (x y : System) (p : Proper x) (q : Proper y) (accepted : mergeNumber x 
       in-second a =
           by-cases (has k (keysOf y)) (λ b. b) (λ b. absurd (apart (sym h ∙ has-union k (keysOf x) (keysOf y) ∙ either-none a b)))
 
-  pub merged-proper : Proper (mergedOf x y)
-  merged-proper =
+  pub merged-sound : SoundSystem (mergedOf x y)
+  merged-sound =
       let f = merged-formed x y (formed x p) (formed y q) in
       let m = mergeable x y accepted in
       let arcs : mergedOf x y .arcs ≡ union (x .arcs) (y .arcs) = merged-arcs x y in
       let labels : mergedOf x y .labels ≡ map (carried x y) (union (keysOf x) (keysOf y)) = merged-labels x y in
       let long : length (mergedOf x y .labels) ≡ length (union (keysOf x) (keysOf y)) = ap length labels ∙ length-map (union (keysOf x) (keysOf y)) (carried x y) in
-      let ax = between-true 1 (length (x .arcs)) 16 (p .arcs-count) in
-      let lx = between-true 1 (length (x .labels)) 500 (p .labels-count) in
       record {
-        arcs-count = subst (λ u. between 1 (length u) 16 ≡ true) (sym arcs) (is-between 1 _ 16 (omega (arith, arcs-sum, ax .0)) (m .arcs-fit));
-        arcs-ok = subst (λ u. all arcOk u ≡ true) (sym arcs) (all-union arcOk (x .arcs) (y .arcs) (p .arcs-ok) (q .arcs-ok));
-        arcs-ascend = subst (λ u. ascending u ≡ true) (sym arcs) (union-ascends (x .arcs) (y .arcs) (p .arcs-ascend) (q .arcs-ascend));
-        labels-count = is-between 1 (length (mergedOf x y .labels)) 500
-            (omega (arith, long, union-more (keysOf x) (keysOf y), keys-long x, lx .0)) (omega (arith, long, m .labels-fit));
-        labels-ok = subst (λ l. all (normalLabelOk (mergedOf x y .arcs)) l ≡ true) (sym labels)
+        some-arcs = subst (λ u. 1 ≤ length u) (sym arcs) (omega (arith, arcs-sum, p .some-arcs));
+        few-arcs = subst (λ u. length u ≤ 16) (sym arcs) (m .arcs-fit);
+        arcs = subst (λ u. all arcOk u ≡ true) (sym arcs) (all-union arcOk (x .arcs) (y .arcs) (p .arcs) (q .arcs));
+        arcs-up = ascends (mergedOf x y .arcs) (subst (λ u. ascending u ≡ true) (sym arcs) (union-ascends (x .arcs) (y .arcs) (arcs-in-order p) (arcs-in-order q)));
+        some-labels = omega (arith, long, union-more (keysOf x) (keysOf y), keys-long x, p .some-labels);
+        few-labels = omega (arith, long, m .labels-fit);
+        labels = subst (λ l. all (normalLabelOk (mergedOf x y .arcs)) l ≡ true) (sym labels)
             (all-map (normalLabelOk (mergedOf x y .arcs)) (carried x y) (union (keysOf x) (keysOf y)) (λ k h. subst (λ u. normalLabelOk u (carried x y k) ≡ true) (sym arcs) (carried-ok k h)));
-        labels-ascend = labels-in-order (mergedOf x y) (f .ascend);
-        matrix-long = f .matrix-long;
-        rights-long = f .rights-long;
-        sound = judged-sound (mergedOf x y)
-            (merged-judged x y (formed x p) (formed y q) (ap length arcs ∙ arcs-sum) (judged x (p .sound)) (judged y (q .sound)));
+        labels-up = labels-in-order (mergedOf x y) (f .ascend);
+        matrix = f .matrix-long;
+        rights = f .rights-long;
+        sums = judged-sound (mergedOf x y)
+            (merged-judged x y (formed x p) (formed y q) (ap length arcs ∙ arcs-sum) (judged x (p .sums)) (judged y (q .sums)));
       }

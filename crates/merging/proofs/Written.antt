@@ -1,5 +1,5 @@
 -- What the code writes by places is the merged system by labels: its labels, matrix sums and right sides, from those of two files where they
--- stand, at the places that a join gives; and the common labels that it compares are those of 24. The sums of a proper system are small
+-- stand, at the places that a join gives; and the common labels that it compares are those of 24. The sums of a sound system are small
 -- enough to be added.
 -- Assumes nothing.
 use mathlib.Core.Path.{_≡_, refl, sym, ap, ap₂, _∙_, subst}
@@ -18,7 +18,7 @@ use Rattle.words.specs.Words.{signedWord}
 use Rattle.sums.specs.Triangle.{tri}
 use Rattle.sums.specs.Sound.{entry}
 use Rattle.system.specs.System.{System, has, keyOf, boundOf}
-use Rattle.system.proofs.Sound.{bound-most, entry-of}
+use Rattle.system.proofs.Sound.{bound-most, entry-of, SoundSystem}
 use Rattle.words.specs.Stands.{stands}
 use Rattle.normsum.specs.Sums.{sumsAt}
 use Rattle.words.proofs.Stands.{length-stands, stands-at}
@@ -35,7 +35,7 @@ use Rattle.mergesums.proofs.Held.{held-there, held-past, column-sum}
 use Rattle.mergeread.specs.Read.{keyAt, keysAt, agreeIn, agreeAt}
 use Rattle.mergeheads.specs.Heads.{labelIn, labelOf}
 use Rattle.mergeheads.proofs.Chosen.{label-first, label-second}
-use Rattle.merging.specs.Merge.{keysOf, noLabel, labelAt, value, side, carried, mergedOf, agree, table, Proper}
+use Rattle.merging.specs.Merge.{keysOf, noLabel, labelAt, value, side, carried, mergedOf, agree, table}
 use Rattle.merging.proofs.Values.{keys-long, within}
 use Rattle.merging.proofs.Numbers.{all-has}
 use Rattle.merging.proofs.Groups.{all-each}
@@ -180,11 +180,11 @@ module _ (a : List ℕ) (la ma ra : ℕ) (x : System) (sa : StandsIn a la ma ra 
       is i h = ap₂ (agreeIn a la (length (x .labels)) b lb (length (y .labels))) (pl i h) (pr i h) ∙ agreed-one (getD u i 0)
 
 -- ---- no sum of up to fifteen arcs reaches 2^62
-module _ (s : List ℕ) (labels matrix rights : ℕ) (x : System) (p : Proper x) (few : length (x .arcs) ≤ 15) (st : StandsIn s labels matrix rights x) where
+module _ (s : List ℕ) (labels matrix rights : ℕ) (x : System) (p : SoundSystem x) (few : length (x .arcs) ≤ 15) (st : StandsIn s labels matrix rights x) where
   pub small-matrix : SmallAll s matrix (length (x .labels))
   small-matrix i h =
       let e = entry-of (length (x .labels)) i h in
-      let k = judged x (p .sound) .sums .matrix (e .row) (e .column) (e .upper) (e .inside) .small in
+      let k = judged x (p .sums) .sums .matrix (e .row) (e .column) (e .upper) (e .inside) .small in
       let most : boundOf (length (x .arcs)) (x .accepted) (2 ^ 58) ≤ length (x .arcs) * 2 ^ 58 = bound-most (length (x .arcs)) (x .accepted) (2 ^ 58) in
       let is : getD (x .matrix) i (pos 0) ≡ signedWord w64 s (matrix + 8 * i) = ap (λ l. getD l i (pos 0)) (st .matrix-are) ∙ stands-at (signedWord w64 s) 8 (tri (length (x .labels))) matrix i (pos 0) h in
       let same : entry (x .matrix) (e .row) (e .column) ≡ signedWord w64 s (matrix + 8 * i) = ap (λ n. getD (x .matrix) n (pos 0)) (sym (e .place)) ∙ is in
@@ -192,7 +192,7 @@ module _ (s : List ℕ) (labels matrix rights : ℕ) (x : System) (p : Proper x)
 
   pub small-rights : Small s (sidesAt rights x)
   small-rights i h =
-      let k = judged x (p .sound) .sums .rights i h .small in
+      let k = judged x (p .sums) .sums .rights i h .small in
       let most : boundOf (length (x .arcs)) (x .accepted) (2 ^ 55) ≤ length (x .arcs) * 2 ^ 55 = bound-most (length (x .arcs)) (x .accepted) (2 ^ 55) in
       let is : getD (x .rights) i (pos 0) ≡ signedWord w64 s (rights + 8 * i) = ap (λ l. getD l i (pos 0)) (st .rights-are) ∙ stands-at (signedWord w64 s) 8 (length (x .labels)) rights i (pos 0) h in
       subst (λ z. natAbs z < 2 ^ 62) is (omega arith)

@@ -1,19 +1,18 @@
 -- Document 01, 'Normal file': "Merging adds sums of like labels, unites labels and arcs, and carries priors over without adding them." All of
 -- it is said by labels, each named by its key, so that no place matters. Uniting the headings stands apart from adding a file's sums.
-use mathlib.Core.Path.{_≡_}
 use mathlib.Core.List.{List, [], _∷_, map}
-use mathlib.Core.Bool.{Bool, true, not}
+use mathlib.Core.Bool.{Bool, not}
 use Prim.Native.Nat.{ℕ, _+_}
 use lib.IntN.{ℤ, pos}
 use lib.ListN.{length, getD, replicate}
-use Rattle.whole.specs.Tests.{less, pick, both, either, between}
-use Rattle.whole.specs.Lists.{all, ascend}
+use Rattle.whole.specs.Tests.{less, pick, both, either}
+use Rattle.whole.specs.Lists.{all}
 use Rattle.whole.specs.Sums.{plus}
 use Rattle.refusal.specs.First.{when, unless, first}
 use Rattle.sums.specs.Triangle.{tri}
-use Rattle.system.specs.System.{System, has, arcOk, normalLabelOk, keyOf, unsoundIn, nowhere}
+use Rattle.system.specs.System.{System, has, keyOf}
 use Rattle.system.specs.declared.NormalLabel.{NormalLabel}
-use Rattle.joining.specs.Join.{ascending, union, seat, share}
+use Rattle.joining.specs.Join.{union, seat, share}
 use Rattle.joining.specs.Alike.{alike}
 use Rattle.mergesums.specs.Table.{columnsOf, sumAt}
 
@@ -93,15 +92,3 @@ mergeNumber x y =
     ∷ when 23 (less 500 (length (union (keysOf x) (keysOf y))))
     ∷ unless 24 (all (agree x y) (union (keysOf x) (keysOf y)))
     ∷ [])
-
--- ---- what the system of an accepted file is
-pub record Proper (x : System) : Type 0 where
-  pub arcs-count : between 1 (length (x .arcs)) 16 ≡ true
-  pub arcs-ok : all arcOk (x .arcs) ≡ true
-  pub arcs-ascend : ascending (x .arcs) ≡ true
-  pub labels-count : between 1 (length (x .labels)) 500 ≡ true
-  pub labels-ok : all (normalLabelOk (x .arcs)) (x .labels) ≡ true
-  pub labels-ascend : ascend keyOf 0 (x .labels) ≡ true
-  pub matrix-long : length (x .matrix) ≡ tri (length (x .labels))
-  pub rights-long : length (x .rights) ≡ length (x .labels)
-  pub sound : unsoundIn x ≡ nowhere

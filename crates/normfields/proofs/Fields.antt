@@ -18,7 +18,7 @@ use Rattle.system.proofs.Labels.{label-kind, label-small}
 use Rattle.words.specs.Stands.{stands}
 use Rattle.words.proofs.Stands.{length-stands, stands-at}
 use Rattle.normroom.specs.Room.{labelIn, systemIn, fieldsFit, ordersFit}
-use Rattle.normfields.specs.Fields.{bareLabel, isSmall, Small, allFit, allAscend}
+use Rattle.normfields.specs.Fields.{bareLabel, isSmall, Small, bareSystem}
 
 -- ---- an arc
 pub arc-large : (a : ℕ) → 4294967296 ≤ a → false ≡ arcOk a
@@ -84,9 +84,9 @@ module _ (h : List ℕ) (k : ℕ) where
     not-small e = by-cases (normalLabelOk arcs (labelIn h k)) (λ t. absurd (apart (sym (is-small (ok-small t)) ∙ e))) (λ t. sym t)
 
 -- ---- of a arcs and p labels within their limits, the ith label
-module _ (a p : ℕ) (h : List ℕ) (fit : allFit a p h ≡ true) (i k : ℕ) (more : i < p) (place : k ≡ a + 5 * i) where
+module _ (a p : ℕ) (h : List ℕ) (fit : fieldsFit (bareSystem a p h) ≡ true) (i k : ℕ) (more : i < p) (place : k ≡ a + 5 * i) where
   label-at : normalLabelOk (take a h) (labelIn h k) ≡ true
-  unfolding allFit
+  unfolding fieldsFit systemIn
   label-at =
       let s = stands (labelIn h) 5 p a in
       let long : length s ≡ p = length-stands (labelIn h) 5 p a in
@@ -94,7 +94,7 @@ module _ (a p : ℕ) (h : List ℕ) (fit : allFit a p h ≡ true) (i k : ℕ) (m
       ap (λ n. normalLabelOk (take a h) (labelIn h n)) place ∙ sym (ap (normalLabelOk (take a h)) (stands-at (labelIn h) 5 p a i (labelIn h 0) more)) ∙ here
 
   arcs-listed : all arcOk (take a h) ≡ true
-  unfolding allFit
+  unfolding fieldsFit systemIn
   arcs-listed = both-first _ _ fit
 
   pub label-small-at : Small h k
@@ -105,10 +105,10 @@ module _ (a p : ℕ) (h : List ℕ) (fit : allFit a p h ≡ true) (i k : ℕ) (m
 
 -- ---- the system in three rooms
 module _ (a p : ℕ) (h : List ℕ) (m r : List ℤ) where
-  pub fields-in : fieldsFit (systemIn a p h m r) ≡ allFit a p h
-  unfolding fieldsFit systemIn allFit
+  pub fields-in : fieldsFit (systemIn a p h m r) ≡ fieldsFit (bareSystem a p h)
+  unfolding fieldsFit systemIn
   fields-in = refl
 
-  pub orders-in : ordersFit (systemIn a p h m r) ≡ allAscend a p h
-  unfolding ordersFit systemIn allAscend
+  pub orders-in : ordersFit (systemIn a p h m r) ≡ ordersFit (bareSystem a p h)
+  unfolding ordersFit systemIn
   orders-in = refl

@@ -1,15 +1,13 @@
--- The judging of a system's arcs and labels in lent room in the parts that the code has: the fields and the orders by place.
+-- The judging of a system's arcs and labels in lent room in the parts that the code has.
 use Prim.Native.Nat.{ℕ, _+_, _^_, _<_}
-use mathlib.Core.List.{List}
+use mathlib.Core.List.{List, []}
 use mathlib.Core.Bool.{Bool}
 use lib.IntN.{pos}
-use lib.ListN.{getD, take}
+use lib.ListN.{getD}
 use Rattle.whole.specs.Tests.{upTo, both}
-use Rattle.whole.specs.Lists.{all, ascend}
-use Rattle.system.specs.System.{arcOk, normalLabelOk, keyOf}
+use Rattle.system.specs.System.{System}
 use Rattle.system.specs.declared.NormalLabel.{NormalLabel}
-use Rattle.words.specs.Stands.{stands}
-use Rattle.normroom.specs.Room.{labelIn}
+use Rattle.normroom.specs.Room.{systemIn}
 
 -- a label without its estimate: no limit and no key looks at it
 unfoldable pub bareLabel : List ℕ → ℕ → NormalLabel
@@ -26,9 +24,6 @@ pub record Small (h : List ℕ) (k : ℕ) : Type 0 where
   pub arc : getD h (k + 2) 0 < 256 ^ 4
   pub weight : getD h (k + 3) 0 < 256 ^ 4
 
--- 4 and 5, of a arcs and p labels that stand in the heads
-unfoldable pub allFit : ℕ → ℕ → List ℕ → Bool
-allFit a p h = both (all arcOk (take a h)) (all (normalLabelOk (take a h)) (stands (labelIn h) 5 p a))
-
-unfoldable pub allAscend : ℕ → ℕ → List ℕ → Bool
-allAscend a p h = both (ascend (λ x. x) 0 (take a h)) (ascend keyOf 0 (stands (labelIn h) 5 p a))
+-- the arcs and labels that stand in the heads, with no sums: 4 and 5 look at none
+abbrev pub bareSystem : ℕ → ℕ → List ℕ → System
+bareSystem a p h = systemIn a p h [] []

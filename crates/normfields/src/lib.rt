@@ -7,8 +7,8 @@ ghost use lib.ListN.{length, take};
 ghost use Rattle.whole.specs.Lists.{all, ascend};
 ghost use Rattle.system.specs.System.{arcOk, normalLabelOk, keyOf};
 ghost use Rattle.words.specs.Stands.{stands};
-ghost use Rattle.normroom.specs.Room.{headsLong, labelIn, countsFit};
-ghost use Rattle.normfields.specs.Fields.{bareLabel, isSmall, Small, allFit, allAscend};
+ghost use Rattle.normroom.specs.Room.{headsLong, labelIn, countsFit, fieldsFit, ordersFit};
+ghost use Rattle.normfields.specs.Fields.{bareLabel, isSmall, Small, bareSystem};
 
 // ---- 2
 
@@ -125,7 +125,7 @@ fn labels_fit(heads: &[u64], from: usize, n: usize, arcs: &[u32]) -> bool
 
 pub fn fields_fit(arcs: usize, parameters: usize, heads: &[u64]) -> bool
     requires { ⌜ (arcs ≤ 16) × (parameters ≤ 500) × (headsLong arcs parameters ≤ length (now heads)) ⌝ }
-    ensures { λ r. ⌜ r ≡ allFit arcs parameters (now (heads .entry)) ⌝ }
+    ensures { λ r. ⌜ r ≡ fieldsFit (bareSystem arcs parameters (now (heads .entry))) ⌝ }
 {
     if arcs_fit(heads, arcs) {
         let listed = arcs_of(heads, arcs);
@@ -156,7 +156,7 @@ fn arcs_ascend(heads: &[u64], n: usize) -> bool
 }
 
 fn labels_ascend(arcs: usize, n: usize, heads: &[u64]) -> bool
-    requires { ⌜ (arcs ≤ 16) × (n ≤ 500) × (headsLong arcs n ≤ length (now heads)) × (allFit arcs n (now heads) ≡ true) ⌝ }
+    requires { ⌜ (arcs ≤ 16) × (n ≤ 500) × (headsLong arcs n ≤ length (now heads)) × (fieldsFit (bareSystem arcs n (now heads)) ≡ true) ⌝ }
     ensures { λ r. ⌜ r ≡ ascend keyOf 0 (stands (labelIn (now (heads .entry))) 5 n arcs) ⌝ }
 {
     let mut floor: u64 = 0;
@@ -176,8 +176,8 @@ fn labels_ascend(arcs: usize, n: usize, heads: &[u64]) -> bool
 }
 
 pub fn orders_fit(arcs: usize, parameters: usize, heads: &[u64]) -> bool
-    requires { ⌜ (arcs ≤ 16) × (parameters ≤ 500) × (headsLong arcs parameters ≤ length (now heads)) × (allFit arcs parameters (now heads) ≡ true) ⌝ }
-    ensures { λ r. ⌜ r ≡ allAscend arcs parameters (now (heads .entry)) ⌝ }
+    requires { ⌜ (arcs ≤ 16) × (parameters ≤ 500) × (headsLong arcs parameters ≤ length (now heads)) × (fieldsFit (bareSystem arcs parameters (now heads)) ≡ true) ⌝ }
+    ensures { λ r. ⌜ r ≡ ordersFit (bareSystem arcs parameters (now (heads .entry))) ⌝ }
 {
     if arcs_ascend(heads, arcs) {
         labels_ascend(arcs, parameters, heads)

@@ -1,12 +1,17 @@
 -- The judging of a system in lent room in the parts that the code has: what it asks of the rooms' lengths, and what follows the counts.
 use Prim.Native.Nat.{ℕ, _≤_}
-use mathlib.Core.List.{[], _∷_}
-use Rattle.refusal.specs.First.{unless, first}
+use Rattle.refusal.specs.First.{first}
 use Rattle.sums.specs.Triangle.{tri}
 use Rattle.system.specs.System.{System}
-use Rattle.normroom.specs.Room.{headsLong, fieldsFit, ordersFit, sumsFit}
+use Rattle.normroom.specs.Room.{headsLong, sumsTests, valueTests}
 
--- counts within their limits, and rooms long enough for them
+-- counts within their limits, and the heads' room long enough for them
+pub record Headed (a p heads : ℕ) : Type 0 where
+  pub arcs : a ≤ 16
+  pub parameters : p ≤ 500
+  pub heads-fit : headsLong a p ≤ heads
+
+-- and the sums' rooms too
 pub record Roomed (a p heads matrix rights : ℕ) : Type 0 where
   pub arcs : a ≤ 16
   pub parameters : p ≤ 500
@@ -14,6 +19,9 @@ pub record Roomed (a p heads matrix rights : ℕ) : Type 0 where
   pub matrix-fits : tri p ≤ matrix
   pub rights-fit : p ≤ rights
 
--- 4, 5, 6
-unfoldable pub valuesNumber : System → ℕ
-valuesNumber x = first (unless 4 (fieldsFit x) ∷ unless 5 (ordersFit x) ∷ unless 6 (sumsFit x) ∷ [])
+-- the numbers that the last tests give, and those from the fields on
+unfoldable pub sumsNumber : ℕ → ℕ → ℕ → System → ℕ
+sumsNumber p matrix rights x = first (sumsTests p matrix rights x)
+
+unfoldable pub valuesNumber : ℕ → ℕ → ℕ → System → ℕ
+valuesNumber p matrix rights x = first (valueTests p matrix rights x)

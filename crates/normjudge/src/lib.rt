@@ -1,4 +1,4 @@
-// Inner to `normwrite`: a system that stands in three lent rooms, of any values, judged: 20 for the rooms, 2, 4, 5, 6.
+// Inner to `normwrite`: a system that stands in three lent rooms, of any values, judged: 2, 4, 5, 6, and 20 for the rooms.
 use heading::Verdict;
 use normtotals::Unsound;
 use refusal::Refusal;
@@ -13,7 +13,7 @@ ghost use Rattle.heading.specs.Judge.{toldVerdict};
 ghost use Rattle.sums.specs.Triangle.{tri};
 ghost use Rattle.system.specs.System.{boundOf, totalsWhere, sidesWhere, sumsWhere};
 ghost use Rattle.normroom.specs.Room.{systemIn, isNowhere, sumsFit, systemNumber};
-ghost use Rattle.normjudge.specs.Judge.{valuesNumber, Roomed};
+ghost use Rattle.normjudge.specs.Judge.{sumsNumber, valuesNumber, Headed, Roomed};
 
 // ---- 6
 
@@ -93,7 +93,29 @@ fn sums_fit(arcs: usize, p: usize, heads: &[u64], matrix: &[i64], rights: &[i64]
 
 // ---- in their order
 
-// 4, 5, 6.
+// 20 for the sums' rooms, 6.
+fn judge_sums(
+    arcs: usize,
+    parameters: usize,
+    heads: &[u64],
+    matrix: &[i64],
+    rights: &[i64],
+) -> Verdict
+    requires { ⌜ Headed arcs parameters (length (now heads)) ⌝ }
+    ensures { λ r. ⌜ toldVerdict r ≡ answered (sumsNumber parameters (length (now (matrix .entry))) (length (now (rights .entry))) (systemIn arcs parameters (now (heads .entry)) (now (matrix .entry)) (now (rights .entry)))) tt ⌝ }
+{
+    if normroom::sums_roomy(parameters, matrix.len(), rights.len()) {
+        if sums_fit(arcs, parameters, heads, matrix, rights) {
+            Verdict::Sound
+        } else {
+            Verdict::Refused(Refusal::Unsound)
+        }
+    } else {
+        Verdict::Refused(Refusal::Room)
+    }
+}
+
+// 4, 5, 20 for the sums' rooms, 6.
 fn judge_values(
     arcs: usize,
     parameters: usize,
@@ -101,16 +123,12 @@ fn judge_values(
     matrix: &[i64],
     rights: &[i64],
 ) -> Verdict
-    requires { ⌜ Roomed arcs parameters (length (now heads)) (length (now matrix)) (length (now rights)) ⌝ }
-    ensures { λ r. ⌜ toldVerdict r ≡ answered (valuesNumber (systemIn arcs parameters (now (heads .entry)) (now (matrix .entry)) (now (rights .entry)))) tt ⌝ }
+    requires { ⌜ Headed arcs parameters (length (now heads)) ⌝ }
+    ensures { λ r. ⌜ toldVerdict r ≡ answered (valuesNumber parameters (length (now (matrix .entry))) (length (now (rights .entry))) (systemIn arcs parameters (now (heads .entry)) (now (matrix .entry)) (now (rights .entry)))) tt ⌝ }
 {
     if normfields::fields_fit(arcs, parameters, heads) {
         if normfields::orders_fit(arcs, parameters, heads) {
-            if sums_fit(arcs, parameters, heads, matrix, rights) {
-                Verdict::Sound
-            } else {
-                Verdict::Refused(Refusal::Unsound)
-            }
+            judge_sums(arcs, parameters, heads, matrix, rights)
         } else {
             Verdict::Refused(Refusal::Order)
         }
@@ -119,7 +137,7 @@ fn judge_values(
     }
 }
 
-// 20, 2, 4, 5, 6, else sound.
+// 2, 20 for the heads' room, 4, 5, 20 for the sums' rooms, 6, else sound.
 pub fn judge(
     arcs: usize,
     parameters: usize,
@@ -129,13 +147,13 @@ pub fn judge(
 ) -> Verdict
     ensures { λ r. ⌜ toldVerdict r ≡ answered (systemNumber arcs parameters (now (heads .entry)) (now (matrix .entry)) (now (rights .entry))) tt ⌝ }
 {
-    if normroom::is_roomy(arcs, parameters, heads.len(), matrix.len(), rights.len()) {
-        if normfields::counts_fit(arcs, parameters) {
+    if normfields::counts_fit(arcs, parameters) {
+        if normroom::heads_roomy(arcs, parameters, heads.len()) {
             judge_values(arcs, parameters, heads, matrix, rights)
         } else {
-            Verdict::Refused(Refusal::Count)
+            Verdict::Refused(Refusal::Room)
         }
     } else {
-        Verdict::Refused(Refusal::Room)
+        Verdict::Refused(Refusal::Count)
     }
 }

@@ -24,6 +24,7 @@ use Rattle.mergeput.proofs.Sums.{labels-agree}
 use Rattle.mergeput.proofs.Steps.{bytes-long}
 use Rattle.normmerge.specs.Files.{Merging, written, refusing, mergedBytes, pairAnswer, pairLeft}
 use Rattle.normmerge.proofs.Outcomes.{pair-refused, pair-short, pair-written}
+use Rattle.merging.proofs.Values.{arcs-in-order}
 
 module _ (a : List ℕ) (x : NormalRead) (ka : Known a x) (b : List ℕ) (y : NormalRead) (kb : Known b y) where
   -- what is answered, and the room as it is left
@@ -35,7 +36,7 @@ module _ (a : List ℕ) (x : NormalRead) (ka : Known a x) (b : List ℕ) (y : No
     counted : less m (x .arcs + y .arcs) ≡ share (systemIn a .arcs) (systemIn b .arcs)
     counted =
         (λ i. less (count i) (ka .arcs-many i + kb .arcs-many i))
-        ∙ share-counted (systemIn a .arcs) (systemIn b .arcs) (ka .whole .arcs-ascend) (kb .whole .arcs-ascend)
+        ∙ share-counted (systemIn a .arcs) (systemIn b .arcs) (arcs-in-order (ka .whole)) (arcs-in-order (kb .whole))
 
     pub answers-21 : (out : List ℕ) → m < x .arcs + y .arcs → Answered (refusing 21) out out
     answers-21 out h =

@@ -4,8 +4,9 @@
 use mathlib.Core.Path.{_≡_, refl, sym, ap, _∙_, subst}
 use mathlib.Core.List.{List, [], _∷_}
 use mathlib.Core.Bool.{true}
+use mathlib.Core.Logic.{_↔_}
 use Prim.Native.Nat.{ℕ, _+_, _≤_}
-use native.Mathlib.Nat.{le-refl}
+use native.Mathlib.Nat.{le-refl, le-trans}
 use lib.IntN.{pos, _+ℤ_}
 use lib.ListN.{length, take}
 use mir.Syntax.{w64}
@@ -16,24 +17,26 @@ use Rattle.whole.proofs.Cases.{by-cases, same-true, same-false}
 use Rattle.whole.proofs.Ints.{within-fits}
 use Rattle.words.specs.Words.{lay}
 use Rattle.words.proofs.Words.{Bytes}
-use Rattle.refusal.specs.First.{when, first}
+use Rattle.refusal.specs.First.{when, first, answered}
 use Rattle.whole.specs.Lists.{Each}
 use Rattle.system.specs.System.{System, has}
+use Rattle.system.proofs.Sound.{SoundSystem}
 use Rattle.normread.specs.Normal.{readNormal, normalBytes}
 use Rattle.normread.proofs.Accepted.{accepted-estimates}
-use Rattle.normread.proofs.Back.{placed, written-read}
-use Rattle.merging.specs.Merge.{keysOf, labelAt, value, side, mergedOf, mergeNumber, Proper}
+use Rattle.normread.proofs.Back.{longest, placed, normal-longest, written-read}
+use Rattle.merging.specs.Merge.{keysOf, labelAt, value, side, mergedOf, mergeNumber}
 use Rattle.merging.proofs.Merged.{in-merged-first, in-merged-second}
-use Rattle.merging.proofs.Laws.{merge-value, merge-side, merge-totals, merge-labels, merge-arcs, priors-first, priors-second, merge-either, refuse-either, merge-proper, merge-groups, accept-groups, accept-back}
-use Rattle.merging.proofs.Files.{sound-system, merged-each}
+use Rattle.merging.proofs.Laws.{merge-value, merge-side, merge-totals, merge-labels, merge-arcs, priors-first, priors-second, merge-either, refuse-either, merge-sound, merge-groups, accept-groups, accept-back}
+use Rattle.merging.proofs.Files.{merged-each}
 use Rattle.mergeput.specs.Parts.{normalOr, normalIn, systemIn}
+use Rattle.section.specs.Told.{onDone}
 use Rattle.section.proofs.Walk.{by-judged}
 use Rattle.normmerge.specs.Files.{written, inFile, refusing, mergedBytes, pairNumber, pairAnswer, pairLeft, mergeAnswer, mergeLeft}
-use Rattle.normmerge.proofs.Written.{accepted, holds-proper, Written, written-file, written-where}
+use Rattle.normmerge.proofs.Written.{accepted, holds-sound, Written, written-file, written-where}
 use Rattle.normmerge.proofs.Outcomes.{pair-refused, first-bad, second-bad, both-good}
 
 -- ---- two systems, in either order
-pub pair-either : (x y : System) → Proper x → Proper y → (out : List ℕ)
+pub pair-either : (x y : System) → SoundSystem x → SoundSystem y → (out : List ℕ)
     → (pairAnswer x y (length out) ≡ pairAnswer y x (length out)) × (pairLeft x y out ≡ pairLeft y x out)
 unfolding pairNumber pairAnswer pairLeft mergedBytes
 pair-either x y p q out =
@@ -41,7 +44,7 @@ pair-either x y p q out =
     (λ t. let bytes : normalBytes (mergedOf x y) ≡ normalBytes (mergedOf y x) = ap normalBytes (merge-either x y p q (same-true _ _ t)) in
     let number : pairNumber x y (length out) ≡ pairNumber y x (length out) =
     (λ i. first (refuse-either x y p q i ∷ when 20 (less (length out) (length (bytes i))) ∷ [])) in
-    ((λ i. pick (same (number i) 0) (written (length (bytes i))) (refusing (number i))), (λ i. pick (same (number i) 0) (lay out 0 (bytes i)) out)))
+    ((λ i. pick (same (number i) 0) (written (length (bytes i))) (refusing (number i))), (λ i. onDone (answered (number i) (length (bytes i))) (lay out 0 (bytes i)) out)))
     (λ t. let one = pair-refused x y out (mergeNumber x y) refl (same-false _ _ t) in
     let two = pair-refused y x out (mergeNumber x y) (sym (refuse-either x y p q)) (same-false _ _ t) in
     (sym (one .0) ∙ two .0, sym (one .1) ∙ two .1))
@@ -54,7 +57,7 @@ module _ (a b out : List ℕ) where
   either-order e f =
       let one = both-good a b out e f in
       let two = both-good b a out f e in
-      let both = pair-either (systemIn a) (systemIn b) (holds-proper a e) (holds-proper b f) out in
+      let both = pair-either (systemIn a) (systemIn b) (holds-sound a e) (holds-sound b f) out in
       (sym (one .0) ∙ both .0 ∙ two .0, sym (one .1) ∙ both .1 ∙ two .1)
 
   -- where only one is refused: the same number and place, and the answer names that file
@@ -97,7 +100,7 @@ module _ (a b out : List ℕ) (n : ℕ) (first-bytes : Bytes a) (second-bytes : 
   merged-read =
       ap readNormal (both .front)
       ∙ written-read (mergedOf (systemIn a) (systemIn b))
-      (sound-system _ (merge-proper (systemIn a) (systemIn b) (both .first-proper) (both .second-proper) (both .none-refuses))) estimates
+      (merge-sound (systemIn a) (systemIn b) (both .first-sound) (both .second-sound) (both .none-refuses)) estimates
 
   pub merged-holds : systemIn merged ≡ mergedOf (systemIn a) (systemIn b)
   unfolding systemIn normalIn normalOr
@@ -105,14 +108,14 @@ module _ (a b out : List ℕ) (n : ℕ) (first-bytes : Bytes a) (second-bytes : 
 
   -- "Merging adds sums of like labels"
   pub sums-added : (k l : ℕ) → value (systemIn merged) k l ≡ value (systemIn a) k l +ℤ value (systemIn b) k l
-  sums-added k l = ap (λ z. value z k l) merged-holds ∙ merge-value (systemIn a) (systemIn b) (both .first-proper) (both .second-proper) k l
+  sums-added k l = ap (λ z. value z k l) merged-holds ∙ merge-value (systemIn a) (systemIn b) (both .first-sound) (both .second-sound) k l
 
   pub sides-added : (k : ℕ) → side (systemIn merged) k ≡ side (systemIn a) k +ℤ side (systemIn b) k
-  sides-added k = ap (λ z. side z k) merged-holds ∙ merge-side (systemIn a) (systemIn b) (both .first-proper) (both .second-proper) k
+  sides-added k = ap (λ z. side z k) merged-holds ∙ merge-side (systemIn a) (systemIn b) (both .first-sound) (both .second-sound) k
 
   pub totals-added : (systemIn merged .accepted ≡ systemIn a .accepted + systemIn b .accepted) × (systemIn merged .square ≡ systemIn a .square + systemIn b .square)
   totals-added =
-      let t = merge-totals (systemIn a) (systemIn b) (both .first-proper) (both .second-proper) in
+      let t = merge-totals (systemIn a) (systemIn b) (both .first-sound) (both .second-sound) in
       (ap (λ z. z .accepted) merged-holds ∙ t .0, ap (λ z. z .square) merged-holds ∙ t .1)
 
   module _ (k : ℕ) where
@@ -127,13 +130,13 @@ module _ (a b out : List ℕ) (n : ℕ) (first-bytes : Bytes a) (second-bytes : 
     pub first-kept : has k (keysOf (systemIn a)) ≡ true → (has k (keysOf (systemIn merged)) ≡ true) × (labelAt (systemIn merged) k ≡ labelAt (systemIn a) k)
     first-kept h = (
       ap (λ z. has k (keysOf z)) merged-holds ∙ in-merged-first (systemIn a) (systemIn b) k h,
-      ap (λ z. labelAt z k) merged-holds ∙ priors-first (systemIn a) (systemIn b) (both .first-proper) (both .second-proper) (both .none-refuses) k h,
+      ap (λ z. labelAt z k) merged-holds ∙ priors-first (systemIn a) (systemIn b) (both .first-sound) (both .second-sound) (both .none-refuses) k h,
     )
 
     pub second-kept : has k (keysOf (systemIn b)) ≡ true → (has k (keysOf (systemIn merged)) ≡ true) × (labelAt (systemIn merged) k ≡ labelAt (systemIn b) k)
     second-kept h = (
       ap (λ z. has k (keysOf z)) merged-holds ∙ in-merged-second (systemIn a) (systemIn b) k h,
-      ap (λ z. labelAt z k) merged-holds ∙ priors-second (systemIn a) (systemIn b) (both .first-proper) (both .second-proper) (both .none-refuses) k h,
+      ap (λ z. labelAt z k) merged-holds ∙ priors-second (systemIn a) (systemIn b) (both .first-sound) (both .second-sound) (both .none-refuses) k h,
     )
 
 -- ---- three files, in either grouping: a merged one is given as one of two
@@ -160,7 +163,7 @@ module _ (a b c room other out : List ℕ) (n m : ℕ) (first-bytes : Bytes a) (
 
   one-system : mergedOf (systemIn front-two) (systemIn c) ≡ mergedOf (systemIn a) (systemIn last-two)
   one-system =
-      ap (λ z. mergedOf z (systemIn c)) front-holds ∙ merge-groups (systemIn a) (systemIn b) (systemIn c) (front-pair .first-proper) (front-pair .second-proper) (last-pair .second-proper)
+      ap (λ z. mergedOf z (systemIn c)) front-holds ∙ merge-groups (systemIn a) (systemIn b) (systemIn c) (front-pair .first-sound) (front-pair .second-sound) (last-pair .second-sound)
       ∙ ap (mergedOf (systemIn a)) (sym last-holds)
 
   -- the same bytes
@@ -178,7 +181,7 @@ module _ (a b c room other out : List ℕ) (n m : ℕ) (first-bytes : Bytes a) (
   groups-forth k e =
       let x = written-file front-two c out k e in
       let long : k ≡ length (normalBytes (mergedOf (systemIn a) (systemIn last-two))) = x .long ∙ ap (λ z. length (normalBytes z)) one-system in
-      let z = accept-groups (systemIn a) (systemIn b) (systemIn c) (front-pair .first-proper) (front-pair .second-proper) (last-pair .second-proper) (front-pair .none-refuses)
+      let z = accept-groups (systemIn a) (systemIn b) (systemIn c) (front-pair .first-sound) (front-pair .second-sound) (last-pair .second-sound) (front-pair .none-refuses)
       (ap (λ z. mergeNumber z (systemIn c)) (sym front-holds) ∙ x .none-refuses) in
       written-where a last-two out (front-pair .first-read) (accepted last-two _ (merged-read b c other m second-bytes third-bytes bc))
       (ap (mergeNumber (systemIn a)) last-holds ∙ z .1) (subst (λ i. i ≤ length out) long (x .fits)) ∙ ap written (sym long)
@@ -187,7 +190,56 @@ module _ (a b c room other out : List ℕ) (n m : ℕ) (first-bytes : Bytes a) (
   groups-back k e =
       let y = written-file a last-two out k e in
       let long : k ≡ length (normalBytes (mergedOf (systemIn front-two) (systemIn c))) = y .long ∙ ap (λ z. length (normalBytes z)) (sym one-system) in
-      let z = accept-back (systemIn a) (systemIn b) (systemIn c) (front-pair .first-proper) (front-pair .second-proper) (last-pair .second-proper) (last-pair .none-refuses)
+      let z = accept-back (systemIn a) (systemIn b) (systemIn c) (front-pair .first-sound) (front-pair .second-sound) (last-pair .second-sound) (last-pair .none-refuses)
       (ap (mergeNumber (systemIn a)) (sym last-holds) ∙ y .none-refuses) in
       written-where front-two c out (accepted front-two _ (merged-read a b room n first-bytes second-bytes ab)) (last-pair .second-read)
       (ap (λ z. mergeNumber z (systemIn c)) front-holds ∙ z .1) (subst (λ i. i ≤ length out) long (y .fits)) ∙ ap written (sym long)
+
+-- ---- three files, in either grouping: with room for any normal file where two are merged first, both ways are written or neither
+-- the first two are merged, then what was written with the third: k bytes
+pub record FrontFirst (a b c room out : List ℕ) (k : ℕ) : Type 0 where
+  pub two : ℕ
+  pub pair : mergeAnswer a b (length room) ≡ written two
+  pub all : mergeAnswer (take two (mergeLeft a b room)) c (length out) ≡ written k
+
+-- the last two are merged, then the first with what was written: k bytes
+pub record LastFirst (a b c room out : List ℕ) (k : ℕ) : Type 0 where
+  pub two : ℕ
+  pub pair : mergeAnswer b c (length room) ≡ written two
+  pub all : mergeAnswer a (take two (mergeLeft b c room)) (length out) ≡ written k
+
+-- two accepted files that nothing refuses are written where there is room for any normal file
+pair-written : (a b room : List ℕ) → readNormal a ≡ good (normalIn a) → readNormal b ≡ good (normalIn b) → mergeNumber (systemIn a) (systemIn b) ≡ 0
+    → longest ≤ length room → mergeAnswer a b (length room) ≡ written (length (normalBytes (mergedOf (systemIn a) (systemIn b))))
+pair-written a b room e f z h =
+    let merged = merge-sound (systemIn a) (systemIn b) (holds-sound a e) (holds-sound b f) z in
+    written-where a b room e f z (le-trans (normal-longest _ merged) h)
+
+module _ (a b c room other out : List ℕ) (first-bytes : Bytes a) (second-bytes : Bytes b) (third-bytes : Bytes c) where
+  pub grouped-forth : longest ≤ length other → (k : ℕ) → FrontFirst a b c room out k → LastFirst a b c other out k
+  grouped-forth h k x =
+      let p = written-file a b room (x .two) (x .pair) in
+      let q = written-file (take (x .two) (mergeLeft a b room)) c out k (x .all) in
+      let holds = merged-holds a b room (x .two) first-bytes second-bytes (x .pair) in
+      let z = accept-groups (systemIn a) (systemIn b) (systemIn c) (p .first-sound) (p .second-sound) (q .second-sound) (p .none-refuses)
+      (ap (λ s. mergeNumber s (systemIn c)) (sym holds) ∙ q .none-refuses) in
+      let pair = pair-written b c other (p .second-read) (q .second-read) (z .0) h in
+      record { two = _; pair = pair; all = groups-forth a b c room other out (x .two) _ first-bytes second-bytes third-bytes (x .pair) pair k (x .all) }
+
+  pub grouped-back : longest ≤ length room → (k : ℕ) → LastFirst a b c other out k → FrontFirst a b c room out k
+  grouped-back h k y =
+      let p = written-file b c other (y .two) (y .pair) in
+      let q = written-file a (take (y .two) (mergeLeft b c other)) out k (y .all) in
+      let holds = merged-holds b c other (y .two) second-bytes third-bytes (y .pair) in
+      let z = accept-back (systemIn a) (systemIn b) (systemIn c) (q .first-sound) (p .first-sound) (p .second-sound) (p .none-refuses)
+      (ap (mergeNumber (systemIn a)) (sym holds) ∙ q .none-refuses) in
+      let pair = pair-written a b room (q .first-read) (p .first-read) (z .0) h in
+      record { two = _; pair = pair; all = groups-back a b c room other out _ (y .two) first-bytes second-bytes third-bytes pair (y .pair) k (y .all) }
+
+  pub grouped : longest ≤ length room → longest ≤ length other → (k : ℕ) → FrontFirst a b c room out k ↔ LastFirst a b c other out k
+  grouped h g k = (grouped-forth g k, grouped-back h k)
+
+  -- and then with the same bytes
+  pub grouped-bytes : (k l : ℕ) (x : FrontFirst a b c room out k) (y : LastFirst a b c other out l)
+      → (k ≡ l) × (mergeLeft (take (x .two) (mergeLeft a b room)) c out ≡ mergeLeft a (take (y .two) (mergeLeft b c other)) out)
+  grouped-bytes k l x y = groups a b c room other out (x .two) (y .two) first-bytes second-bytes third-bytes (x .pair) (y .pair) k l (x .all) (y .all)

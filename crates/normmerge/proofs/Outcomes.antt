@@ -14,6 +14,7 @@ use Rattle.refusal.specs.First.{when}
 use Rattle.refusal.proofs.Firsts.{when-true, when-false, first-pass, first-stop, first-one}
 use Rattle.refusal.specs.declared.Refusal.{Refusal}
 use Rattle.section.proofs.Walk.{not-bad}
+use Rattle.section.proofs.Writing.{left-old, left-new}
 use Rattle.system.specs.System.{System}
 use Rattle.normread.specs.Normal.{Normal, readNormal, shown, toldRead}
 use Rattle.section.specs.Told.{toldAnswer}
@@ -40,7 +41,7 @@ module _ (x y : System) where
   unfolding pairAnswer pairLeft pairNumber
   refused-by out k e h = (
     no _ _ _ (not-same _ 0 (λ z. h (sym e ∙ z))) (ap refusing (sym e)),
-    no _ _ _ (not-same _ 0 (λ z. h (sym e ∙ z))) refl,
+    left-old (mergeNumber x y) (mergedBytes x y) out (λ z. h (sym e ∙ z)),
   )
 
   pub pair-refused : (out : List ℕ) (k : ℕ) → mergeNumber x y ≡ k → (k ≡ 0 → ⊥) → (refusing k ≡ pairAnswer x y (length out)) × (out ≡ pairLeft x y out)
@@ -59,7 +60,7 @@ module _ (x y : System) where
     unfolding pairAnswer pairLeft pairNumber
     pair-written n left h e f =
         let z : pairNumber x y (length out) ≡ 0 = passes (length out) 0 accepted refl ∙ when-false 20 _ (not-less (length out) (length (mergedBytes x y)) h) in
-        (yes _ _ _ (is-same _ 0 z) (ap written e), yes _ _ _ (is-same _ 0 z) f)
+        (yes _ _ _ (is-same _ 0 z) (ap written e), f ∙ left-new (mergeNumber x y) (mergedBytes x y) out z)
 
 -- ---- two files
 -- what the reader's refusal says

@@ -13,12 +13,13 @@ use Rattle.words.specs.Words.{lay}
 use Rattle.words.proofs.Words.{lay-front}
 use Rattle.refusal.proofs.Firsts.{first-none, when-none}
 use Rattle.system.specs.System.{System}
+use Rattle.system.proofs.Sound.{SoundSystem}
 use Rattle.normread.specs.Normal.{Normal, readNormal, normalBytes}
 use Rattle.normread.proofs.Accepted.{accepted-sound}
-use Rattle.merging.specs.Merge.{mergedOf, mergeNumber, Proper}
-use Rattle.merging.proofs.Files.{proper}
+use Rattle.merging.specs.Merge.{mergedOf, mergeNumber}
 use Rattle.mergeput.specs.Parts.{normalOr, normalIn, systemIn}
 use Rattle.section.proofs.Walk.{by-judged}
+use Rattle.section.proofs.Writing.{left-new}
 use Rattle.mergeput.proofs.Loaded.{front}
 use Rattle.normmerge.specs.Files.{written, inFile, refusing, mergedBytes, pairNumber, pairAnswer, pairLeft, mergeAnswer, mergeLeft}
 use Rattle.normmerge.proofs.Outcomes.{pair-written, first-bad, second-bad, both-good}
@@ -28,9 +29,9 @@ pub accepted : (s : List ℕ) (x : Normal) → readNormal s ≡ good x → readN
 unfolding normalIn normalOr
 accepted s x e = e ∙ ap good (sym (ap normalOr e))
 
-pub holds-proper : (s : List ℕ) → readNormal s ≡ good (normalIn s) → Proper (systemIn s)
+pub holds-sound : (s : List ℕ) → readNormal s ≡ good (normalIn s) → SoundSystem (systemIn s)
 unfolding systemIn
-holds-proper s e = proper (normalIn s .holds) (accepted-sound s (normalIn s) e)
+holds-sound s e = accepted-sound s (normalIn s) e
 
 -- ---- what it says that a file was written
 never : {n m : ℕ} → written n ≡ refusing m → ⊥
@@ -56,7 +57,7 @@ pair-laid x y out n e =
       none-refuses = z .0;
       fits = less-false _ _ (when-none 20 _ (λ y. omega arith) (w .0));
       long = one (sym e ∙ sym (yes _ _ _ t refl));
-      whole = sym (yes _ _ _ t refl);
+      whole = sym (left-new (mergeNumber x y) (mergedBytes x y) out (same-true _ _ t));
     })
     (λ t. absurd (never (sym e ∙ sym (no _ _ _ t refl))))
   where
@@ -67,8 +68,8 @@ pair-laid x y out n e =
 pub record Written (a b out : List ℕ) (n : ℕ) : Type 0 where
   pub first-read : readNormal a ≡ good (normalIn a)
   pub second-read : readNormal b ≡ good (normalIn b)
-  pub first-proper : Proper (systemIn a)
-  pub second-proper : Proper (systemIn b)
+  pub first-sound : SoundSystem (systemIn a)
+  pub second-sound : SoundSystem (systemIn b)
   pub none-refuses : mergeNumber (systemIn a) (systemIn b) ≡ 0
   pub long : n ≡ length (normalBytes (mergedOf (systemIn a) (systemIn b)))
   pub fits : n ≤ length out
@@ -87,8 +88,8 @@ written-both a b out n e f w =
     record {
       first-read = e;
       second-read = f;
-      first-proper = holds-proper a e;
-      second-proper = holds-proper b f;
+      first-sound = holds-sound a e;
+      second-sound = holds-sound b f;
       none-refuses = p .none-refuses;
       long = p .long;
       fits = fits;

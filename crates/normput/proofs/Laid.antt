@@ -2,7 +2,7 @@
 -- Assumes nothing.
 use Prim.Native.Nat.{ℕ, _+_, _*_, _%_, _^_, _≤_, _<_}
 use mathlib.Core.Path.{_≡_, sym, ap, _∙_}
-use mathlib.Core.List.{List, _++_, append-assoc, append-nil}
+use mathlib.Core.List.{List, [], _++_, append-assoc, append-nil}
 use native.Mathlib.Omega.{arith}
 use lib.IntN.{ℤ}
 use lib.ListN.{length, getD, length-append}
@@ -17,10 +17,11 @@ use Rattle.sums.specs.Triangle.{tri}
 use Rattle.system.specs.System.{System}
 use Rattle.words.proofs.Stands.{length-stands}
 use Rattle.normkinds.specs.Kinds.{arcBytes, normalLabelBytes, sumBytes, totalsBytes}
-use Rattle.normread.specs.Normal.{normalBytes}
+use Rattle.normread.specs.Normal.{sectioned, normalBytes}
+use Rattle.normread.proofs.Back.{length-normal}
 use Rattle.normkinds.proofs.Records.{length-arc, length-label, length-sum}
 use Rattle.normroom.specs.Room.{labelIn, systemIn, fileLong}
-use Rattle.normput.specs.Bytes.{nameBytes, counted, tailBytes}
+use Rattle.normput.specs.Bytes.{nameBytes, tailBytes}
 
 -- ---- a label
 pub length-name : (kind index arc weight : ℕ) → length (nameBytes kind index arc weight) ≡ 16
@@ -50,51 +51,46 @@ module _ (h : List ℕ) (k : ℕ) where
 -- ---- a section
 module _ {A : Type 0} (bytes : A → List ℕ) where
   -- its records laid where its count was laid before them
-  pub counted-laid : (out base : List ℕ) (start n : ℕ) (l : List A) → base ≡ lay out start (bytesOf 4 n) → length l ≡ n
-      → lay base (start + 4) (encoded bytes l) ≡ lay out start (counted bytes l)
-  unfolding counted
-  counted-laid out base start n l b e = rw (b, e) (lay-append _ _ _ _ _ (simp length-bytesOf))
+  pub section-laid : (out base : List ℕ) (start n : ℕ) (l : List A) → base ≡ lay out start (bytesOf 4 n) → length l ≡ n
+      → lay base (start + 4) (encoded bytes l) ≡ lay out start (sectioned bytes l [])
+  section-laid out base start n l b e = rw (b, e, append-nil) (lay-append _ _ _ _ _ (simp length-bytesOf))
 
-  pub length-counted : (k : ℕ) → ((a : A) → length (bytes a) ≡ k) → (l : List A) → length (counted bytes l) ≡ 4 + length l * k
-  unfolding counted
-  length-counted k long l = simp (length-append, length-bytesOf, length-encoded bytes k long l)
+  length-section : (k : ℕ) → ((a : A) → length (bytes a) ≡ k) → (l : List A) → length (sectioned bytes l []) ≡ 4 + length l * k
+  length-section k long l = simp (length-append, length-bytesOf, length-encoded bytes k long l, append-nil)
 
 -- ---- the parts of a file
 pub file-parts : (x : System)
-    → normalBytes x ≡ counted arcBytes (x .arcs) ++ (counted normalLabelBytes (x .labels) ++ tailBytes (x .matrix) (x .rights) (x .accepted) (x .square))
-unfolding normalBytes counted tailBytes encoded totalsBytes
+    → normalBytes x ≡ sectioned arcBytes (x .arcs) [] ++ (sectioned normalLabelBytes (x .labels) [] ++ tailBytes (x .matrix) (x .rights) (x .accepted) (x .square))
+unfolding normalBytes tailBytes
 file-parts x = simp (append-assoc, append-nil)
 
 -- the sums, each section where the last one ends
 module _ (p : ℕ) (m r : List ℤ) (n q : ℕ) (many : length m ≡ tri p) (sides : length r ≡ p) where
-  long-matrix : length (counted sumBytes m) ≡ 4 + 8 * tri p
-  long-matrix = length-counted sumBytes 8 length-sum m ∙ omega arith
+  long-matrix : length (sectioned sumBytes m []) ≡ 4 + 8 * tri p
+  long-matrix = length-section sumBytes 8 length-sum m ∙ omega arith
 
-  long-rights : length (counted sumBytes r) ≡ 4 + 8 * p
-  long-rights = length-counted sumBytes 8 length-sum r ∙ omega arith
+  long-rights : length (sectioned sumBytes r []) ≡ 4 + 8 * p
+  long-rights = length-section sumBytes 8 length-sum r ∙ omega arith
 
   pub tail-laid : (out : List ℕ) (at : ℕ)
-      → lay (lay (lay out at (counted sumBytes m)) (at + 4 + 8 * tri p) (counted sumBytes r)) (at + 4 + 8 * tri p + 4 + 8 * p) (bytesOf 4 1 ++ (bytesOf 8 n ++ bytesOf 8 q))
+      → lay (lay (lay out at (sectioned sumBytes m [])) (at + 4 + 8 * tri p) (sectioned sumBytes r [])) (at + 4 + 8 * tri p + 4 + 8 * p) (bytesOf 4 1 ++ (bytesOf 8 n ++ bytesOf 8 q))
       ≡ lay out at (tailBytes m r n q)
-  unfolding tailBytes
+  unfolding tailBytes encoded totalsBytes
   tail-laid out at =
       lay-append _ _ _ _ _ (simp long-rights (omega arith))
       ∙ lay-append _ _ _ _ _ (simp long-matrix (omega arith))
-
-  length-tail : length (tailBytes m r n q) ≡ 28 + 8 * tri p + 8 * p
-  unfolding tailBytes
-  length-tail = simp (length-append, length-bytesOf, long-matrix, long-rights) (omega arith)
+      ∙ ap (lay out at) (simp (append-assoc, append-nil))
 
 -- the file of a arcs and p parameters
 module _ (a p : ℕ) (x : System) (arcs : length (x .arcs) ≡ a) (labels : length (x .labels) ≡ p) where
-  long-arcs : length (counted arcBytes (x .arcs)) ≡ 4 + 4 * a
-  long-arcs = length-counted arcBytes 4 length-arc (x .arcs) ∙ omega arith
+  long-arcs : length (sectioned arcBytes (x .arcs) []) ≡ 4 + 4 * a
+  long-arcs = length-section arcBytes 4 length-arc (x .arcs) ∙ omega arith
 
-  long-labels : length (counted normalLabelBytes (x .labels)) ≡ 4 + 24 * p
-  long-labels = length-counted normalLabelBytes 24 length-label (x .labels) ∙ omega arith
+  long-labels : length (sectioned normalLabelBytes (x .labels) []) ≡ 4 + 24 * p
+  long-labels = length-section normalLabelBytes 24 length-label (x .labels) ∙ omega arith
 
   pub file-laid : (out : List ℕ)
-      → lay (lay (lay out 0 (counted arcBytes (x .arcs))) (4 + 4 * a) (counted normalLabelBytes (x .labels))) (4 + 4 * a + 4 + 24 * p) (tailBytes (x .matrix) (x .rights) (x .accepted) (x .square))
+      → lay (lay (lay out 0 (sectioned arcBytes (x .arcs) [])) (4 + 4 * a) (sectioned normalLabelBytes (x .labels) [])) (4 + 4 * a + 4 + 24 * p) (tailBytes (x .matrix) (x .rights) (x .accepted) (x .square))
       ≡ lay out 0 (normalBytes x)
   file-laid out =
       lay-append _ _ _ _ _ (simp long-labels (omega arith))
@@ -102,7 +98,7 @@ module _ (a p : ℕ) (x : System) (arcs : length (x .arcs) ≡ a) (labels : leng
       ∙ ap (lay out 0) (sym (file-parts x))
 
   pub file-long : length (x .matrix) ≡ tri p → length (x .rights) ≡ p → length (normalBytes x) ≡ fileLong a p
-  file-long many sides = ap length (file-parts x) ∙ simp (length-append, long-arcs, long-labels, length-tail p (x .matrix) (x .rights) (x .accepted) (x .square) many sides) (omega arith)
+  file-long many sides = length-normal x ∙ omega arith
 
 -- ---- the system in three rooms
 module _ (a p : ℕ) (h : List ℕ) (m r : List ℤ) where

@@ -1,15 +1,15 @@
 // Inner to the writers of normal files: the bytes of a system that stands in three lent rooms, and the sections that a state's file shares.
 ghost use mathlib.Core.Path.{_≡_};
 ghost use Prim.Native.Nat.{_+_, _*_, _%_, _≤_};
-ghost use mathlib.Core.List.{_++_};
+ghost use mathlib.Core.List.{[], _++_};
 ghost use lib.ListN.{length, take};
 ghost use Rattle.words.specs.Words.{bytesOf, lay};
 ghost use Rattle.words.specs.Stands.{stands};
 ghost use Rattle.sums.specs.Triangle.{tri};
 ghost use Rattle.normkinds.specs.Kinds.{arcBytes, normalLabelBytes, sumBytes};
-ghost use Rattle.normread.specs.Normal.{normalBytes};
+ghost use Rattle.normread.specs.Normal.{sectioned, normalBytes};
 ghost use Rattle.normroom.specs.Room.{headsLong, labelIn, systemIn, fileLong};
-ghost use Rattle.normput.specs.Bytes.{nameBytes, counted, tailBytes};
+ghost use Rattle.normput.specs.Bytes.{nameBytes, tailBytes};
 
 // ---- labels
 
@@ -50,7 +50,7 @@ fn put_label(heads: &[u64], k: usize, out: &mut [u8], at: usize)
 // The parameters section: its count and n labels, of which the first stands at `from` of the heads.
 fn put_labels(heads: &[u64], from: usize, n: usize, out: &mut [u8], start: usize)
     requires { ⌜ (n ≤ 500) × (from + 5 * n ≤ length (now heads)) × (start + 4 + 24 * n ≤ length (now out)) ⌝ }
-    ensures { λ _. ⌜ now (out .exit) ≡ lay (now (out .entry)) start (counted normalLabelBytes (stands (labelIn (now (heads .entry))) 5 n from)) ⌝ }
+    ensures { λ _. ⌜ now (out .exit) ≡ lay (now (out .entry)) start (sectioned normalLabelBytes (stands (labelIn (now (heads .entry))) 5 n from) []) ⌝ }
 {
     wordwrite::write_u32(out, start, n as u32);
     let mut k = from;
@@ -69,7 +69,7 @@ fn put_labels(heads: &[u64], from: usize, n: usize, out: &mut [u8], start: usize
 // The arcs section, the first of the file: its count and the first n of the heads.
 fn put_arcs(heads: &[u64], n: usize, out: &mut [u8])
     requires { ⌜ (n ≤ 16) × (n ≤ length (now heads)) × (4 + 4 * n ≤ length (now out)) ⌝ }
-    ensures { λ _. ⌜ now (out .exit) ≡ lay (now (out .entry)) 0 (counted arcBytes (take n (now (heads .entry)))) ⌝ }
+    ensures { λ _. ⌜ now (out .exit) ≡ lay (now (out .entry)) 0 (sectioned arcBytes (take n (now (heads .entry))) []) ⌝ }
 {
     wordwrite::write_u32(out, 0, n as u32);
     let mut at: usize = 4;
@@ -86,7 +86,7 @@ fn put_arcs(heads: &[u64], n: usize, out: &mut [u8])
 // A section of n sums: its count and the first n of a room.
 fn put_sums(sums: &[i64], n: usize, out: &mut [u8], start: usize)
     requires { ⌜ (n ≤ 125250) × (n ≤ length (now sums)) × (start + 4 + 8 * n ≤ length (now out)) ⌝ }
-    ensures { λ _. ⌜ now (out .exit) ≡ lay (now (out .entry)) start (counted sumBytes (take n (now (sums .entry)))) ⌝ }
+    ensures { λ _. ⌜ now (out .exit) ≡ lay (now (out .entry)) start (sectioned sumBytes (take n (now (sums .entry))) []) ⌝ }
 {
     wordwrite::write_u32(out, start, n as u32);
     let mut at = start + 4;

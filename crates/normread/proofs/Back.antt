@@ -42,6 +42,10 @@ flat-chain : {A : Type 0} (K : Kind A) (bytes : A → List ℕ) (Held : A → Ty
 flat-chain K bytes Held flat [] p = tt
 flat-chain K bytes Held flat (a ∷ l) p = (p .0, (zero-le, rw (flat a) (flat-chain K bytes Held flat l (p .1))))
 
+-- how long a normal file can be
+abbrev pub longest : ℕ
+longest = 1018100
+
 -- ---- a file's sections
 module _ (x : System) where
   abbrev totals : Totals
@@ -145,7 +149,7 @@ module _ (x : System) where
   at-places : (m r t : ℕ) → m ≡ placed .matrix → r ≡ placed .rights → t ≡ placed .totals → record { holds = x; matrix = m; rights = r; totals = t } ≡ placed
   at-places m r t d e f = rw (d, e, f)
 
-  module _ (o : SoundSystem x) (held : Each (λ l. SFits w64 (l .estimate)) (x .labels)) where
+  module _ (o : SoundSystem x) where
     few-sums : tri (length (x .labels)) ≤ 125250
     few-sums =
         let p = length (x .labels) in
@@ -153,33 +157,38 @@ module _ (x : System) where
         let most : p * (p + 1) ≤ 500 * 501 = mul-le-mul (o .few-labels) more in
         omega (arith, tri-twice p)
 
-    -- written, then read
-    pub written-read : readNormal (normalBytes x) ≡ good placed
-    unfolding readNormal closed soundly atWhere
-    written-read =
-        let s = normalBytes x in
-        let p = length (x .labels) in
-        let a : sectionAt arcKind s 1 16 0 ≡ good (record { items = x .arcs; next = labels-from }) =
-        section-at arcKind arcBytes (λ a. arcOk a ≡ true) length-arc arc-back (x .arcs) [] labels-on s 0 1 16 as-arcs refl
-        (chain arcKind arcBytes (λ a. arcOk a ≡ true) (λ a. refl) 0 (x .arcs) (each-of arcOk (x .arcs) (o .arcs)) (o .arcs-up))
-        (o .some-arcs) (o .few-arcs) (omega (arith, o .few-arcs)) in
-        let b : sectionAt (normalLabelKind (x .arcs)) s 1 500 labels-from ≡ good (record { items = x .labels; next = matrix-from }) =
-        section-at (normalLabelKind (x .arcs)) normalLabelBytes (Labelled (x .arcs)) length-label (label-back (x .arcs)) (x .labels) before-labels matrix-on s _ 1 500 as-labels at-labels
-        (chain (normalLabelKind (x .arcs)) normalLabelBytes (Labelled (x .arcs)) (λ l. refl) 0 (x .labels)
-        (labelled (x .arcs) (x .labels) (o .arcs) (each-of (normalLabelOk (x .arcs)) (x .labels) (o .labels)) held) (o .labels-up))
-        (o .some-labels) (o .few-labels) (omega (arith, o .few-labels)) in
-        let m : sectionAt sumKind s (tri p) (tri p) matrix-from ≡ good (record { items = x .matrix; next = rights-from }) =
-        section-at sumKind sumBytes (SFits w64) length-sum sum-back (x .matrix) before-matrix rights-on s _ (tri p) (tri p) as-matrix at-matrix
-        (flat-chain sumKind sumBytes (SFits w64) (λ a. refl) (x .matrix) (each-at (SFits w64) (pos 0) (x .matrix) (matrix-fits x o)))
-        (omega (arith, o .matrix)) (omega (arith, o .matrix)) (omega (arith, o .matrix, few-sums)) in
-        let r : sectionAt sumKind s p p rights-from ≡ good (record { items = x .rights; next = totals-from }) =
-        section-at sumKind sumBytes (SFits w64) length-sum sum-back (x .rights) before-rights totals-on s _ p p as-rights at-rights
-        (flat-chain sumKind sumBytes (SFits w64) (λ a. refl) (x .rights) (each-at (SFits w64) (pos 0) (x .rights) (rights-fit x o)))
-        (omega (arith, o .rights)) (omega (arith, o .rights)) (omega (arith, o .rights, o .few-labels)) in
-        let t : sectionAt totalsKind s 1 1 totals-from ≡ good (record { items = totals ∷ []; next = totals-from + 4 + 1 * 16 }) =
-        section-at totalsKind totalsBytes (λ t. (t .accepted < 256 ^ 8) × (t .square < 256 ^ 8)) length-totals totals-back (totals ∷ []) before-totals [] s _ 1 1 as-totals at-totals
-        ((accepted-fits x o, square-fits x o), (zero-le, tt)) (le-refl 1) (le-refl 1) (omega arith) in
-        then-good _ _ a ∙ then-good _ _ b ∙ then-good _ _ m ∙ then-good _ _ r ∙ then-good _ _ t
-        ∙ then-good _ _ (sym (no _ _ _ (not-less _ _ (omega (arith, length-normal))) refl))
-        ∙ ap (atWhere _) (o .sums)
-        ∙ ap good (at-places _ _ _ (omega arith) (omega (arith, o .matrix)) (omega (arith, o .matrix, o .rights)))
+    -- no normal file is longer than one of 16 arcs and 500 parameters
+    pub normal-longest : length (normalBytes x) ≤ longest
+    normal-longest = omega (arith, length-normal, few-sums, o .few-arcs, o .few-labels, o .matrix, o .rights)
+
+    module _ (held : Each (λ l. SFits w64 (l .estimate)) (x .labels)) where
+      -- written, then read
+      pub written-read : readNormal (normalBytes x) ≡ good placed
+      unfolding readNormal closed soundly atWhere
+      written-read =
+          let s = normalBytes x in
+          let p = length (x .labels) in
+          let a : sectionAt arcKind s 1 16 0 ≡ good (record { items = x .arcs; next = labels-from }) =
+          section-at arcKind arcBytes (λ a. arcOk a ≡ true) length-arc arc-back (x .arcs) [] labels-on s 0 1 16 as-arcs refl
+          (chain arcKind arcBytes (λ a. arcOk a ≡ true) (λ a. refl) 0 (x .arcs) (each-of arcOk (x .arcs) (o .arcs)) (o .arcs-up))
+          (o .some-arcs) (o .few-arcs) (omega (arith, o .few-arcs)) in
+          let b : sectionAt (normalLabelKind (x .arcs)) s 1 500 labels-from ≡ good (record { items = x .labels; next = matrix-from }) =
+          section-at (normalLabelKind (x .arcs)) normalLabelBytes (Labelled (x .arcs)) length-label (label-back (x .arcs)) (x .labels) before-labels matrix-on s _ 1 500 as-labels at-labels
+          (chain (normalLabelKind (x .arcs)) normalLabelBytes (Labelled (x .arcs)) (λ l. refl) 0 (x .labels)
+          (labelled (x .arcs) (x .labels) (o .arcs) (each-of (normalLabelOk (x .arcs)) (x .labels) (o .labels)) held) (o .labels-up))
+          (o .some-labels) (o .few-labels) (omega (arith, o .few-labels)) in
+          let m : sectionAt sumKind s (tri p) (tri p) matrix-from ≡ good (record { items = x .matrix; next = rights-from }) =
+          section-at sumKind sumBytes (SFits w64) length-sum sum-back (x .matrix) before-matrix rights-on s _ (tri p) (tri p) as-matrix at-matrix
+          (flat-chain sumKind sumBytes (SFits w64) (λ a. refl) (x .matrix) (each-at (SFits w64) (pos 0) (x .matrix) (matrix-fits x o)))
+          (omega (arith, o .matrix)) (omega (arith, o .matrix)) (omega (arith, o .matrix, few-sums)) in
+          let r : sectionAt sumKind s p p rights-from ≡ good (record { items = x .rights; next = totals-from }) =
+          section-at sumKind sumBytes (SFits w64) length-sum sum-back (x .rights) before-rights totals-on s _ p p as-rights at-rights
+          (flat-chain sumKind sumBytes (SFits w64) (λ a. refl) (x .rights) (each-at (SFits w64) (pos 0) (x .rights) (rights-fit x o)))
+          (omega (arith, o .rights)) (omega (arith, o .rights)) (omega (arith, o .rights, o .few-labels)) in
+          let t : sectionAt totalsKind s 1 1 totals-from ≡ good (record { items = totals ∷ []; next = totals-from + 4 + 1 * 16 }) =
+          section-at totalsKind totalsBytes (λ t. (t .accepted < 256 ^ 8) × (t .square < 256 ^ 8)) length-totals totals-back (totals ∷ []) before-totals [] s _ 1 1 as-totals at-totals
+          ((accepted-fits x o, square-fits x o), (zero-le, tt)) (le-refl 1) (le-refl 1) (omega arith) in
+          then-good _ _ a ∙ then-good _ _ b ∙ then-good _ _ m ∙ then-good _ _ r ∙ then-good _ _ t
+          ∙ then-good _ _ (sym (no _ _ _ (not-less _ _ (omega (arith, length-normal))) refl))
+          ∙ ap (atWhere _) (o .sums)
+          ∙ ap good (at-places _ _ _ (omega arith) (omega (arith, o .matrix)) (omega (arith, o .matrix, o .rights)))

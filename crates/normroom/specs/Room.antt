@@ -1,7 +1,7 @@
 -- Document 01, 'Refusal numbers': "for a heading, state, system or record in lent room, a length that docs/ fixes by its numbers of parameters,
 -- stations and arcs alone (a number past its capacity standing as the capacity), at most .. one element for each value that these papers name
 -- for it". A system in lent room: what stands where, which lengths it wants, and how it is judged.
-use Prim.Native.Nat.{ℕ, _+_, _*_, min}
+use Prim.Native.Nat.{ℕ, _+_, _*_}
 use mathlib.Core.List.{List, [], _∷_, _++_}
 use mathlib.Core.Bool.{Bool, true, false}
 use lib.IntN.{ℤ}
@@ -59,10 +59,17 @@ abbrev pub fileLong : ℕ → ℕ → ℕ
 fileLong a p = 36 + 4 * a + 32 * p + 8 * tri p
 
 -- ---- judging
--- 20: each room has the length that the numbers of arcs and parameters want, a number past its capacity standing as the capacity
+-- 20: the heads' room has the length that the numbers of arcs and parameters want; no number past its capacity gets here, since 2 comes before
+unfoldable pub headsRoomy : ℕ → ℕ → ℕ → Bool
+headsRoomy a p heads = upTo (headsLong a p) heads
+
+-- 20: and so have the rooms of the matrix sums and the right sides
+unfoldable pub sumsRoomy : ℕ → ℕ → ℕ → Bool
+sumsRoomy p matrix rights = both (upTo (tri p) matrix) (upTo p rights)
+
+-- 20 for all three
 unfoldable pub roomyFor : ℕ → ℕ → ℕ → ℕ → ℕ → Bool
-roomyFor a p heads matrix rights =
-    both (upTo (headsLong (min a 16) (min p 500)) heads) (both (upTo (tri (min p 500)) matrix) (upTo (min p 500) rights))
+roomyFor a p heads matrix rights = both (headsRoomy a p heads) (sumsRoomy p matrix rights)
 
 -- 2: "arcs (1 to 16 ..); parameters (1 to 500 ..)"
 unfoldable pub countsFit : ℕ → ℕ → Bool
@@ -87,13 +94,19 @@ isNowhere inSquare = false
 unfoldable pub sumsFit : System → Bool
 sumsFit x = isNowhere (unsoundIn x)
 
--- "20, 2, 4, 5, 6": a system in lent room, of any values; 0 where nothing is wrong
+-- a system in lent room, of any values: "2, 4, 5, 6, .. 20", each 20 as late as the judging allows, since nothing can be judged of what is not
+-- there; 0 where nothing is wrong. Of p parameters, with sums in rooms of these lengths: 20, 6
+abbrev pub sumsTests : ℕ → ℕ → ℕ → System → List ℕ
+sumsTests p matrix rights x = unless 20 (sumsRoomy p matrix rights) ∷ unless 6 (sumsFit x) ∷ []
+
+-- 4, 5, 20, 6
+abbrev pub valueTests : ℕ → ℕ → ℕ → System → List ℕ
+valueTests p matrix rights x = unless 4 (fieldsFit x) ∷ unless 5 (ordersFit x) ∷ sumsTests p matrix rights x
+
+-- 2, 20, 4, 5, 20, 6
 unfoldable pub systemNumber : ℕ → ℕ → List ℕ → List ℤ → List ℤ → ℕ
 systemNumber a p h m r =
     first
-    (unless 20 (roomyFor a p (length h) (length m) (length r))
-    ∷ unless 2 (countsFit a p)
-    ∷ unless 4 (fieldsFit (systemIn a p h m r))
-    ∷ unless 5 (ordersFit (systemIn a p h m r))
-    ∷ unless 6 (sumsFit (systemIn a p h m r))
-    ∷ [])
+    (unless 2 (countsFit a p)
+    ∷ unless 20 (headsRoomy a p (length h))
+    ∷ valueTests p (length m) (length r) (systemIn a p h m r))

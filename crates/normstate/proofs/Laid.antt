@@ -16,8 +16,9 @@ use Rattle.sums.specs.Triangle.{tri}
 use Rattle.tally.specs.Tally.{accepted}
 use Rattle.state.specs.State.{State}
 use Rattle.normkinds.specs.Kinds.{arcBytes, normalLabelBytes}
+use Rattle.normread.specs.Normal.{sectioned}
 use Rattle.normroom.specs.Room.{fileLong}
-use Rattle.normput.specs.Bytes.{nameBytes, counted, tailBytes}
+use Rattle.normput.specs.Bytes.{nameBytes, tailBytes}
 use Rattle.normput.proofs.Laid.{length-name, file-laid, file-long}
 use Rattle.normstate.specs.OfState.{arcFor, labelOf, systemOf, stateBytes}
 
@@ -29,9 +30,9 @@ label-laid out at arc l =
     lay-append out at (at + 16) _ _ (ap (λ n. at + n) (sym (length-name _ _ _ _))) ∙ ap (lay out at) (simp append-assoc)
 
 -- the arcs section of one arc
-pub arc-laid : (out : List ℕ) (arc : ℕ) → lay (lay out 0 (bytesOf 4 1)) 4 (bytesOf 4 arc) ≡ lay out 0 (counted arcBytes (arc ∷ []))
-unfolding counted encoded arcBytes
-arc-laid out arc = lay-append out 0 4 _ _ (simp length-bytesOf) ∙ ap (λ b. lay out 0 (bytesOf 4 1 ++ b)) (sym (append-nil (bytesOf 4 arc)))
+pub arc-laid : (out : List ℕ) (arc : ℕ) → lay (lay out 0 (bytesOf 4 1)) 4 (bytesOf 4 arc) ≡ lay out 0 (sectioned arcBytes (arc ∷ []) [])
+unfolding encoded arcBytes
+arc-laid out arc = lay-append out 0 4 _ _ (simp length-bytesOf) ∙ ap (λ b. lay out 0 (bytesOf 4 1 ++ b)) (simp append-nil)
 
 pub labels-long : (h : Heading) → h .parameters ≤ length (h .labels) → length (map (labelOf (h .settings .arc)) (labelsOf h)) ≡ h .parameters
 unfolding labelsOf
@@ -44,8 +45,8 @@ module _ (h : Heading) (s : State) (few : h .parameters ≤ length (h .labels)) 
   labels-many = labels-long h few
 
   pub state-laid : (out : List ℕ)
-      → let a = lay out 0 (counted arcBytes (h .settings .arc ∷ [])) in
-      let b = lay a 8 (counted normalLabelBytes (map (labelOf (h .settings .arc)) (labelsOf h))) in
+      → let a = lay out 0 (sectioned arcBytes (h .settings .arc ∷ []) []) in
+      let b = lay a 8 (sectioned normalLabelBytes (map (labelOf (h .settings .arc)) (labelsOf h)) []) in
       lay b (12 + 24 * h .parameters) (tailBytes (take (tri (h .parameters)) (s .matrix)) (take (h .parameters) (s .rights)) (accepted (s .tally)) (s .tally .square))
       ≡ lay out 0 (stateBytes h s)
   unfolding stateBytes systemOf

@@ -10,19 +10,20 @@ use mir.Val.{SFits}
 use Rattle.whole.specs.Answer.{good}
 use Rattle.whole.specs.Lists.{all, ascend, Each}
 use Rattle.whole.proofs.Cases.{holds, is-upTo, both-first, between-true}
-use Rattle.refusal.proofs.Firsts.{unless-none, first-none}
+use Rattle.refusal.proofs.Firsts.{first-none}
 use Rattle.limits.specs.Limits.{settingsOk}
 use Rattle.heading.specs.Judge.{labelsOf}
 use Rattle.heading.specs.declared.Heading.{Heading}
 use Rattle.sums.specs.Triangle.{tri}
-use Rattle.state.specs.State.{State, soundState, stateNumber}
-use Rattle.state.proofs.Rooms.{Roomed, roomed}
+use Rattle.state.specs.State.{State, soundState}
+use Rattle.state.proofs.Rooms.{Roomed}
 use Rattle.system.specs.System.{arcOk, nowhere, sumsWhere, unsoundIn}
 use Rattle.system.proofs.Sound.{SoundSystem, sound-where}
 use Rattle.normread.specs.Normal.{readNormal}
 use Rattle.normread.proofs.Back.{placed, written-read}
 use Rattle.normstate.specs.OfState.{systemOf, stateBytes, fileNumber}
 use Rattle.normstate.proofs.Labels.{labels-ok, labels-held, keys-ascend}
+use Rattle.normstate.proofs.Numbers.{held-sound}
 use Rattle.normstate.proofs.Laid.{labels-long, matrix-many, rights-many}
 use Rattle.normstate.proofs.Sums.{state-sums}
 
@@ -76,8 +77,7 @@ module _ (h : Heading) (s : State) where
 
     -- what is written is accepted, and holds exactly that
     pub state-accepted : (room : ℕ) → fileNumber h s room ≡ 0 → readNormal (stateBytes h s) ≡ good (placed (systemOf h s))
-    unfolding fileNumber stateNumber stateBytes
+    unfolding fileNumber stateBytes
     state-accepted room e =
-        let k = first-none _ _ (first-none _ _ e .0) in
-        let sound = unless-none 6 _ (λ z. omega arith) (first-none _ _ (k .1) .0) in
-        written-read (systemOf h s) (system-sound (roomed h (s .matrix) (s .rights) (k .0)) sound) estimates
+        let k = held-sound h s (first-none _ _ e .0) in
+        written-read (systemOf h s) (system-sound (k .room) (k .sums)) estimates

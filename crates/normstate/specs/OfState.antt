@@ -1,17 +1,18 @@
--- Document 01, 'Normal file': "A state gives the file of its one arc, accepted being n." "arc 0 for kinds 1 and 2, else a listed arc". 20 for the
--- state's room, 2, 4, 5, 6, then 20 for the bytes. "A longer buffer keeps its rest. A refusal changes nothing lent."
+-- Document 01, 'Normal file': "A state gives the file of its one arc, accepted being n." "arc 0 for kinds 1 and 2, else a listed arc". "Writing: 2, 4, 5,
+-- 6, .. 20"; a state whose room is too short is 20 before 6, since nothing can be judged of sums that are not there. "A longer buffer keeps its rest. A refusal changes nothing lent."
 use Prim.Native.Nat.{ℕ}
 use mathlib.Core.List.{List, [], _∷_, map}
 use lib.ListN.{take}
 use Rattle.whole.specs.Tests.{upTo, pick}
 use Rattle.whole.specs.Answer.{Answered}
+use Rattle.refusal.specs.First.{unless, numberIn, first}
 use Rattle.section.specs.Writing.{writingNumber, written, writtenIn}
 use Rattle.limits.specs.declared.Label.{Label}
-use Rattle.heading.specs.Judge.{labelsOf}
+use Rattle.heading.specs.Judge.{labelsOf, judged}
 use Rattle.heading.specs.declared.Heading.{Heading}
 use Rattle.sums.specs.Triangle.{tri}
 use Rattle.tally.specs.Tally.{accepted}
-use Rattle.state.specs.State.{State, stateNumber}
+use Rattle.state.specs.State.{State, roomy, soundState}
 use Rattle.system.specs.System.{System}
 use Rattle.system.specs.declared.NormalLabel.{NormalLabel}
 use Rattle.normread.specs.Normal.{normalBytes}
@@ -39,14 +40,23 @@ systemOf h s =
 unfoldable pub stateBytes : Heading → State → List ℕ
 stateBytes h s = normalBytes (systemOf h s)
 
--- 20, 2, 4, 5, 6 for the heading and its state, then 20 for the bytes; 0 where nothing is wrong
+-- 2, 4, 5 for the heading, which needs no room, 20 for the state's room, 6; 0 where nothing is wrong
+unfoldable pub heldNumber : Heading → State → ℕ
+heldNumber h s =
+    first
+    (numberIn (judged h)
+    ∷ unless 20 (roomy h (s .matrix) (s .rights))
+    ∷ unless 6 (soundState (h .stations) (h .parameters) s)
+    ∷ [])
+
+-- these, then 20 for the bytes
 unfoldable pub fileNumber : Heading → State → ℕ → ℕ
-fileNumber h s room = writingNumber (stateNumber h s) (stateBytes h s) room
+fileNumber h s room = writingNumber (heldNumber h s) (stateBytes h s) room
 
 -- the length of the file, or the refusal
 unfoldable pub fileOf : Heading → State → ℕ → Answered ℕ
-fileOf h s room = written (stateNumber h s) (stateBytes h s) room
+fileOf h s room = written (heldNumber h s) (stateBytes h s) room
 
 -- what is left in the buffer
 unfoldable pub leftIn : Heading → State → List ℕ → List ℕ
-leftIn h s out = writtenIn (stateNumber h s) (stateBytes h s) out
+leftIn h s out = writtenIn (heldNumber h s) (stateBytes h s) out

@@ -6,18 +6,19 @@ use refusal::Refusal;
 use section::WriteAnswer;
 use tally::Tally;
 ghost use mathlib.Core.Path.{_≡_};
-ghost use mathlib.Core.List.{map};
+ghost use mathlib.Core.List.{[], map};
 ghost use Prim.Native.Nat.{_+_, _*_, _≤_};
 ghost use lib.ListN.{length};
 ghost use Rattle.words.specs.Words.{lay};
-ghost use Rattle.heading.specs.Judge.{labelsOf};
+ghost use Rattle.refusal.specs.First.{answered};
+ghost use Rattle.heading.specs.Judge.{labelsOf, toldVerdict};
 ghost use Rattle.sums.specs.Triangle.{tri};
 ghost use Rattle.state.specs.State.{stateOf};
 ghost use Rattle.normkinds.specs.Kinds.{normalLabelBytes};
+ghost use Rattle.normread.specs.Normal.{sectioned};
 ghost use Rattle.normroom.specs.Room.{fileLong};
-ghost use Rattle.normput.specs.Bytes.{counted};
 ghost use Rattle.section.specs.Told.{toldWrite};
-ghost use Rattle.normstate.specs.OfState.{arcFor, labelOf, stateBytes, fileOf, leftIn};
+ghost use Rattle.normstate.specs.OfState.{arcFor, labelOf, stateBytes, heldNumber, fileOf, leftIn};
 
 // The arc that a label of a kind is of: 0 for kinds 1 and 2, which all arcs share.
 fn arc_for(arc: u32, kind: u16) -> u32
@@ -45,7 +46,7 @@ fn put_label(out: &mut [u8], at: usize, arc: u32, l: Label)
 // The parameters section: its count and the labels that count.
 fn put_labels(h: Heading, out: &mut [u8], start: usize)
     requires { ⌜ (h .parameters ≤ 50) × (start + 4 + 24 * h .parameters ≤ length (now out)) ⌝ }
-    ensures { λ _. ⌜ now (out .exit) ≡ lay (now (out .entry)) start (counted normalLabelBytes (map (labelOf (h .settings .arc)) (labelsOf h))) ⌝ }
+    ensures { λ _. ⌜ now (out .exit) ≡ lay (now (out .entry)) start (sectioned normalLabelBytes (map (labelOf (h .settings .arc)) (labelsOf h)) []) ⌝ }
 {
     let n = h.parameters;
     let s = h.settings;
@@ -76,12 +77,22 @@ fn put_file(h: Heading, t: Tally, matrix: &[i64], rights: &[i64], out: &mut [u8]
     normput::put_tail(p, matrix, rights, n, t.square, out, 12 + 24 * p);
 }
 
+// 2, 4, 5, 20 for the sums' rooms, 6, else sound. Of a heading that is sound the state's judge has 20 and 6 left.
+fn judge_held(h: Heading, t: Tally, matrix: &[i64], rights: &[i64]) -> Verdict
+    ensures { λ r. ⌜ toldVerdict r ≡ answered (heldNumber h (stateOf (now (matrix .entry)) (now (rights .entry)) t)) tt ⌝ }
+{
+    match heading::judge(h) {
+        Verdict::Refused(refusal) => Verdict::Refused(refusal),
+        Verdict::Sound => state::judge_state(h, t, matrix, rights),
+    }
+}
+
 // The whole file at the start of a lent buffer, which keeps its rest; a refusal changes nothing.
 pub fn of_state(h: Heading, t: Tally, matrix: &[i64], rights: &[i64], out: &mut [u8]) -> WriteAnswer
     ensures answer { λ w. ⌜ toldWrite w ≡ fileOf h (stateOf (now (matrix .entry)) (now (rights .entry)) t) (length (now (out .entry))) ⌝ }
     ensures left { λ _. ⌜ now (out .exit) ≡ leftIn h (stateOf (now (matrix .entry)) (now (rights .entry)) t) (now (out .entry)) ⌝ }
 {
-    match state::judge_state(h, t, matrix, rights) {
+    match judge_held(h, t, matrix, rights) {
         Verdict::Refused(refusal) => WriteAnswer::Refused(refusal),
         Verdict::Sound => {
             let n = normroom::needed(1, h.parameters);

@@ -1,6 +1,6 @@
 -- Rooms filled part by part: a label's values, labels one after the other, the heads together; and a room long enough, by the code's tests.
 -- Assumes nothing.
-use Prim.Native.Nat.{ℕ, suc, _+_, _-_, _*_, _≤_, _<_, min}
+use Prim.Native.Nat.{ℕ, suc, _+_, _-_, _*_, _≤_, _<_}
 use mathlib.Core.Path.{_≡_, refl, sym, ap, _∙_}
 use mathlib.Core.List.{List, [], _∷_, _++_}
 use mathlib.Core.Bool.{true}
@@ -9,7 +9,6 @@ use lib.ListN.{length, set, length-append}
 use mir.Syntax.{w64}
 use mir.Val.{Fits, toZ, ofZ}
 use mir.ValLaws.{ofZ-toZ}
-use Rattle.whole.specs.Tests.{upTo, both}
 use Rattle.whole.proofs.Cases.{upTo-true, both-first, both-second}
 use Rattle.words.specs.Words.{word, signedWord, lay}
 use Rattle.words.proofs.Words.{lay-append}
@@ -20,7 +19,7 @@ use Rattle.words.specs.Stands.{stands}
 use Rattle.words.proofs.Stands.{length-stands}
 use Rattle.normkinds.specs.Kinds.{normalLabelAt}
 use Rattle.normheads.specs.Heads.{arcsAt}
-use Rattle.normroom.specs.Room.{headsLong, labelNumbers, roomyFor}
+use Rattle.normroom.specs.Room.{headsLong, labelNumbers, headsRoomy, sumsRoomy, roomyFor}
 use Rattle.normunpack.specs.Parts.{labelsFrom, headsAt}
 
 -- ---- a label
@@ -77,14 +76,7 @@ heads-laid h s a p totals x y e f =
     ∙ lay-append h 0 a arcs (labels ++ (word 8 s totals ∷ word 8 s (totals + 8) ∷ [])) (omega arith))
 
 -- ---- room
-module _ (a p heads matrix rights : ℕ) (few-arcs : a ≤ 16) (few : p ≤ 500) where
-  plain : roomyFor a p heads matrix rights ≡ both (upTo (headsLong a p) heads) (both (upTo (tri p) matrix) (upTo p rights))
-  unfolding roomyFor
-  plain =
-      let one : min a 16 ≡ a = omega arith in
-      let two : min p 500 ≡ p = omega arith in
-      rw (one, two)
-
+module _ (a p heads matrix rights : ℕ) where
   -- what room long enough is
   pub record Roomy : Type 0 where
     pub heads-fit : headsLong a p ≤ heads
@@ -92,11 +84,11 @@ module _ (a p heads matrix rights : ℕ) (few-arcs : a ≤ 16) (few : p ≤ 500)
     pub rights-fit : p ≤ rights
 
   pub roomy : roomyFor a p heads matrix rights ≡ true → Roomy
+  unfolding roomyFor headsRoomy sumsRoomy
   roomy e =
-      let t : both (upTo (headsLong a p) heads) (both (upTo (tri p) matrix) (upTo p rights)) ≡ true = sym plain ∙ e in
-      let u = both-second _ _ t in
+      let u = both-second _ _ e in
       record {
-        heads-fit = upTo-true _ _ (both-first _ _ t);
+        heads-fit = upTo-true _ _ (both-first _ _ e);
         matrix-fits = upTo-true _ _ (both-first _ _ u);
         rights-fit = upTo-true _ _ (both-second _ _ u);
       }

@@ -7,7 +7,8 @@ use lib.IntN.{ℤ, pos}
 use Rattle.words.specs.Words.{word}
 use Rattle.sums.specs.Triangle.{tri}
 use Rattle.sums.specs.Sound.{breaks, breaksSide}
-use Rattle.system.specs.System.{boundOf, inMatrix, inRights, none, at, firstFrom, columnsFrom, afterMatrix, afterRights, totalsWhere, sidesWhere, sumsWhere}
+use Rattle.sums.specs.Found.{none, at, firstFrom, columnsFrom}
+use Rattle.system.specs.System.{boundOf, inMatrix, inRights, afterMatrix, afterRights, totalsWhere, sidesWhere, sumsWhere}
 use Rattle.system.proofs.Sound.{matrix-inside, rights-inside}
 use Rattle.normsum.specs.Sums.{sumsAt}
 use Rattle.normwalk.specs.Walk.{unsoundAt}

@@ -1,36 +1,32 @@
 // Inner to the readers and writers of normal files: the first unsound sum, found by a walk over the file's bytes; nothing is unpacked.
 use normtotals::Unsound;
+use sums::Walked;
 ghost use mathlib.Core.Path.{_≡_};
 ghost use Prim.Native.Nat.{_+_, _*_, _≤_, _<_, _^_};
 ghost use lib.IntN.{pos};
 ghost use lib.ListN.{length};
 ghost use Rattle.sums.specs.Triangle.{tri};
 ghost use Rattle.sums.specs.Sound.{breaks, breaksSide};
-ghost use Rattle.system.specs.System.{firstFrom, columnsFrom, sidesWhere};
+ghost use Rattle.sums.specs.Found.{firstFrom, columnsFrom, toldWalked};
+ghost use Rattle.system.specs.System.{sidesWhere};
 ghost use Rattle.normsum.specs.Sums.{sumsAt};
-ghost use Rattle.normwalk.specs.Walk.{unsoundAt, toldSearch};
+ghost use Rattle.normwalk.specs.Walk.{unsoundAt};
 ghost use Rattle.normtotals.specs.Told.{toldWhere};
 
-// The number of the first unsound one of some sums.
-pub enum Search {
-    Nowhere,
-    At(usize),
-}
-
 // The first unsound entry of the p columns that begin at a place.
-fn first_entry(s: &[u8], start: usize, p: usize, bound: u64) -> Search
+fn first_entry(s: &[u8], start: usize, p: usize, bound: u64) -> Walked
     requires { ⌜ p ≤ 500 ⌝ }
     requires { ⌜ start + 8 * tri p ≤ length (now s) ⌝ }
     requires { ⌜ bound ≤ 2 ^ 62 ⌝ }
-    ensures { λ r. ⌜ toldSearch r ≡ columnsFrom (breaks (pos bound) (sumsAt (now (s .entry)) start (tri p))) 0 p ⌝ }
+    ensures { λ r. ⌜ toldWalked r ≡ columnsFrom (breaks (pos bound) (sumsAt (now (s .entry)) start (tri p))) 0 p ⌝ }
 {
-    let mut found = Search::Nowhere;
+    let mut found = Walked::Sound;
     let mut j: usize = 0;
     'all: while j < p {
         let mut i: usize = 0;
         while i <= j {
             if normsum::is_broken(s, start, i, j, bound) {
-                found = Search::At(sums::place(i, j));
+                found = Walked::Unsound(sums::place(i, j));
                 break 'all;
             }
             i += 1;
@@ -41,20 +37,20 @@ fn first_entry(s: &[u8], start: usize, p: usize, bound: u64) -> Search
 }
 
 // The first unsound one of p right sides.
-fn first_side(s: &[u8], matrix: usize, rights: usize, p: usize, bound: u64) -> Search
+fn first_side(s: &[u8], matrix: usize, rights: usize, p: usize, bound: u64) -> Walked
     requires { ⌜ p ≤ 500 ⌝ }
     requires { ⌜ (matrix + 8 * tri p ≤ length (now s)) × (rights + 8 * p ≤ length (now s)) ⌝ }
     requires { ⌜ bound ≤ 2 ^ 62 ⌝ }
-    ensures { λ r. ⌜ toldSearch r ≡ firstFrom (breaksSide (pos bound) (sumsAt (now (s .entry)) matrix (tri p)) (sumsAt (now (s .entry)) rights p)) 0 p ⌝ }
+    ensures { λ r. ⌜ toldWalked r ≡ firstFrom (breaksSide (pos bound) (sumsAt (now (s .entry)) matrix (tri p)) (sumsAt (now (s .entry)) rights p)) 0 p ⌝ }
 {
     let mut i: usize = 0;
     while i < p {
         if normsum::is_broken_side(s, matrix, rights, i, bound) {
-            return Search::At(i);
+            return Walked::Unsound(i);
         }
         i += 1;
     }
-    Search::Nowhere
+    Walked::Sound
 }
 
 // What follows the matrix sums: the right sides, then the totals.
@@ -73,8 +69,8 @@ fn first_beyond(
 {
     let bound = normtotals::bound_of(arcs, accepted, 36028797018963968);
     match first_side(s, matrix, rights, p, bound) {
-        Search::At(k) => Unsound::Right(k),
-        Search::Nowhere => normtotals::judge_totals(arcs, accepted, square),
+        Walked::Unsound(k) => Unsound::Right(k),
+        Walked::Sound => normtotals::judge_totals(arcs, accepted, square),
     }
 }
 
@@ -95,7 +91,7 @@ pub fn first_unsound(
     let square = wordread::read_u64(s, totals + 8);
     let bound = normtotals::bound_of(arcs, accepted, 288230376151711744);
     match first_entry(s, matrix, p, bound) {
-        Search::At(k) => Unsound::Matrix(k),
-        Search::Nowhere => first_beyond(s, arcs, p, matrix, rights, accepted, square),
+        Walked::Unsound(k) => Unsound::Matrix(k),
+        Walked::Sound => first_beyond(s, arcs, p, matrix, rights, accepted, square),
     }
 }

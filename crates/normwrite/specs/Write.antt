@@ -1,6 +1,6 @@
 -- Document 01: a normal file as it is written from a system in lent room. "Writing: 2, 4, 5, 6, .. 20." A system whose room is too short is 20
--- first, since nothing can be judged of what is not there. "For 20, needed is the length of the bytes written". "A longer buffer keeps its rest.
--- A refusal changes nothing lent."
+-- where the judging comes to it, since nothing can be judged of what is not there. "For 20, needed is the length of the bytes written". "A
+-- longer buffer keeps its rest. A refusal changes nothing lent."
 use Prim.Native.Nat.{ℕ}
 use mathlib.Core.List.{List}
 use lib.IntN.{ℤ}
@@ -13,7 +13,7 @@ use Rattle.normroom.specs.Room.{systemIn, systemNumber}
 unfoldable pub roomBytes : ℕ → ℕ → List ℕ → List ℤ → List ℤ → List ℕ
 roomBytes a p h m r = normalBytes (systemIn a p h m r)
 
--- 20 for the system's room, 2, 4, 5, 6, then 20 for the bytes; 0 where nothing is wrong
+-- 2, 20 for the heads' room, 4, 5, 20 for the sums' rooms, 6, then 20 for the bytes; 0 where nothing is wrong
 unfoldable pub writeNumber : ℕ → ℕ → List ℕ → List ℤ → List ℤ → ℕ → ℕ
 writeNumber a p h m r room = writingNumber (systemNumber a p h m r) (roomBytes a p h m r) room
 

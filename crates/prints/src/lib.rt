@@ -1,5 +1,5 @@
 // What the programs that print listings share: room, and the listing of a file written to standard output.
-use libc::STDOUT_FILENO;
+use libc::STDERR_FILENO;
 use section::WriteAnswer;
 ghost use mathlib.Core.Path.{_≡_};
 ghost use lib.ListN.{length};
@@ -18,12 +18,12 @@ pub fn text_room() -> [u8; 5596]
     [0; 5596]
 }
 
-// The listing of a file of at most 64 KiB; nothing where the room for it is too short.
+// The listing of a file of at most 64 KiB. A listing that can't be written, or has no room, is told on standard error.
 pub fn print(file: &[u8], out: &mut [u8]) {
     match listing::list(file, 65536, out) {
-        WriteAnswer::Is(n) => {
-            io::write_all(STDOUT_FILENO, &out[..n]);
+        WriteAnswer::Is(n) => lines::put(&out[..n]),
+        WriteAnswer::Refused(_) => {
+            io::write_all(STDERR_FILENO, b"the room for the listing is too short\n");
         }
-        WriteAnswer::Refused(_) => {}
     }
 }

@@ -4,7 +4,6 @@
 use Prim.Native.Nat.{ℕ, _+_, _≤_, _<_}
 use mathlib.Core.Path.{_≡_, refl, sym, ap, _∙_}
 use mathlib.Core.List.{List, [], _++_, append-nil}
-use mathlib.Core.Bool.{Bool}
 use native.Mathlib.Omega.{arith}
 use native.Mathlib.Nat.{zero-add}
 use lib.ListN.{length, take, drop}
@@ -12,8 +11,6 @@ use lib.Seq.{sets, sets-eq, take-length, drop-length}
 use Rattle.whole.specs.Answer.{Answered, given, refused}
 use Rattle.whole.specs.Tests.{less, pick}
 use Rattle.whole.proofs.Cases.{yes, no, is-less, not-less, by-cases}
-use Rattle.words.specs.Words.{lay}
-use Rattle.words.proofs.Words.{lay-out}
 use Rattle.refusal.proofs.Firsts.{when-true, when-false}
 use Rattle.whole.specs.Lists.{over}
 use Rattle.rooms.specs.Result.{resultNumber, resultLeft, told, roomFor, bytesLeft}
@@ -76,7 +73,3 @@ module _ (size : ℕ) (out : List ℕ) where
       (λ t.
       let z : pick (less size 1) 0 (length out) ≡ length out = sym (no _ _ _ t refl) in
       rw (z, take-length out, drop-length out) (append-nil (f out) ∙ no _ _ _ t refl))
-
--- an empty room stays so
-pub none-laid : (b : Bool) (bs : List ℕ) → pick b (lay [] 0 bs) [] ≡ []
-none-laid b bs = by-cases b (λ t. sym (yes b (lay [] 0 bs) [] t (sym (lay-out [] 0 bs (omega arith))))) (λ t. sym (no b (lay [] 0 bs) [] t refl))

@@ -26,7 +26,7 @@ use Rattle.account.specs.Taking.{frameOf, recordAnswer, recordStep, recordsIn, 
 use Rattle.account.proofs.Guarded.{roomy-by, started-is, started-held}
 use Rattle.account.proofs.Runs.{length-cut, length-answers}
 use Rattle.texts.specs.Lines.{arcLines}
-use Rattle.texts.proofs.Laws.{place-small}
+use Rattle.state.proofs.Rooms.{place-small}
 use Rattle.runtext.specs.Runs.{emptyState, toldOf, stateAfter, runLines}
 
 -- fifty parameters have 1,275 sums

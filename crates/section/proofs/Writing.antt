@@ -3,25 +3,52 @@
 -- Assumes nothing.
 use Prim.Native.Nat.{ℕ, _≤_, _<_}
 use mathlib.Core.Path.{_≡_, refl, sym, _∙_}
-use mathlib.Core.List.{List}
+use mathlib.Core.List.{List, []}
+use native.Mathlib.Omega.{arith}
 use lib.ListN.{length}
-use Rattle.whole.specs.Answer.{given, refused}
-use Rattle.whole.proofs.Cases.{yes, no, is-same, not-same, is-less, not-less}
+use Rattle.whole.specs.Answer.{Answered, given, refused}
+use Rattle.whole.proofs.Cases.{is-less, not-less}
 use Rattle.words.specs.Words.{lay}
+use Rattle.words.proofs.Words.{lay-out}
+use Rattle.section.specs.Told.{onDone}
 use Rattle.section.specs.Writing.{writingNumber, written, writtenIn}
 use Rattle.refusal.specs.Number.{numberOf}
 use Rattle.refusal.specs.declared.Refusal.{Refusal}
 use Rattle.refusal.specs.declared.Refusal.the-variants.{Room}
 use Rattle.refusal.proofs.Apart.{not-none}
-use Rattle.refusal.proofs.Firsts.{when-true, when-false, first-pass, first-by, first-one, answered-given, answered-by}
+use Rattle.refusal.proofs.Firsts.{when-true, when-false, first-pass, first-by, first-one, answered-given, answered-refused, answered-by}
 
+-- ---- what is left, by the answer
+module _ {A : Type 0} (w : Answered A) (new old : List ℕ) where
+  pub done-new : {a : A} → w ≡ given a → new ≡ onDone w new old
+  unfolding onDone
+  done-new e = rw e
+
+  pub done-old : {k : ℕ} → w ≡ refused k → old ≡ onDone w new old
+  unfolding onDone
+  done-old e = rw e
+
+-- an empty room stays so
+pub none-laid : {A : Type 0} (w : Answered A) (bytes : List ℕ) → onDone w (lay [] 0 bytes) [] ≡ []
+unfolding onDone
+none-laid (given a) bytes = lay-out [] 0 bytes (omega arith)
+none-laid (refused k) bytes = refl
+
+-- ---- the answer
 module _ (k : ℕ) (bytes out : List ℕ) where
   abbrev number : ℕ
   number = writingNumber k bytes (length out)
 
+  -- by the number
+  pub left-old : (number ≡ 0 → ⊥) → out ≡ writtenIn k bytes out
+  left-old h = done-old _ _ out (sym (answered-refused number (length bytes) h))
+
+  pub left-new : number ≡ 0 → lay out 0 bytes ≡ writtenIn k bytes out
+  left-new e = done-new _ _ out (sym (answered-given number (length bytes) e))
+
   kept : (r : Refusal) → number ≡ numberOf r
       → (refused (numberOf r) ≡ written k bytes (length out)) × (out ≡ writtenIn k bytes out)
-  kept r e = (answered-by number (length bytes) r e, no _ _ _ (not-same number 0 (λ z. not-none r (sym e ∙ z))) refl)
+  kept r e = (answered-by number (length bytes) r e, left-old (λ z. not-none r (sym e ∙ z)))
 
   pub on-refused : (r : Refusal) → k ≡ numberOf r
       → (refused (numberOf r) ≡ written k bytes (length out)) × (out ≡ writtenIn k bytes out)
@@ -35,4 +62,4 @@ module _ (k : ℕ) (bytes out : List ℕ) where
         → (given (length bytes) ≡ written k bytes (length out)) × (lay out 0 bytes ≡ writtenIn k bytes out)
     on-written h =
         let z : number ≡ 0 = first-pass k _ sound ∙ first-one _ ∙ when-false 20 _ (not-less _ _ h) in
-        (answered-given number (length bytes) z, yes _ _ _ (is-same number 0 z) refl)
+        (answered-given number (length bytes) z, left-new z)

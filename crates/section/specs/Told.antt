@@ -34,7 +34,7 @@ abbrev pub toldWrite : WriteAnswer → Answered ℕ
 toldWrite (Wrote.Is n) = given n
 toldWrite (Wrote.Refused r) = refused (numberOf r)
 
--- ---- what is left of a room: its new bytes where the entry is done, else its old ones
+-- ---- what every writer leaves of a room: the new bytes where it is done, else the old ones
 unfoldable pub onDone : {A : Type 0} → Answered A → List ℕ → List ℕ → List ℕ
 onDone (given a) new old = new
 onDone (refused k) new old = old

@@ -3,10 +3,11 @@
 use Prim.Native.Nat.{ℕ}
 use mathlib.Core.List.{List, [], _∷_}
 use lib.ListN.{length}
-use Rattle.whole.specs.Tests.{less, same, pick}
+use Rattle.whole.specs.Tests.{less}
 use Rattle.whole.specs.Answer.{Answered}
 use Rattle.refusal.specs.First.{when, first, answered}
 use Rattle.words.specs.Words.{lay}
+use Rattle.section.specs.Told.{onDone}
 
 -- the number k of what was judged before, 0 where nothing is wrong; then 20 where the room is shorter than the bytes
 abbrev pub writingNumber : ℕ → List ℕ → ℕ → ℕ
@@ -18,4 +19,4 @@ written k bytes room = answered (writingNumber k bytes room) (length bytes)
 
 -- what is left in the buffer
 abbrev pub writtenIn : ℕ → List ℕ → List ℕ → List ℕ
-writtenIn k bytes out = pick (same (writingNumber k bytes (length out)) 0) (lay out 0 bytes) out
+writtenIn k bytes out = onDone (written k bytes (length out)) (lay out 0 bytes) out

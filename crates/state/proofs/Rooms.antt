@@ -1,4 +1,4 @@
--- Refusals of a heading with its state, in their order, what room an accepted one has, and what starting leaves in the room.
+-- Refusals of a heading with its state, in their order, what room an accepted one has, what starting leaves in the room, and what is seen.
 -- Assumes nothing.
 use Prim.Native.Nat.{ℕ, suc, _+_, _-_, _≤_, _<_, min}
 use mathlib.Core.Path.{_≡_, refl, sym, ap, _∙_}
@@ -11,14 +11,15 @@ use lib.ListN.{length, getD, take, drop, set, take-append-drop}
 use lib.Seq.{drop-cons, drop-set-lt, take-suc-set, append-snoc}
 use Rattle.whole.specs.Tests.{pick}
 use Rattle.whole.specs.Answer.{Answered, given, refused}
-use Rattle.whole.proofs.Cases.{yes, no, is-same, not-same, both-first, both-second, upTo-true}
+use Rattle.whole.proofs.Cases.{yes, no, is-less, not-less, is-same, not-same, both-first, both-second, upTo-true}
 use Rattle.refusal.specs.Number.{numberOf}
 use Rattle.refusal.specs.First.{numberIn, answered}
 use Rattle.refusal.specs.declared.Refusal.{Refusal}
-use Rattle.refusal.specs.declared.Refusal.the-variants.{Room, Unsound}
+use Rattle.refusal.specs.declared.Refusal.the-variants.{Limits, Room, Unsound}
 use Rattle.refusal.proofs.Apart.{not-none}
 use Rattle.refusal.proofs.Firsts.{unless-true, unless-false, unless-none, first-pass, first-none, first-by, answered-given, answered-refused, answered-by, answered-is, answered-not, first-one}
 use Rattle.sums.specs.Triangle.{tri}
+use Rattle.sums.proofs.Places.{tri-within}
 use Rattle.heading.specs.Judge.{judged, toldVerdict}
 use Rattle.heading.specs.declared.Heading.{Heading}
 use Rattle.heading.specs.declared.Verdict.{Verdict}
@@ -26,7 +27,7 @@ use Rattle.heading.specs.declared.Verdict.the-variants as Verdicts
 use Rattle.heading.proofs.Sound.{Sound, sound}
 use Rattle.tally.specs.Tally.{emptyTally}
 use Rattle.tally.specs.declared.Tally.{Tally}
-use Rattle.state.specs.State.{State, stateOf, cleared, soundState, roomy, roomNumber, stateNumber, started}
+use Rattle.state.specs.State.{State, stateOf, cleared, soundState, roomy, roomNumber, stateNumber, started, seenIn, sightOf}
 
 -- ---- an answer and its number
 told : (v : Verdict) → toldVerdict v ≡ answered (numberIn (toldVerdict v)) tt
@@ -124,3 +125,27 @@ module _ (h : Heading) (s : State) where
     pub state-sound : soundState (h .stations) (h .parameters) s ≡ true → given (tt {0}) ≡ answered (stateNumber h s) (tt {0})
     unfolding stateNumber
     state-sound e = answered-given _ tt (first-pass _ _ room ∙ first-one _ ∙ unless-true 6 _ e)
+
+  pub state-roomed : stateNumber h s ≡ 0 → Roomed h (s .matrix) (s .rights)
+  unfolding stateNumber
+  state-roomed e = roomed h (s .matrix) (s .rights) (first-none _ _ e .0)
+
+-- ---- what is seen
+-- the diagonal of parameter i stands among the 1,275 sums of fifty
+pub place-small : (i : ℕ) → i < 50 → tri i + i < 1275
+unfolding tri
+place-small i h = omega (arith, tri-within i 50 h)
+
+module _ (h : Heading) (s : State) (i : ℕ) where
+  pub sight-judged : (f : Refusal) → stateNumber h s ≡ numberOf f → refused (numberOf f) ≡ sightOf h s i
+  unfolding sightOf
+  sight-judged f e = answered-by _ _ f (sym (first-by _ _ f e))
+
+  module _ (sound : stateNumber h s ≡ 0) where
+    pub sight-none : h .parameters ≤ i → refused 4 ≡ sightOf h s i
+    unfolding sightOf
+    sight-none l = answered-by _ _ Limits (first-pass _ _ sound ∙ first-one _ ∙ unless-false 4 _ (not-less _ _ l))
+
+    pub sight-some : i < h .parameters → (b : Bool) → b ≡ seenIn (s .matrix) i → given b ≡ sightOf h s i
+    unfolding sightOf
+    sight-some l b e = ap given e ∙ answered-given _ _ (first-pass _ _ sound ∙ first-one _ ∙ unless-true 4 _ (is-less _ _ l))

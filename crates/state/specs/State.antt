@@ -2,17 +2,21 @@
 -- station and a table of sixteen rows of ten last times, 0 for none." What a state is, the empty one, and which states are sound (6).
 use Prim.Native.Nat.{ℕ, suc, _*_, _^_, min}
 use mathlib.Core.List.{List, [], _∷_, _++_}
-use mathlib.Core.Bool.{Bool, not}
+use mathlib.Core.Bool.{Bool, true, false, not}
 use lib.IntN.{ℤ, pos}
 use lib.ListN.{length, drop, replicate}
 use Rattle.whole.specs.Tests.{less, upTo, same, pick, both, below}
-use Rattle.refusal.specs.First.{unless, numberIn, first}
+use Rattle.whole.specs.Answer.{Answered, given, refused}
+use Rattle.refusal.specs.Number.{numberOf}
+use Rattle.refusal.specs.First.{unless, numberIn, first, answered}
 use Rattle.sums.specs.Triangle.{tri}
 use Rattle.sums.specs.Sound.{entry, isZero, breaks, breaksSide}
 use Rattle.heading.specs.Judge.{judged}
 use Rattle.heading.specs.declared.Heading.{Heading}
 use Rattle.tally.specs.Tally.{emptyTally, accepted, tallySound}
 use Rattle.tally.specs.declared.Tally.{Tally}
+use Rattle.state.specs.declared.Sight.{Sight}
+use Rattle.state.specs.declared.Sight.the-variants as Sights
 
 pub record State : Type 0 where
   pub matrix : List ℤ
@@ -74,6 +78,16 @@ started h m r =
     (record { matrix = cleared (tri (h .parameters)) m; rights = cleared (h .parameters) r; tally = emptyTally })
     (record { matrix = m; rights = r; tally = emptyTally })
 
--- "A parameter is reported unseen exactly where its diagonal sum is 0"; an arc has at most 50 parameters
+-- "A parameter is reported unseen exactly where its diagonal sum is 0"
 unfoldable pub seenIn : List ℤ → ℕ → Bool
-seenIn m i = both (less i 50) (not (isZero (entry m i i)))
+seenIn m i = not (isZero (entry m i i))
+
+-- whether parameter i is seen: 20, 2, 4, 5, 6 for the heading and its state, then 4 where i is none of its parameters
+unfoldable pub sightOf : Heading → State → ℕ → Answered Bool
+sightOf h s i = answered (first (stateNumber h s ∷ unless 4 (less i (h .parameters)) ∷ [])) (seenIn (s .matrix) i)
+
+-- what the answer says
+abbrev pub toldSight : Sight → Answered Bool
+toldSight Sights.Seen = given true
+toldSight Sights.Unseen = given false
+toldSight (Sights.Refused r) = refused (numberOf r)

@@ -5,7 +5,7 @@ use refusal::Refusal;
 use sums::Walked;
 use tally::Tally;
 ghost use mathlib.Core.Path.{_≡_};
-ghost use Prim.Native.Nat.{_*_, _^_, _≤_, min};
+ghost use Prim.Native.Nat.{_+_, _*_, _^_, _≤_, _<_, min};
 ghost use lib.IntN.{pos};
 ghost use lib.ListN.{length};
 ghost use Rattle.whole.specs.Tests.{upTo, both};
@@ -24,7 +24,16 @@ ghost use Rattle.state.specs.State.{
   stateNumber,
   started,
   seenIn,
+  sightOf,
+  toldSight,
 };
+
+// Whether a parameter is seen.
+pub enum Sight {
+    Seen,
+    Unseen,
+    Refused(Refusal),
+}
 
 pub struct Started {
     pub answer: Verdict,
@@ -151,17 +160,30 @@ pub fn judge_state(h: Heading, t: Tally, matrix: &[i64], rights: &[i64]) -> Verd
     }
 }
 
-pub fn seen(matrix: &[i64], i: usize) -> bool
+// ---- what is seen
+
+fn is_seen(matrix: &[i64], i: usize) -> bool
+    requires { ⌜ (i < 50) × (tri (i + 1) ≤ length (now matrix)) ⌝ }
     ensures { λ r. ⌜ r ≡ seenIn (now (matrix .entry)) i ⌝ }
 {
-    if i < 50 {
-        let k = sums::place(i, i);
-        if k < matrix.len() {
-            matrix[k] != 0
+    let k = sums::place(i, i);
+    matrix[k] != 0
+}
+
+// 20, 2, 4, 5, 6 for the heading and its state, 4 where i is none of its parameters, else whether parameter i is seen.
+pub fn seen(h: Heading, t: Tally, matrix: &[i64], rights: &[i64], i: usize) -> Sight
+    ensures { λ r. ⌜ toldSight r ≡ sightOf h (stateOf (now (matrix .entry)) (now (rights .entry)) t) i ⌝ }
+{
+    match judge_state(h, t, matrix, rights) {
+        Verdict::Refused(refusal) => Sight::Refused(refusal),
+        Verdict::Sound => if i < h.parameters {
+            if is_seen(matrix, i) {
+                Sight::Seen
+            } else {
+                Sight::Unseen
+            }
         } else {
-            false
-        }
-    } else {
-        false
+            Sight::Refused(Refusal::Limits)
+        },
     }
 }

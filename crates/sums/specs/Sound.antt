@@ -1,16 +1,13 @@
 -- Document 01, 'Normal file': "a zero diagonal has zeros in its row, column and right side"; "diagonal not negative"; "Each sum is judged
--- alone: it is unsound if it breaks a bound, or should be zero and isn't"; "for 6 the first unsound sum in file order".
-use mathlib.Core.Path.{_≡_}
+-- alone: it is unsound if it breaks a bound, or should be zero and isn't".
 use mathlib.Core.Bool.{Bool, true, false, cond}
 use mathlib.Core.List.{List}
-use Prim.Native.Nat.{ℕ, _+_, _≤_, _<_}
+use Prim.Native.Nat.{ℕ, _+_}
 use lib.Dec.{eqb}
 use lib.IntN.{ℤ, pos, negsuc, negℤ}
 use lib.Signed.{ltZ}
 use lib.ListN.{getD}
 use Rattle.sums.specs.Triangle.{tri}
-use Rattle.sums.specs.declared.Walked.{Walked}
-use Rattle.sums.specs.declared.Walked.the-variants.{Sound, Unsound}
 
 -- the entry of row i and column j
 abbrev pub entry : List ℤ → ℕ → ℕ → ℤ
@@ -35,27 +32,3 @@ breaksSide b s r i =
     cond (ltZ b (getD r i (pos 0))) true
     (cond (ltZ (getD r i (pos 0)) (negℤ b)) true
     (cond (isZero (getD r i (pos 0))) false (isZero (entry s i i))))
-
-pub record FirstBreak (b : ℤ) (s : List ℤ) (p k : ℕ) : Type 0 where
-  pub row : ℕ
-  pub column : ℕ
-  pub upper : row ≤ column
-  pub inside : column < p
-  pub place : k ≡ tri column + row
-  pub broken : breaks b s row column ≡ true
-  pub first : (i j : ℕ) → i ≤ j → tri j + i < k → breaks b s i j ≡ false
-
--- what the judge says of a triangle of p columns
-abbrev pub Right : ℤ → List ℤ → ℕ → Walked → Type 0
-Right b s p Sound = (i j : ℕ) → i ≤ j → j < p → breaks b s i j ≡ false
-Right b s p (Unsound k) = FirstBreak b s p k
-
--- what the judge says of p right sides
-pub record FirstSide (b : ℤ) (s r : List ℤ) (p k : ℕ) : Type 0 where
-  pub inside : k < p
-  pub broken : breaksSide b s r k ≡ true
-  pub first : (i : ℕ) → i < k → breaksSide b s r i ≡ false
-
-abbrev pub RightSides : ℤ → List ℤ → List ℤ → ℕ → Walked → Type 0
-RightSides b s r p Sound = (i : ℕ) → i < p → breaksSide b s r i ≡ false
-RightSides b s r p (Unsound k) = FirstSide b s r p k

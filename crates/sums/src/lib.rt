@@ -5,7 +5,8 @@ ghost use lib.IntN.{pos};
 ghost use lib.ListN.{length};
 ghost use mathlib.Core.Bool.{true, false};
 ghost use lib.Signed.{_≤ℤ_};
-ghost use Rattle.sums.specs.Sound.{breaks, Right, breaksSide, RightSides};
+ghost use Rattle.sums.specs.Sound.{breaks, breaksSide};
+ghost use Rattle.sums.specs.Found.{firstFrom, columnsFrom, toldWalked};
 ghost use Rattle.sums.specs.Triangle.{triangle, tri};
 
 // How many matrix sums p parameters have.
@@ -52,6 +53,7 @@ fn is_broken(s: &[i64], i: usize, j: usize, bound: i64) -> bool
     q == 0
 }
 
+// What a walk over sums finds: each is sound, or the number of the first that is not.
 pub enum Walked {
     Sound,
     Unsound(usize),
@@ -61,7 +63,7 @@ pub enum Walked {
 pub fn first_unsound(s: &[i64], p: usize, bound: i64) -> Walked
     requires { ⌜ (p ≤ 500) × (tri p ≤ length (now s)) ⌝ }
     requires { ⌜ pos 0 ≤ℤ bound ⌝ }
-    ensures { λ r. ⌜ Right bound (now (s .entry)) p r ⌝ }
+    ensures { λ r. ⌜ toldWalked r ≡ columnsFrom (breaks bound (now (s .entry))) 0 p ⌝ }
 {
     let mut found = Walked::Sound;
     let mut j: usize = 0;
@@ -104,7 +106,7 @@ fn is_broken_side(s: &[i64], r: &[i64], i: usize, bound: i64) -> bool
 pub fn first_broken_side(s: &[i64], r: &[i64], p: usize, bound: i64) -> Walked
     requires { ⌜ (p ≤ 500) × (tri p ≤ length (now s)) × (p ≤ length (now r)) ⌝ }
     requires { ⌜ pos 0 ≤ℤ bound ⌝ }
-    ensures { λ w. ⌜ RightSides bound (now (s .entry)) (now (r .entry)) p w ⌝ }
+    ensures { λ w. ⌜ toldWalked w ≡ firstFrom (breaksSide bound (now (s .entry)) (now (r .entry))) 0 p ⌝ }
 {
     let mut i: usize = 0;
     while i < p {

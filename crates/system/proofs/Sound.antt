@@ -18,8 +18,9 @@ use Rattle.whole.proofs.Ints.{within-fits}
 use Rattle.sums.proofs.Tests.{between-bounds, not-above, not-under}
 use Rattle.sums.specs.Triangle.{tri}
 use Rattle.sums.specs.Sound.{entry, breaks, breaksSide}
-use Rattle.system.specs.System.{System, arcOk, normalLabelOk, keyOf, boundOf, Where, nowhere, inMatrix, inRights, inAccepted, inSquare, Found, none, at, afterMatrix, afterRights, totalsWhere, sidesWhere, sumsWhere, unsoundIn}
-use Rattle.system.proofs.Firsts.{first-none, first-sound, first-inside, columns-none, columns-sound, columns-inside}
+use Rattle.sums.specs.Found.{Found, none, at}
+use Rattle.sums.proofs.Found.{first-none, first-sound, first-number, columns-none, columns-sound, columns-inside}
+use Rattle.system.specs.System.{System, arcOk, normalLabelOk, keyOf, boundOf, Where, nowhere, inMatrix, inRights, inAccepted, inSquare, afterMatrix, afterRights, totalsWhere, sidesWhere, sumsWhere, unsoundIn}
 
 -- ---- one part after another
 matrix-nowhere : (x : Found) (w : Where) → afterMatrix x w ≡ nowhere → (x ≡ none) × (w ≡ nowhere)
@@ -178,7 +179,7 @@ module _ (arcs p : ℕ) (m r : List ℤ) (n q k : ℕ) where
 
   pub rights-inside : sumsWhere arcs p m r n q ≡ inRights k → k < p
   unfolding sumsWhere sidesWhere
-  rights-inside e = first-inside _ p k (rights-at _ _ k (totals-not-right arcs n q k) (matrix-to _ _ k e))
+  rights-inside e = first-number _ p k (rights-at _ _ k (totals-not-right arcs n q k) (matrix-to _ _ k e)) .inside
 
 -- ---- a system that a normal file may hold
 pub record SoundSystem (x : System) : Type 0 where

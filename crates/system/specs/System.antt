@@ -1,13 +1,13 @@
 -- Document 01, 'Normal file': what a normal file holds, the limits and the order of its labels, and which sums are sound.
-use Prim.Native.Nat.{ℕ, zero, suc, _+_, _*_, _^_}
+use Prim.Native.Nat.{ℕ, _+_, _*_, _^_}
 use mathlib.Core.List.{List, [], _∷_}
 use mathlib.Core.Bool.{Bool, false}
 use lib.IntN.{ℤ, pos}
 use lib.ListN.{length}
 use Rattle.whole.specs.Tests.{less, upTo, same, pick, both, either, between}
 use Rattle.limits.specs.Limits.{indexOk}
-use Rattle.sums.specs.Triangle.{tri}
 use Rattle.sums.specs.Sound.{breaks, breaksSide}
+use Rattle.sums.specs.Found.{Found, none, at, firstFrom, columnsFrom}
 use Rattle.system.specs.declared.NormalLabel.{NormalLabel}
 
 -- "arcs .., parameters .., matrix sums (P(P+1)/2), right sides (P), totals (accepted u64, square sum u64)"
@@ -53,24 +53,6 @@ pub data Where : Type 0 where
   inRights : ℕ → Where
   inAccepted : Where
   inSquare : Where
-
--- the first of n numbers from i on at which a test holds
-pub data Found : Type 0 where
-  none : Found
-  at : ℕ → Found
-
-unfoldable pub firstFrom : (ℕ → Bool) → ℕ → ℕ → Found
-firstFrom f i zero = none
-firstFrom f i (suc n) = pick (f i) (at i) (firstFrom f (i + 1) n)
-
--- the first unsound entry of n columns from the jth on, by its number in the packed triangle
-unfoldable pub inColumn : ℕ → Found → Found → Found
-inColumn base none rest = rest
-inColumn base (at i) rest = at (base + i)
-
-unfoldable pub columnsFrom : (ℕ → ℕ → Bool) → ℕ → ℕ → Found
-columnsFrom f j zero = none
-columnsFrom f j (suc n) = inColumn (tri j) (firstFrom (λ i. f i j) 0 (suc j)) (columnsFrom f (j + 1) n)
 
 -- ---- "for 6 the first unsound sum in file order"; "Accepted and square sum are judged as sums too. Each sum is judged alone"
 unfoldable pub afterMatrix : Found → Where → Where

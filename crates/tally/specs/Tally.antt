@@ -45,7 +45,7 @@ accepted t = sumOf (t .counts)
 abbrev pub squareTop : ℕ → ℕ
 squareTop n = n * 2 ^ 39
 
--- "anything but 0 in a slot past the .. stations"
+-- "anything but 0 in a slot past the parameters or stations": the table has slots past the stations (docs/DECISIONS.md D21)
 unfoldable pub rowsSound : ℕ → List Row → Bool
 rowsSound stations rows = below (λ i. either (less i stations) (all (λ t. same t 0) (getD rows i noRow .times))) 16
 

@@ -1,5 +1,11 @@
-// What the desk program says of a file in one line: its name, the refusal's number and place, and the sentence of the paper's table.
+// What the desk program says of a file: its name, the refusal's number and place, and the sentence of the paper's table, in one line; and what an
+// arc's records came to.
+use heading::Heading;
+use limits::Label;
 use refusal::Refusal;
+ghost use mathlib.Core.Path.{_≡_};
+ghost use Prim.Native.Nat.{_+_, _<_, _≤_};
+ghost use lib.ListN.{length};
 
 // The sentence of the paper's table for a refusal.
 fn put_sentence(r: Refusal) {
@@ -63,4 +69,84 @@ pub fn tell_long(path: &[u8], most: usize) {
         most as u64,
         b": the file is longer than this program reads\n",
     );
+}
+
+// ---- the records of an arc
+
+// For the lines of the records: 59 bytes and at most 19 lines of 42.
+fn lines_room() -> [u8; 857]
+    ensures { λ r. ⌜ 857 ≡ length r ⌝ }
+{
+    [0; 857]
+}
+
+// The listing's lines of the records: how many, how many accepted, and how many have each refusal.
+pub fn tell_records(answers: &[u8]) {
+    let mut room = lines_room();
+    let n = answers.len() as u64;
+    let a = texts::put_two(
+        &mut room,
+        0,
+        b"records ",
+        n,
+        b" accepted ",
+        tallies::tally(answers, 0),
+    );
+    let b = tallies::put_tallies(&mut room, a, answers);
+    let k = files::within(b, &room);
+    lines::put(&room[..k]);
+}
+
+// Whether parameter i of an arc is unseen: its diagonal sum is 0.
+fn is_unseen(matrix: &[i64], i: usize) -> bool
+    requires { ⌜ i < 50 ⌝ }
+{
+    let k = sums::place(i, i);
+    if k < matrix.len() {
+        matrix[k] == 0
+    } else {
+        false
+    }
+}
+
+// Kind and index of a parameter, with a comma before all but the first.
+fn tell_label(before: usize, kind: u16, index: u16) {
+    if before == 0 {
+        lines::put(b" ");
+    } else {
+        lines::put(b", ");
+    }
+    lines::put_number(kind as u64, b" ");
+    lines::put_number(index as u64, b"");
+}
+
+// Tells parameter i of an arc with so many, so many told before it, where it is unseen: how many are told then.
+fn tell_silent(parameters: usize, matrix: &[i64], i: usize, before: usize, l: Label) -> usize
+    requires { ⌜ (i < 50) × (before < 50) ⌝ }
+    ensures { λ r. ⌜ r ≤ before + 1 ⌝ }
+{
+    if i < parameters {
+        if is_unseen(matrix, i) {
+            tell_label(before, l.kind, l.index);
+            return before + 1;
+        }
+    }
+    before
+}
+
+// One line: the unseen parameters of an arc by kind and index, or that there is none.
+pub fn tell_unseen(h: Heading, matrix: &[i64]) {
+    let p = h.parameters;
+    lines::put(b"unseen parameters:");
+    let mut n: usize = 0;
+    let mut i: usize = 0;
+    while i < 50 {
+        let l = h.labels[i];
+        n = tell_silent(p, matrix, i, n, l);
+        i += 1;
+    }
+    if n == 0 {
+        lines::put(b" none");
+    }
+    lines::put(b"\n");
 }

@@ -2,7 +2,7 @@
 -- Assumes nothing.
 use Prim.Native.Nat.{ℕ, suc, _+_, _-_, _≤_, _<_, min}
 use mathlib.Core.Path.{_≡_, refl, sym, ap, ap₂, _∙_}
-use mathlib.Core.Bool.{Bool, true, false}
+use mathlib.Core.Bool.{Bool, true, false, not}
 use mathlib.Core.List.{List, [], _∷_, _++_}
 use native.Mathlib.Numerals.{add-one}
 use native.Mathlib.Omega.{arith}
@@ -21,8 +21,7 @@ use Rattle.limits.specs.declared.Label.{Label}
 use Rattle.heading.specs.Judge.{labelsOf}
 use Rattle.heading.specs.declared.Heading.{Heading}
 use Rattle.sums.specs.Triangle.{tri}
-use Rattle.sums.specs.Sound.{entry}
-use Rattle.sums.proofs.Places.{tri-within}
+use Rattle.sums.specs.Sound.{entry, isZero}
 use Rattle.state.specs.State.{seenIn}
 use Rattle.account.specs.Mix.{keep}
 use Rattle.texts.specs.Lines.{space, newline, arcText, parametersText, recordsText, acceptedText, squareText, arcLines, seenText, unseenText, oneLine, twoLine, labelText, sumsText, parameterLine, parameterLines, tallyOf, tallyLine, tallyLines}
@@ -49,10 +48,11 @@ module _ (s : List ℕ) (at : ℕ) {a b : List ℕ} {i j : ℕ} {p : List ℕ ×
   sums-laid {c} {k} d r u v e f g h =
       laid-on s at _ _ (e ∙ ap (λ z. laid s at (signedDecimal z)) u) (laid-on a i _ _ f (laid-on b j _ _ (g ∙ ap (λ z. laid b j (signedDecimal z)) v) h))
 
-  pub parameter-laid : (l : Label) (seen : Bool) (d r : ℤ) {x y : ℤ} → x ≡ d → y ≡ r → (a, i) ≡ laid s at (labelText l) → (b, j) ≡ laid a i (pick seen seenText unseenText)
-      → p ≡ laid b j (sumsText x y) → p ≡ laid s at (parameterLine l seen d r)
+  pub parameter-laid : (l : Label) (seen : Bool) (d r : ℤ) {shown : Bool} {x y : ℤ} → shown ≡ seen → x ≡ d → y ≡ r → (a, i) ≡ laid s at (labelText l)
+      → (b, j) ≡ laid a i (pick shown seenText unseenText) → p ≡ laid b j (sumsText x y) → p ≡ laid s at (parameterLine l seen d r)
   unfolding parameterLine
-  parameter-laid l seen d r u v e f g = laid-on s at _ _ e (laid-on a i _ _ f (g ∙ ap₂ (λ z w. laid b j (sumsText z w)) u v))
+  parameter-laid l seen d r t u v e f g =
+      laid-on s at _ _ e (laid-on a i _ _ (f ∙ ap (λ z. laid a i (pick z seenText unseenText)) t) (g ∙ ap₂ (λ z w. laid b j (sumsText z w)) u v))
 
 -- ---- a line for each parameter: what is left of them, i done
 module _ (m r : List ℤ) (l : List Label) (n i : ℕ) where
@@ -66,16 +66,12 @@ module _ (m r : List ℤ) (l : List Label) (n i : ℕ) where
   parameters-turn fits more = rw (rest-more l n i noLabel fits more, add-one)
 
 -- its line as the code finds it: the diagonal at its place k
-pub row-laid : (s : List ℕ) (at : ℕ) (l : Label) (m r : List ℤ) (i : ℕ) {k : ℕ} {seen : Bool} {x y : ℤ} {p : List ℕ × ℕ} → k ≡ tri i + i → seen ≡ seenIn m i
-    → x ≡ getD m k (pos 0) → y ≡ getD r i (pos 0) → p ≡ laid s at (parameterLine l seen x y)
+pub row-laid : (s : List ℕ) (at : ℕ) (l : Label) (m r : List ℤ) (i : ℕ) {k : ℕ} {x y : ℤ} {p : List ℕ × ℕ} → k ≡ tri i + i
+    → x ≡ getD m k (pos 0) → y ≡ getD r i (pos 0) → p ≡ laid s at (parameterLine l (not (isZero x)) x y)
     → p ≡ laid s at (parameterLine l (seenIn m i) (entry m i i) (getD r i (pos 0)))
-row-laid s at l m r i {seen = seen} e b x y f =
-    f ∙ ap₂ (λ v w. laid s at (parameterLine l seen v w)) (x ∙ ap (λ j. getD m j (pos 0)) e) y ∙ ap (λ w. laid s at (parameterLine l w (entry m i i) (getD r i (pos 0)))) b
-
--- the diagonal of parameter i stands among the 1,275 sums of fifty
-pub place-small : (i : ℕ) → i < 50 → tri i + i < 1275
-unfolding tri
-place-small i h = omega (arith, tri-within i 50 h)
+unfolding seenIn
+row-laid s at l m r i e x y f =
+    f ∙ ap₂ (λ v w. laid s at (parameterLine l (not (isZero v)) v w)) (x ∙ ap (λ j. getD m j (pos 0)) e) y
 
 -- ---- tallies
 -- the answers from place i on

@@ -3,12 +3,14 @@
 use heading::Heading;
 use limits::Label;
 ghost use mathlib.Core.Path.{_≡_};
+ghost use mathlib.Core.Bool.{not};
 ghost use Prim.Native.Nat.{_≤_};
 ghost use lib.ListN.{length};
 ghost use Rattle.whole.specs.Tests.{pick};
 ghost use Rattle.decimal.specs.Laid.{laid};
 ghost use Rattle.heading.specs.Judge.{labelsOf};
 ghost use Rattle.sums.specs.Triangle.{tri};
+ghost use Rattle.sums.specs.Sound.{isZero};
 ghost use Rattle.texts.specs.Lines.{oneLine, twoLine, refusedLine, seenText, unseenText, labelText, sumsText, parameterLine, parameterLines};
 
 // A text and a number.
@@ -64,18 +66,12 @@ fn put_sums(room: &mut [u8], at: usize, diagonal: i64, right: i64) -> usize
     decimal::put_text(room, c, b"\n")
 }
 
-fn put_parameter(
-    room: &mut [u8],
-    at: usize,
-    l: Label,
-    seen: bool,
-    diagonal: i64,
-    right: i64,
-) -> usize
-    ensures { λ r. ⌜ (now (room .exit), r) ≡ laid (now (room .entry)) at (parameterLine l seen diagonal right) ⌝ }
+// Seen where its diagonal sum is not 0.
+fn put_parameter(room: &mut [u8], at: usize, l: Label, diagonal: i64, right: i64) -> usize
+    ensures { λ r. ⌜ (now (room .exit), r) ≡ laid (now (room .entry)) at (parameterLine l (not (isZero diagonal)) diagonal right) ⌝ }
 {
     let a = put_label(room, at, l);
-    let b = put_seen(room, a, seen);
+    let b = put_seen(room, a, diagonal != 0);
     put_sums(room, b, diagonal, right)
 }
 
@@ -96,7 +92,7 @@ pub fn put_parameters(
     while i < n {
         let l = h.labels[i];
         let k = sums::place(i, i);
-        at = put_parameter(room, at, l, state::seen(matrix, i), matrix[k], rights[i]);
+        at = put_parameter(room, at, l, matrix[k], rights[i]);
         i += 1;
     }
     whole::least(at, room.len())

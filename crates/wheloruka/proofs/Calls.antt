@@ -3,9 +3,10 @@
 use Prim.Native.Nat.{ℕ}
 use mathlib.Core.Path.{_≡_, refl, sym, ap, ap₂, _∙_}
 use mathlib.Core.List.{List, [], _∷_}
-use mathlib.Core.Bool.{true, false}
+use mathlib.Core.Bool.{Bool, true, false}
 use native.Mathlib.Omega.{arith}
 use lib.IntN.{ℤ}
+use lib.ListN.{length}
 use Rattle.whole.specs.Tests.{same}
 use Rattle.whole.specs.Answer.{Answered, given, refused}
 use Rattle.whole.proofs.Cases.{yes, no, is-same, not-same, same-true, same-false, by-cases}
@@ -18,14 +19,17 @@ use Rattle.refusal.proofs.Firsts.{unless-true, unless-false, first-pass, first-
 use Rattle.heading.specs.declared.Heading.{Heading}
 use Rattle.tally.specs.Tally.{emptyTally}
 use Rattle.tally.specs.declared.Tally.{Tally}
-use Rattle.state.specs.State.{State, stateOf, roomNumber, started}
+use Rattle.state.specs.State.{State, stateOf, roomNumber, started, sightOf}
 use Rattle.state.proofs.Rooms.{by-given, by-refused}
 use Rattle.account.specs.Taking.{takeAnswer, takeStep, runAnswers}
 use Rattle.lent.specs.Lent.{headingIn, hasBoth}
 use Rattle.lenttally.specs.Tally.{tallyBytes}
 use Rattle.section.specs.Told.{onDone}
+use Rattle.rooms.specs.Result.{resultNumber, resultLeft, told}
+use Rattle.rooms.proofs.Rooms.{as-refused}
+use Rattle.calling.specs.Taking.{seenNumbers}
 use Rattle.calling.proofs.Rooms.{is-done, is-kept}
-use Rattle.wheloruka.specs.Taking.{Lent, lent, stateIn, lentNumber, callNumber, callLeft, answersLeft}
+use Rattle.wheloruka.specs.Taking.{Lent, lent, stateIn, lentNumber, callNumber, callLeft, answersLeft, seenValues}
 
 -- ---- any call: k is the number that follows
 module _ (b : List ℕ) (x : Lent) (k : ℕ) where
@@ -36,7 +40,7 @@ module _ (b : List ℕ) (x : Lent) (k : ℕ) where
       sym (first-stop _ (k ∷ []) (λ z. let w = sym is ∙ z in omega arith) ∙ is)
 
   module _ (whole : hasBoth b (x .tally) ≡ true) where
-    number-is : callNumber b x k ≡ k
+    pub number-is : callNumber b x k ≡ k
     unfolding callNumber lentNumber
     number-is = first-pass _ (k ∷ []) (unless-true 20 _ whole) ∙ first-one k
 
@@ -48,7 +52,7 @@ module _ (b : List ℕ) (x : Lent) (k : ℕ) where
 
   -- s is the state that a call which is done leaves, t what stands in the tally's room then
   module _ (s : State) where
-    left-kept : (callNumber b x k ≡ 0 → ⊥) → x ≡ callLeft b x k s
+    pub left-kept : (callNumber b x k ≡ 0 → ⊥) → x ≡ callLeft b x k s
     unfolding callLeft
     left-kept some = no _ _ _ (not-same _ _ some) refl
 
@@ -112,3 +116,18 @@ module _ (b l out : List ℕ) (x : Lent) where
   pub answers-whole : hasBoth b (x .tally) ≡ true → (left : List ℕ) → left ≡ runAnswers (headingIn b) l out (stateIn x) → left ≡ answersLeft b l out x
   unfolding answersLeft lentNumber
   answers-whole e left h = yes _ _ _ (is-same _ _ (unless-true 20 _ e)) h
+
+-- ---- whether a parameter is seen
+module _ (b : List ℕ) (x : Lent) (i : ℕ) (out : List ℕ) where
+  pub seen-short : hasBoth b (x .tally) ≡ false → (20 ≡ resultNumber (seenValues b x i) (length out)) × (out ≡ resultLeft (seenValues b x i) out)
+  unfolding seenValues
+  seen-short e = as-refused _ out 20 (sym (no _ _ _ e refl)) refl
+
+  -- w is what was told of the state
+  pub seen-whole : hasBoth b (x .tally) ≡ true → (w : Answered Bool) → w ≡ sightOf (headingIn b) (stateIn x) i → {n : ℕ} {left : List ℕ}
+      → (n ≡ resultNumber (told seenNumbers w) (length out)) × (left ≡ resultLeft (told seenNumbers w) out)
+      → (n ≡ resultNumber (seenValues b x i) (length out)) × (left ≡ resultLeft (seenValues b x i) out)
+  unfolding seenValues
+  seen-whole e w t put =
+      let is : told seenNumbers w ≡ seenValues b x i = yes _ _ _ e (ap (told seenNumbers) t) in
+      (put .0 ∙ ap (λ v. resultNumber v (length out)) is, put .1 ∙ ap (λ v. resultLeft v out) is)

@@ -7,21 +7,29 @@ use mathlib.Core.Bool.{true, false}
 use lib.IntN.{ℤ}
 use lib.ListN.{length, take, drop}
 use Rattle.whole.specs.Tests.{less, pick}
-use Rattle.whole.specs.Answer.{Answered, refused, Judged, good, bad}
+use Rattle.whole.specs.Answer.{Answered, given, refused, Judged, good, bad}
 use Rattle.whole.proofs.Cases.{yes, no, by-cases}
+use Rattle.refusal.specs.Number.{numberOf}
+use Rattle.refusal.specs.declared.Refusal.{Refusal}
+use Rattle.refusal.specs.declared.Refusal.the-variants.{Room}
+use Rattle.refusal.proofs.Firsts.{unless-true, unless-false, first-pass, first-stop, first-none, first-none-left, first-by, number-given, number-refused, answered-refused}
+use Rattle.section.specs.Writing.{writingNumber, written, writtenIn}
+use Rattle.heading.specs.Judge.{judged}
 use Rattle.system.specs.System.{System}
 use Rattle.normread.specs.Normal as normals
 use Rattle.normread.specs.Normal.{Normal, readNormal}
 use Rattle.rooms.specs.Result.{resultNumber, resultLeft, told, one, roomFor, bytesLeft}
-use Rattle.rooms.proofs.Rooms.{on-refused, part-long, part-left, none-laid}
-use Rattle.lent.specs.Lent.{headingIn, hasBoth}
+use Rattle.rooms.proofs.Rooms.{on-refused, part-long, part-left}
+use Rattle.section.proofs.Writing.{left-old, none-laid}
+use Rattle.lent.specs.Lent.{headingIn, headNumber}
+use Rattle.lenttally.specs.Tally.{hasTally}
 use Rattle.normwrite.specs.Write as write
 use Rattle.normstate.specs.OfState as state
 use Rattle.normmerge.specs.Files.{fromFile, pairLeft, mergeLeft}
 use Rattle.listing.specs.Listing.{listLeft}
 use Rattle.wheloruka.specs.Taking.{Lent, stateIn}
 use Rattle.calling.specs.Reading.{judgedNumber}
-use Rattle.wheloruka.specs.Writing.{stateFile, stateFileLeft}
+use Rattle.wheloruka.specs.Writing.{headedNumber, stateFileNumber, stateFile, stateFileLeft}
 use Rattle.wheloruka.proofs.Numbers.{as-told}
 
 -- ---- a file that was unpacked
@@ -76,26 +84,58 @@ pub list-none : (limit : ℕ) (file : List ℕ) → listLeft limit file [] ≡ [
 unfolding listLeft
 list-none limit file = none-laid _ _
 
+-- ---- a heading and a tally in lent bytes: one step for each test
+module _ (b t : List ℕ) where
+  pub headed-head : {k : ℕ} → k ≡ headNumber b → (k ≡ 0 → ⊥) → k ≡ headedNumber b t
+  unfolding headedNumber
+  headed-head e some = e ∙ sym (first-stop _ _ (λ z. some (e ∙ z)))
+
+  module _ (head : headNumber b ≡ 0) where
+    pub headed-judged : (f : Refusal) {k : ℕ} → judged (headingIn b) ≡ refused (numberOf f) → k ≡ numberOf f → k ≡ headedNumber b t
+    unfolding headedNumber
+    headed-judged f e i = i ∙ first-by _ _ f (number-refused _ _ e) ∙ sym (first-pass _ _ head)
+
+    module _ (sound : judged (headingIn b) ≡ given tt) where
+      pub headed-tally : hasTally t ≡ false → 20 ≡ headedNumber b t
+      unfolding headedNumber
+      headed-tally e = first-by _ _ Room (unless-false 20 _ e) ∙ sym (first-pass _ _ head ∙ first-pass _ _ (number-given _ tt sound))
+
+      pub headed-none : hasTally t ≡ true → 0 ≡ headedNumber b t
+      unfolding headedNumber
+      headed-none e = sym (first-pass _ _ head ∙ first-pass _ _ (number-given _ tt sound) ∙ first-pass _ _ (unless-true 20 _ e) ∙ first-none-left)
+
 -- ---- a state in lent room
 module _ (b : List ℕ) (x : Lent) where
-  module _ (whole : hasBoth b (x .tally) ≡ true) where
+  -- what is left to judge is what the state by value has left
+  module _ (whole : headedNumber b (x .tally) ≡ 0) where
+    number-whole : state.heldNumber (headingIn b) (stateIn x) ≡ stateFileNumber b x
+    unfolding headedNumber stateFileNumber state.heldNumber
+    number-whole = first-pass _ _ (first-none _ _ (first-none _ _ whole .1) .0) ∙ sym (first-pass _ _ whole)
+
     pub file-whole : (room : ℕ) → state.fileOf (headingIn b) (stateIn x) room ≡ stateFile b x room
-    unfolding stateFile
-    file-whole room = yes _ _ _ whole refl
+    unfolding stateFile state.fileOf
+    file-whole room = ap (λ k. written k (state.stateBytes (headingIn b) (stateIn x)) room) number-whole
 
     pub left-whole : (out : List ℕ) → state.leftIn (headingIn b) (stateIn x) out ≡ stateFileLeft b x out
-    unfolding stateFileLeft
-    left-whole out = yes _ _ _ whole refl
+    unfolding stateFileLeft state.leftIn
+    left-whole out = ap (λ k. writtenIn k (state.stateBytes (headingIn b) (stateIn x)) out) number-whole
 
-  module _ (short : hasBoth b (x .tally) ≡ false) where
-    pub file-short : (room : ℕ) → refused 20 ≡ stateFile b x room
+  module _ (some : headedNumber b (x .tally) ≡ 0 → ⊥) where
+    number-headed : (room : ℕ) → writingNumber (stateFileNumber b x) (state.stateBytes (headingIn b) (stateIn x)) room ≡ headedNumber b (x .tally)
+    unfolding stateFileNumber
+    number-headed room =
+        let is : stateFileNumber b x ≡ headedNumber b (x .tally) = first-stop _ _ some in
+        first-stop _ _ (λ z. some (sym is ∙ z)) ∙ is
+
+    pub file-headed : (room : ℕ) → refused (headedNumber b (x .tally)) ≡ stateFile b x room
     unfolding stateFile
-    file-short room = no _ _ _ short refl
+    file-headed room = let is = number-headed room in ap refused (sym is) ∙ answered-refused _ _ (λ z. some (sym is ∙ z))
 
-    pub left-short : (out : List ℕ) → stateFileLeft b x out ≡ out
+    pub left-headed : (out : List ℕ) → stateFileLeft b x out ≡ out
     unfolding stateFileLeft
-    left-short out = sym (no _ _ _ short refl)
+    left-headed out =
+        sym (left-old (stateFileNumber b x) (state.stateBytes (headingIn b) (stateIn x)) out (λ z. some (sym (number-headed (length out)) ∙ z)))
 
   pub state-none : stateFileLeft b x [] ≡ []
-  unfolding stateFileLeft state.leftIn
-  state-none = by-cases (hasBoth b (x .tally)) (λ t. sym (yes _ _ _ t (sym (none-laid _ _)))) (λ t. sym (no _ _ _ t refl))
+  unfolding stateFileLeft
+  state-none = none-laid _ _

@@ -1,4 +1,4 @@
--- What the calls for days, cells and units put into lent room, in the order of the definitions they name.
+-- What the calls for days, cells, units and residuals put into lent room, in the order of the definitions they name.
 use Prim.Native.Nat.{ℕ}
 use mathlib.Core.List.{List}
 use lib.IntN.{ℤ}
@@ -8,7 +8,7 @@ use Rattle.rooms.specs.Result.{told, one}
 use Rattle.days.specs.Calendar.{dateOf, dayOfDate, dateOfDay}
 use Rattle.cells.specs.Cells.{cellAt}
 use Rattle.units.specs.Units.{unitOf, doubleOf}
-use Rattle.giving.specs.Given.{dateNumbers, cellNumbers, indexBy}
+use Rattle.giving.specs.Given.{dateNumbers, cellNumbers, indexBy, residualAs}
 
 -- ---- days
 unfoldable pub dayValues : ℕ → ℕ → ℕ → Answered (List ℕ)
@@ -30,3 +30,7 @@ unitValues kind x = told one (unitOf kind x)
 
 unfoldable pub doubleValues : ℕ → ℤ → Answered (List Float)
 doubleValues kind q = told one (doubleOf kind q)
+
+-- ---- residuals
+unfoldable pub residualValues : ℕ → Float → Float → Answered (List ℤ)
+residualValues kind observed computed = told one (residualAs kind observed computed)

@@ -4,12 +4,15 @@ use Prim.Native.Nat.{ℕ}
 use mathlib.Core.List.{List, [], _∷_}
 use lib.IntN.{ℤ}
 use Rattle.whole.specs.Tests.{same, pick}
+use Rattle.whole.specs.Answer.{Answered, refused}
 use Rattle.words.specs.Words.{lay}
 use Rattle.refusal.specs.First.{unless, first}
-use Rattle.state.specs.State.{State, stateOf, roomNumber, stateNumber, started, seenIn}
+use Rattle.rooms.specs.Result.{told}
+use Rattle.state.specs.State.{State, stateOf, roomNumber, stateNumber, started, sightOf}
 use Rattle.account.specs.Taking.{takeAnswer, takeStep, runNumber, runState, runAnswers}
 use Rattle.lent.specs.Lent.{headingIn, hasBoth}
 use Rattle.lenttally.specs.Tally.{tallyIn, tallyBytes}
+use Rattle.calling.specs.Taking.{seenNumbers}
 
 -- a state in lent room: the tally's bytes, the matrix sums, the right sides
 pub record Lent : Type 0 where
@@ -65,5 +68,5 @@ unfoldable pub answersLeft : List ℕ → List ℕ → List ℕ → Lent → Lis
 answersLeft b l out x = pick (same (lentNumber b x) 0) (runAnswers (headingIn b) l out (stateIn x)) out
 
 -- ---- whether a parameter is seen: 1 or 0
-unfoldable pub seenNumber : List ℤ → ℕ → ℕ
-seenNumber m i = pick (seenIn m i) 1 0
+unfoldable pub seenValues : List ℕ → Lent → ℕ → Answered (List ℕ)
+seenValues b x i = pick (hasBoth b (x .tally)) (told seenNumbers (sightOf (headingIn b) (stateIn x) i)) (refused 20)

@@ -13,7 +13,7 @@ ghost use Rattle.normunpack.specs.Unpack.{unpackNormal, filled, matrixOf, right
 ghost use Rattle.normwrite.specs.Write.{writeNormal, leftIn};
 ghost use Rattle.normmerge.specs.Files.{mergeAnswer, mergeLeft};
 ghost use Rattle.listing.specs.Listing.{listAnswer, listLeft};
-ghost use Rattle.wheloruka.specs.Numbers.{dayValues, dateValues, cellValues, indexValues, unitValues, doubleValues};
+ghost use Rattle.wheloruka.specs.Numbers.{dayValues, dateValues, cellValues, indexValues, unitValues, doubleValues, residualValues};
 ghost use Rattle.calling.specs.Reading.{placeOf, readNumber, headingLeft, placesLeft, judgedNumber};
 ghost use Rattle.wheloruka.specs.Reading.{normalValues};
 ghost use Rattle.wheloruka.specs.Taking.{
@@ -26,10 +26,11 @@ ghost use Rattle.wheloruka.specs.Taking.{
   runCallNumber,
   runLeft,
   answersLeft,
-  seenNumber,
+  seenValues,
 };
 ghost use Rattle.calling.specs.Writing.{mergeNumber};
-ghost use Rattle.wheloruka.specs.Writing.{stateFile, stateFileLeft};
+ghost use Rattle.calling.specs.Arcs.{arcFile, arcLeft};
+ghost use Rattle.wheloruka.specs.Writing.{headedNumber, stateFile, stateFileLeft};
 
 // ---- days
 
@@ -91,6 +92,15 @@ pub extern "C" fn whl_double_of(kind: u32, unit: i64, out: &mut [f64]) -> u32
     giving::give_double(out, units::double_of_unit(kind, unit))
 }
 
+// The residual of a measurement: observed minus computed, in units.
+#[no_mangle]
+pub extern "C" fn whl_residual(kind: u32, observed: f64, computed: f64, out: &mut [i64]) -> u32
+    ensures { λ r. ⌜ r ≡ resultNumber (residualValues kind observed computed) (length (now (out .entry))) ⌝ }
+    ensures left { λ _. ⌜ now (out .exit) ≡ resultLeft (residualValues kind observed computed) (now (out .entry)) ⌝ }
+{
+    giving::give_unit(out, giving::residual_as(kind, observed, computed))
+}
+
 // ---- files
 
 // An arc file's heading in one room; the number of its records and the first one's place in another.
@@ -111,6 +121,18 @@ pub extern "C" fn whl_read_place(file: &[u8]) -> u64
     let r = arcread::read(file);
     let answer = r.answer;
     calling::read_place(answer)
+}
+
+// An arc file of a heading and a run of records.
+#[no_mangle]
+pub extern "C" fn whl_write(heading: &[u8], run: &[u8], out: &mut [u8], size: &mut [u64]) -> u32
+    ensures { λ r. ⌜ r ≡ resultNumber (told one (arcFile (now (heading .entry)) (now (run .entry)) (roomFor (length (now (size .entry))) (length (now (out .entry)))))) (length (now (size .entry))) ⌝ }
+    ensures size { λ _. ⌜ now (size .exit) ≡ resultLeft (told one (arcFile (now (heading .entry)) (now (run .entry)) (roomFor (length (now (size .entry))) (length (now (out .entry)))))) (now (size .entry)) ⌝ }
+    ensures bytes { λ _. ⌜ now (out .exit) ≡ bytesLeft (length (now (size .entry))) (arcLeft (now (heading .entry)) (now (run .entry))) (now (out .entry)) ⌝ }
+{
+    let room = rooms::room_for(size.len(), out.len());
+    let w = calling::write_arc(heading, run, &mut out[..room]);
+    calling::give_written(size, w)
 }
 
 // A normal file's numbers of arcs and parameters, and the places of its matrix sums, right sides and totals.
@@ -235,12 +257,26 @@ pub extern "C" fn whl_take_run(
     }
 }
 
-// 1 where a parameter is seen, else 0.
+// Whether a parameter is seen: 1 or 0.
 #[no_mangle]
-pub extern "C" fn whl_seen(matrix: &[i64], parameter: usize) -> u32
-    ensures { λ r. ⌜ r ≡ seenNumber (now (matrix .entry)) parameter ⌝ }
+pub extern "C" fn whl_seen(
+    heading: &[u8],
+    tally: &[u8],
+    matrix: &[i64],
+    rights: &[i64],
+    parameter: usize,
+    out: &mut [u32],
+) -> u32
+    ensures { λ r. ⌜ r ≡ resultNumber (seenValues (now (heading .entry)) (lent (now (tally .entry)) (now (matrix .entry)) (now (rights .entry))) parameter) (length (now (out .entry))) ⌝ }
+    ensures left { λ _. ⌜ now (out .exit) ≡ resultLeft (seenValues (now (heading .entry)) (lent (now (tally .entry)) (now (matrix .entry)) (now (rights .entry))) parameter) (now (out .entry)) ⌝ }
 {
-    if state::seen(matrix, parameter) { 1 } else { 0 }
+    if lent::has_both(heading, tally) {
+        let h = lent::heading_in(heading);
+        let t = lenttally::tally_in(tally);
+        calling::give_sight(out, state::seen(h, t, matrix, rights, parameter))
+    } else {
+        20
+    }
 }
 
 // ---- normal files, from and into lent room
@@ -283,6 +319,21 @@ pub extern "C" fn whl_normal_write(
     calling::give_written(size, w)
 }
 
+// What is wrong with a heading and a tally in lent bytes that are to be written from, before any sum is looked at; 0 where nothing is.
+fn judge_headed(heading: &[u8], tally: &[u8]) -> u32
+    ensures { λ r. ⌜ r ≡ headedNumber (now (heading .entry)) (now (tally .entry)) ⌝ }
+{
+    let k = lent::judge_head(heading);
+    if k == 0 {
+        match heading::judge(lent::heading_in(heading)) {
+            Verdict::Refused(e) => refusal::number(e),
+            Verdict::Sound => if lenttally::has_tally(tally) { 0 } else { 20 },
+        }
+    } else {
+        k
+    }
+}
+
 // The normal file of a state.
 #[no_mangle]
 pub extern "C" fn whl_of_state(
@@ -297,14 +348,15 @@ pub extern "C" fn whl_of_state(
     ensures size { λ _. ⌜ now (size .exit) ≡ resultLeft (told one (stateFile (now (heading .entry)) (lent (now (tally .entry)) (now (matrix .entry)) (now (rights .entry))) (roomFor (length (now (size .entry))) (length (now (out .entry)))))) (now (size .entry)) ⌝ }
     ensures bytes { λ _. ⌜ now (out .exit) ≡ bytesLeft (length (now (size .entry))) (stateFileLeft (now (heading .entry)) (lent (now (tally .entry)) (now (matrix .entry)) (now (rights .entry)))) (now (out .entry)) ⌝ }
 {
-    if lent::has_both(heading, tally) {
+    let k = judge_headed(heading, tally);
+    if k == 0 {
         let h = lent::heading_in(heading);
         let t = lenttally::tally_in(tally);
         let room = rooms::room_for(size.len(), out.len());
         let w = normstate::of_state(h, t, matrix, rights, &mut out[..room]);
         calling::give_written(size, w)
     } else {
-        20
+        k
     }
 }
 

@@ -1,17 +1,15 @@
 -- `desk_run::run_all` takes its words from left to right and ends.
 -- Assumes nothing.
-use mathlib.Core.Path.{_≡_}
 use Prim.Native.Nat.{_-_}
-use lib.ListN.{length}
 use borrow.Author.Needs.{needs}
 use Rattle.desk_run.proofs.run_all.Statement.{statement}
 use Rattle.desk_run.proofs.run_all.Tie as tie
 
 abbrev Inv-loop : tie.InvT-loop
-Inv-loop words big₀ second₀ out₀ at₀ i₀ big second out at i = (length big ≡ length big₀) × (length second ≡ length second₀) × (length out ≡ length out₀)
+Inv-loop words at₀ i₀ at i = Unit {0}
 
 abbrev μ-loop : tie.MeasureT-loop
-μ-loop words big₀ second₀ out₀ at₀ i₀ big second out at i = words - i
+μ-loop words at₀ i₀ at i = words - i
 
 loop-holds : tie.Need-loop-holds Inv-loop μ-loop
 loop-holds c = search needs
@@ -34,26 +32,8 @@ sub-run-one c = search needs
 run-one-requires : tie.Need-run-one-requires Inv-loop μ-loop
 run-one-requires c κs = search needs
 
-same-length : tie.Need-same-length Inv-loop μ-loop
-same-length c = search needs
-
-same-length-2 : tie.Need-same-length-2 Inv-loop μ-loop
-same-length-2 c = search needs
-
-same-length-3 : tie.Need-same-length-3 Inv-loop μ-loop
-same-length-3 c = search needs
-
 returns : tie.Need-returns Inv-loop μ-loop
 returns c = search needs
-
-same-length-4 : tie.Need-same-length-4 Inv-loop μ-loop
-same-length-4 c = search needs
-
-same-length-5 : tie.Need-same-length-5 Inv-loop μ-loop
-same-length-5 c = search needs
-
-same-length-6 : tie.Need-same-length-6 Inv-loop μ-loop
-same-length-6 c = search needs
 
 returns-2 : tie.Need-returns-2 Inv-loop μ-loop
 returns-2 c = search needs
@@ -71,11 +51,5 @@ run-all-spec =
     loop-again
     sub-run-one
     run-one-requires
-    same-length
-    same-length-2
-    same-length-3
     returns
-    same-length-4
-    same-length-5
-    same-length-6
     returns-2)

@@ -1,7 +1,5 @@
 -- `fitting::find` meets its contract. The loop's invariant: what is left to search decides the whole.
 -- Assumes nothing.
--- `fitting::find` meets its contract. The loop's invariant: what is left to search decides the whole.
--- Assumes nothing.
 use native.Mathlib.Omega.{arith}
 use mathlib.Core.Path.{_≡_, refl, sym, _∙_}
 use Prim.Native.Nat.{_≤_, _-_}

@@ -5,7 +5,7 @@ use native.Mathlib.Omega.{arith}
 use mir.Syntax.{w32}
 use mir.ValLaws.{toZ-ofZ}
 use Rattle.whole.specs.Answer.{refused}
-use Rattle.heading.specs.Judge.{toldFound}
+use Rattle.fitting.specs.Fit.{toldFound}
 use Rattle.types.specs.Types.{toldRow}
 use Rattle.account.specs.Taking.{frame}
 use Rattle.fitting.proofs.Steps.{found-inside, row-found, row-none, station-is, type-is, no-station, no-type}

@@ -24,6 +24,9 @@ cast-print-hex c = search needs
 print-hex-requires : tie.Need-print-hex-requires Inv-loop μ-loop
 print-hex-requires c κs = search needs
 
+look-requires : tie.Need-look-requires Inv-loop μ-loop
+look-requires c κs = search needs
+
 add-i : tie.Need-add-i Inv-loop μ-loop
 add-i c = search needs
 
@@ -46,6 +49,7 @@ put-bytes-spec =
     byte-at-requires
     cast-print-hex
     print-hex-requires
+    look-requires
     add-i
     loop-less
     loop-again

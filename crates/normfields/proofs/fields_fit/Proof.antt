@@ -8,8 +8,7 @@ use Rattle.whole.specs.Lists.{all}
 use Rattle.whole.proofs.Cases.{holds, fails}
 use Rattle.system.specs.System.{arcOk, normalLabelOk}
 use Rattle.words.specs.Stands.{stands}
-use Rattle.normroom.specs.Room.{labelIn}
-use Rattle.normfields.specs.Fields.{allFit}
+use Rattle.normroom.specs.Room.{labelIn, systemIn, fieldsFit}
 use Rattle.normfields.proofs.fields_fit.Statement.{statement}
 use Rattle.normfields.proofs.fields_fit.Tie as tie
 
@@ -29,14 +28,14 @@ labels-fit-requires : tie.Need-labels-fit-requires
 labels-fit-requires c κs = (omega arith, omega arith, ap (all arcOk) (c .before .arcs-of .ensures .0) ∙ sym (c .before .before .before .arcs-fit .ensures) ∙ c .before .before .if1 .taken)
 
 returns : tie.Need-returns
-unfolding allFit
+unfolding fieldsFit systemIn
 returns c =
     let start = c .before .before .before .before .before .before .args in
     holds _ _ (sym (c .before .before .before .before .arcs-fit .ensures) ∙ c .before .before .before .if1 .taken)
     (c .labels-fit .ensures ∙ ap (λ l. all (normalLabelOk l) (stands (labelIn (start .heads .now)) 5 (start .parameters) (start .arcs))) (c .before .before .arcs-of .ensures .0))
 
 returns-2 : tie.Need-returns-2
-unfolding allFit
+unfolding fieldsFit systemIn
 returns-2 c = fails _ _ (sym (c .before .arcs-fit .ensures) ∙ c .if1 .left)
 
 pub fields-fit-spec : {M : Type 1} → statement M

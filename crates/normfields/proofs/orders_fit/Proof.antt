@@ -4,23 +4,23 @@ use borrow.Author.Needs.{needs}
 use native.Mathlib.Omega.{arith}
 use mathlib.Core.Path.{sym, _∙_}
 use Rattle.whole.proofs.Cases.{holds, fails, both-first}
-use Rattle.normfields.specs.Fields.{allFit, allAscend}
+use Rattle.normroom.specs.Room.{systemIn, fieldsFit, ordersFit}
 use Rattle.normfields.proofs.orders_fit.Statement.{statement}
 use Rattle.normfields.proofs.orders_fit.Tie as tie
 
 arcs-ascend-requires : tie.Need-arcs-ascend-requires
-unfolding allFit
+unfolding fieldsFit systemIn
 arcs-ascend-requires c κs = (omega arith, both-first _ _ (c .before .pre .3))
 
 labels-ascend-requires : tie.Need-labels-ascend-requires
 labels-ascend-requires c κs = search needs
 
 returns : tie.Need-returns
-unfolding allAscend
+unfolding ordersFit systemIn
 returns c = holds _ _ (sym (c .before .before .arcs-ascend .ensures) ∙ c .before .if1 .taken) (c .labels-ascend .ensures)
 
 returns-2 : tie.Need-returns-2
-unfolding allAscend
+unfolding ordersFit systemIn
 returns-2 c = fails _ _ (sym (c .before .arcs-ascend .ensures) ∙ c .if1 .left)
 
 pub orders-fit-spec : {M : Type 1} → statement M

@@ -1,13 +1,14 @@
 -- `normjudge::sides_sound` meets its contract, by what the walk finds.
 -- Assumes nothing.
 use borrow.Author.Needs.{needs}
-use mathlib.Core.Path.{_≡_, subst, _∙_}
+use mathlib.Core.Path.{_≡_, sym, ap, _∙_}
 use Prim.Native.Nat.{_^_}
 use lib.IntN.{pos}
 use mir.Syntax.{w64}
 use mir.Val.{toZ, ofZ}
 use mir.ValLaws.{toZ-ofZ}
-use Rattle.sums.specs.Sound.{RightSides}
+use Rattle.sums.specs.Sound.{breaksSide}
+use Rattle.sums.specs.Found.{firstFrom, toldWalked}
 use Rattle.sums.specs.declared.Walked.{Walked}
 use Rattle.sums.specs.declared.Walked.the-variants.{Sound, Unsound}
 use Rattle.system.specs.System.{boundOf, sidesWhere}
@@ -21,11 +22,11 @@ value c = toZ-ofZ w64 (c .bound-of .result) (search needs) ∙ c .bound-of .ensu
 
 -- what the walk found, at the bound
 found : (c : tie.After-first-broken-side) → let s = c .before .before .args in (w : Walked) → c .first-broken-side .result ≡ w
-    → RightSides (pos (boundOf (s .arcs) (s .accepted) (2 ^ 55))) (s .matrix .now) (s .rights .now) (s .p) w
+    → firstFrom (breaksSide (pos (boundOf (s .arcs) (s .accepted) (2 ^ 55))) (s .matrix .now) (s .rights .now)) 0 (s .p) ≡ toldWalked w
 found c w e =
     let s = c .before .before .args in
-    subst (λ b. RightSides b (s .matrix .now) (s .rights .now) (s .p) w) (value (c .before))
-    (subst (λ v. RightSides (toZ w64 (ofZ w64 (c .before .bound-of .result))) (s .matrix .now) (s .rights .now) (s .p) v) e (c .first-broken-side .ensures))
+    ap (λ b. firstFrom (breaksSide b (s .matrix .now) (s .rights .now)) 0 (s .p)) (sym (value (c .before))) ∙ sym (c .first-broken-side .ensures)
+    ∙ ap toldWalked e
 
 bound-of-requires : tie.Need-bound-of-requires
 bound-of-requires c κs = search needs

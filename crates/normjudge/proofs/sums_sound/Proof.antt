@@ -1,13 +1,14 @@
 -- `normjudge::sums_sound` meets its contract, by what the walk finds.
 -- Assumes nothing.
 use borrow.Author.Needs.{needs}
-use mathlib.Core.Path.{_≡_, subst, _∙_}
+use mathlib.Core.Path.{_≡_, sym, ap, _∙_}
 use Prim.Native.Nat.{_^_}
 use lib.IntN.{pos}
 use mir.Syntax.{w64}
 use mir.Val.{toZ, ofZ}
 use mir.ValLaws.{toZ-ofZ}
-use Rattle.sums.specs.Sound.{Right}
+use Rattle.sums.specs.Sound.{breaks}
+use Rattle.sums.specs.Found.{columnsFrom, toldWalked}
 use Rattle.sums.specs.declared.Walked.{Walked}
 use Rattle.sums.specs.declared.Walked.the-variants.{Sound, Unsound}
 use Rattle.system.specs.System.{boundOf, sidesWhere, sumsWhere}
@@ -21,11 +22,10 @@ value c = toZ-ofZ w64 (c .bound-of .result) (search needs) ∙ c .bound-of .ensu
 
 -- what the walk found, at the bound
 found : (c : tie.After-first-unsound) → let s = c .before .before .args in (w : Walked) → c .first-unsound .result ≡ w
-    → Right (pos (boundOf (s .arcs) (s .accepted) (2 ^ 58))) (s .matrix .now) (s .p) w
+    → columnsFrom (breaks (pos (boundOf (s .arcs) (s .accepted) (2 ^ 58))) (s .matrix .now)) 0 (s .p) ≡ toldWalked w
 found c w e =
     let s = c .before .before .args in
-    subst (λ b. Right b (s .matrix .now) (s .p) w) (value (c .before))
-    (subst (λ v. Right (toZ w64 (ofZ w64 (c .before .bound-of .result))) (s .matrix .now) (s .p) v) e (c .first-unsound .ensures))
+    ap (λ b. columnsFrom (breaks b (s .matrix .now)) 0 (s .p)) (sym (value (c .before))) ∙ sym (c .first-unsound .ensures) ∙ ap toldWalked e
 
 bound-of-requires : tie.Need-bound-of-requires
 bound-of-requires c κs = search needs

@@ -14,7 +14,7 @@ use Rattle.section.specs.Section.{encoded}
 use Rattle.section.proofs.Laid.{laid-none, laid-one}
 use Rattle.normkinds.specs.Kinds.{arcBytes}
 use Rattle.normkinds.proofs.Records.{length-arc}
-use Rattle.normput.proofs.Laid.{counted-laid}
+use Rattle.normput.proofs.Laid.{section-laid}
 use Rattle.normput.proofs.put_arcs.Statement.{statement}
 use Rattle.normput.proofs.put_arcs.Tie as tie
 
@@ -77,7 +77,7 @@ unfolding rest
 returns c =
     let start = c .before .before .before .before .before .before .before .before .args in
     sym (c .before .loop .inv .3 ∙ laid-none arcBytes _ length-arc _ _ (rest-end (start .heads .now) (start .n) (c .before .loop .i) (omega arith)))
-    ∙ counted-laid arcBytes _ _ 0 _ _ (c .before .before .before .before .write-u32 .ensures) (length-take-le _ _ (omega arith))
+    ∙ section-laid arcBytes _ _ 0 _ _ (c .before .before .before .before .write-u32 .ensures) (length-take-le _ _ (omega arith))
 
 pub put-arcs-spec : {M : Type 1} → statement M
 put-arcs-spec =

@@ -15,7 +15,7 @@ use Rattle.words.proofs.Stands.{length-stands, stands-done, stands-next}
 use Rattle.normkinds.specs.Kinds.{normalLabelBytes}
 use Rattle.normkinds.proofs.Records.{length-label}
 use Rattle.normroom.specs.Room.{labelIn}
-use Rattle.normput.proofs.Laid.{counted-laid}
+use Rattle.normput.proofs.Laid.{section-laid}
 use Rattle.normput.proofs.put_labels.Statement.{statement}
 use Rattle.normput.proofs.put_labels.Tie as tie
 
@@ -74,7 +74,7 @@ same-length c = search needs
 returns : tie.Need-returns Inv-loop μ-loop
 returns c =
     sym (c .before .loop .inv .4 ∙ laid-none normalLabelBytes _ length-label _ _ (stands-done _ _ _ _ _ (omega arith)))
-    ∙ counted-laid normalLabelBytes _ _ _ _ _ (c .before .before .before .before .write-u32 .ensures) (length-stands _ _ _ _)
+    ∙ section-laid normalLabelBytes _ _ _ _ _ (c .before .before .before .before .write-u32 .ensures) (length-stands _ _ _ _)
 
 pub put-labels-spec : {M : Type 1} → statement M
 put-labels-spec =

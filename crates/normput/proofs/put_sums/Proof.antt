@@ -17,7 +17,7 @@ use mir.Syntax.{w64}
 use mir.ValLaws.{toZ-ofZ}
 use Rattle.normkinds.specs.Kinds.{sumBytes}
 use Rattle.normkinds.proofs.Records.{length-sum}
-use Rattle.normput.proofs.Laid.{counted-laid}
+use Rattle.normput.proofs.Laid.{section-laid}
 use Rattle.normput.proofs.put_sums.Statement.{statement}
 use Rattle.normput.proofs.put_sums.Tie as tie
 
@@ -80,7 +80,7 @@ unfolding rest
 returns c =
     let start = c .before .before .before .before .before .before .before .args in
     sym (c .before .loop .inv .3 ∙ laid-none sumBytes _ length-sum _ _ (rest-end (start .sums .now) (start .n) (c .before .loop .i) (omega arith)))
-    ∙ counted-laid sumBytes _ _ _ _ _ (c .before .before .before .before .write-u32 .ensures) (length-take-le _ _ (omega arith))
+    ∙ section-laid sumBytes _ _ _ _ _ (c .before .before .before .before .write-u32 .ensures) (length-take-le _ _ (omega arith))
 
 pub put-sums-spec : {M : Type 1} → statement M
 put-sums-spec =

@@ -5,13 +5,13 @@ use mathlib.Core.Path.{_≡_, sym, ap, _∙_}
 use native.Mathlib.Omega.{arith}
 use lib.ListN.{length, length-map}
 use Rattle.whole.specs.Answer.{given}
-use Rattle.refusal.proofs.Firsts.{first-none}
 use Rattle.heading.specs.Judge.{toldVerdict}
-use Rattle.state.specs.State.{State, stateOf, stateNumber}
-use Rattle.state.proofs.Rooms.{by-given, by-refused, Roomed, roomed}
+use Rattle.state.specs.State.{State, stateOf}
+use Rattle.state.proofs.Rooms.{by-given, by-refused, Roomed}
 use Rattle.normroom.specs.Room.{fileLong}
 use Rattle.section.proofs.Writing.{on-refused, on-short, on-written}
-use Rattle.normstate.specs.OfState.{stateBytes, fileNumber, fileOf, leftIn}
+use Rattle.normstate.specs.OfState.{stateBytes, heldNumber, fileNumber, fileOf, leftIn}
+use Rattle.normstate.proofs.Numbers.{held-sound}
 use Rattle.normstate.proofs.Laid.{state-long}
 use Rattle.normstate.proofs.of_state.Statement.{statement}
 use Rattle.normstate.proofs.of_state.Tie as tie
@@ -21,12 +21,11 @@ abbrev held : tie.Start → State
 held s = stateOf (s .args .matrix .now) (s .args .rights .now) (s .args .t)
 
 -- nothing is refused
-sound : (c : tie.After-enum-told) → let s = c .before .before .before .before in stateNumber (s .args .h) (held s) ≡ 0
-sound c = by-given _ (sym (ap toldVerdict (c .enum-told .given .1)) ∙ c .before .before .judge-state .ensures)
+sound : (c : tie.After-enum-told) → let s = c .before .before .before .before in heldNumber (s .args .h) (held s) ≡ 0
+sound c = by-given _ (sym (ap toldVerdict (c .enum-told .given .1)) ∙ c .before .before .judge-held .ensures)
 
 room : (c : tie.After-enum-told) → let s = c .before .before .before .before in Roomed (s .args .h) (s .args .matrix .now) (s .args .rights .now)
-unfolding stateNumber
-room c = roomed _ _ _ (first-none _ _ (sound c) .0)
+room c = held-sound _ (held (c .before .before .before .before)) (sound c) .room
 
 long : (c : tie.After-enum-told) → let s = c .before .before .before .before in length (stateBytes (s .args .h) (held s)) ≡ fileLong 1 (s .args .h .parameters)
 long c =
@@ -34,8 +33,8 @@ long c =
     let labels = simp length-map at (s .good .0 .1 .1 .1 .1 .1 .0 .1 .0 .1) in
     state-long (s .args .h) (held s) (omega (arith, room c .sound .few)) (room c .matrix) (room c .rights)
 
-judge-state-requires : tie.Need-judge-state-requires
-judge-state-requires c κs = search needs
+judge-held-requires : tie.Need-judge-held-requires
+judge-held-requires c κs = search needs
 
 enum-known-refusal : tie.Need-enum-known-refusal
 enum-known-refusal c = search needs
@@ -53,7 +52,7 @@ returns : tie.Need-returns
 unfolding fileOf fileNumber leftIn
 returns c =
     let s = c .before .before .before .before .before in
-    on-refused _ (stateBytes (s .args .h) (held s)) (s .args .out .now) (c .before .refusal .given .0 .0) (by-refused _ _ (sym (ap toldVerdict (c .before .refusal .given .1)) ∙ c .before .before .before .judge-state .ensures))
+    on-refused _ (stateBytes (s .args .h) (held s)) (s .args .out .now) (c .before .refusal .given .0 .0) (by-refused _ _ (sym (ap toldVerdict (c .before .refusal .given .1)) ∙ c .before .before .before .judge-held .ensures))
 
 returns-2 : tie.Need-returns-2
 unfolding fileOf fileNumber leftIn
@@ -75,7 +74,7 @@ pub of-state-spec : {M : Type 1} → statement M
 of-state-spec =
     tie.close
     (tie.spec
-    judge-state-requires
+    judge-held-requires
     enum-known-refusal
     enum-told
     needed-requires

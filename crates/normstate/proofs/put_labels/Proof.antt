@@ -16,7 +16,7 @@ use Rattle.limits.specs.Limits.{noLabel}
 use Rattle.heading.specs.Judge.{labelsOf}
 use Rattle.normkinds.specs.Kinds.{normalLabelBytes}
 use Rattle.normkinds.proofs.Records.{length-label}
-use Rattle.normput.proofs.Laid.{counted-laid}
+use Rattle.normput.proofs.Laid.{section-laid}
 use Rattle.normstate.proofs.Laid.{labels-long}
 use Rattle.normstate.specs.OfState.{labelOf}
 use Rattle.normstate.proofs.put_labels.Statement.{statement}
@@ -84,7 +84,7 @@ returns c =
     let h = c .before .before .before .before .before .before .before .before .args .t1 in
     let none = ap (map (labelOf (h .settings .arc))) (rest-end (h .labels) (h .parameters) (l .i) (omega arith)) in
     sym (l .inv .4 ∙ laid-none normalLabelBytes _ length-label _ _ none)
-    ∙ counted-laid normalLabelBytes _ _ _ _ _ (c .before .before .before .before .write-u32 .ensures) (labels-long h (omega (arith, l .inv .1)))
+    ∙ section-laid normalLabelBytes _ _ _ _ _ (c .before .before .before .before .write-u32 .ensures) (labels-long h (omega (arith, l .inv .1)))
 
 pub put-labels-spec : {M : Type 1} → statement M
 put-labels-spec =

@@ -17,11 +17,11 @@ few : (c : tie.Start) → Known _ _ _ _ _ _ (c .pre)
 few c = known _ _ _ _ _ _ (c .pre)
 
 -- the rooms' lengths, from the test
-room : (c : tie.Then1) → Roomy (c .before .before .before .before .args .arcs) (c .before .before .before .before .args .parameters) (length (c .before .before .before .before .args .heads .now)) (length (c .before .before .before .before .args .matrix .now)) (length (c .before .before .before .before .args .rights .now)) (few (c .before .before .before .before) .few-arcs) (few (c .before .before .before .before) .few)
-room c = roomy _ _ _ _ _ _ _ (sym (c .before .is-roomy .ensures) ∙ c .if1 .taken)
+room : (c : tie.Then1) → Roomy (c .before .before .before .before .args .arcs) (c .before .before .before .before .args .parameters) (length (c .before .before .before .before .args .heads .now)) (length (c .before .before .before .before .args .matrix .now)) (length (c .before .before .before .before .args .rights .now))
+room c = roomy _ _ _ _ _ (sym (c .before .is-roomy .ensures) ∙ c .if1 .taken)
 
 is-roomy-requires : tie.Need-is-roomy-requires
-is-roomy-requires c κs = search needs
+is-roomy-requires c κs = (few (c .before .before) .few-arcs, few (c .before .before) .few)
 
 fill-heads-requires : tie.Need-fill-heads-requires
 fill-heads-requires c κs = ((few (c .before .before .before .before .before) .labels-end, few (c .before .before .before .before .before) .totals-end), room (c .before) .heads-fit)

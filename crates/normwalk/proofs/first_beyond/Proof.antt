@@ -2,7 +2,7 @@
 -- Assumes nothing.
 use mathlib.Core.Path.{sym, ap, _∙_}
 use Rattle.normwalk.proofs.Wheres.{beyond-right, beyond-totals}
-use Rattle.normwalk.specs.Walk.{toldSearch}
+use Rattle.sums.specs.Found.{toldWalked}
 use borrow.Author.Needs.{needs}
 use Rattle.normwalk.proofs.first_beyond.Statement.{statement}
 use Rattle.normwalk.proofs.first_beyond.Tie as tie
@@ -23,10 +23,10 @@ judge-totals-requires : tie.Need-judge-totals-requires
 judge-totals-requires c κs = search needs
 
 returns : tie.Need-returns
-returns c = beyond-right _ _ _ _ _ _ _ (c .before .before .before .before .bound-of .ensures .0) _ (sym (c .before .before .before .first-side .ensures) ∙ ap toldSearch (c .before .k .given .1))
+returns c = beyond-right _ _ _ _ _ _ _ (c .before .before .before .before .bound-of .ensures .0) _ (sym (c .before .before .before .first-side .ensures) ∙ ap toldWalked (c .before .k .given .1))
 
 returns-2 : tie.Need-returns-2
-returns-2 c = c .judge-totals .ensures ∙ beyond-totals _ _ _ _ _ _ _ (c .before .before .before .before .bound-of .ensures .0) (sym (c .before .before .before .first-side .ensures) ∙ ap toldSearch (c .before .enum-told .given .1))
+returns-2 c = c .judge-totals .ensures ∙ beyond-totals _ _ _ _ _ _ _ (c .before .before .before .before .bound-of .ensures .0) (sym (c .before .before .before .first-side .ensures) ∙ ap toldWalked (c .before .enum-told .given .1))
 
 pub first-beyond-spec : {M : Type 1} → statement M
 first-beyond-spec =

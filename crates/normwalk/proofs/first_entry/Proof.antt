@@ -11,12 +11,11 @@ use native.Mathlib.Nat.{sub-zero}
 use lib.IntN.{pos}
 use Rattle.sums.specs.Triangle.{tri}
 use Rattle.sums.specs.Sound.{breaks}
+use Rattle.sums.specs.declared.Walked.the-variants.{Sound}
 use Rattle.sums.proofs.Places.{tri-next, tri-within}
-use Rattle.system.specs.System.{Found, at, firstFrom, columnsFrom}
-use Rattle.system.proofs.Firsts.{first-end, first-here, first-on, columns-end, columns-here, columns-on}
-use Rattle.normwalk.specs.declared.Search.the-variants.{Nowhere}
+use Rattle.sums.specs.Found.{Found, at, firstFrom, columnsFrom, toldWalked}
+use Rattle.sums.proofs.Found.{first-end, first-here, first-on, columns-end, columns-here, columns-on}
 use Rattle.normsum.specs.Sums.{sumsAt}
-use Rattle.normwalk.specs.Walk.{toldSearch}
 use Rattle.normwalk.proofs.first_entry.Statement.{statement}
 use Rattle.normwalk.proofs.first_entry.Tie as tie
 
@@ -34,7 +33,7 @@ abbrev μ-loop : tie.MeasureT-loop
 μ-loop s start p bound found₀ j i₀ found i = j + 1 - i
 
 abbrev Inv-all : tie.InvT-all
-Inv-all s start p bound found₀ j₀ found j = (j ≤ p) × (found ≡ Nowhere) × (columnsFrom (entries s start p bound) 0 p ≡ columnsFrom (entries s start p bound) j (p - j))
+Inv-all s start p bound found₀ j₀ found j = (j ≤ p) × (found ≡ Sound) × (columnsFrom (entries s start p bound) 0 p ≡ columnsFrom (entries s start p bound) j (p - j))
 
 abbrev μ-all : tie.MeasureT-all
 μ-all s start p bound found₀ j₀ found j = p - j
@@ -96,7 +95,7 @@ all-again c =
 returns : tie.Need-returns Inv-loop μ-loop Inv-all μ-all
 returns c =
     let w = c .before .all in
-    ap toldSearch (w .inv .1) ∙ sym (w .inv .2 ∙ columns-end _ _ (w .j) (omega arith))
+    ap toldWalked (w .inv .1) ∙ sym (w .inv .2 ∙ columns-end _ _ (w .j) (omega arith))
 
 returns-2 : tie.Need-returns-2 Inv-loop μ-loop Inv-all μ-all
 returns-2 c =

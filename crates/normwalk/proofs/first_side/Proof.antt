@@ -11,8 +11,8 @@ use lib.IntN.{pos}
 use Rattle.sums.specs.Triangle.{tri}
 use Rattle.sums.specs.Sound.{breaksSide}
 use Rattle.sums.proofs.Places.{tri-next, tri-within}
-use Rattle.system.specs.System.{firstFrom}
-use Rattle.system.proofs.Firsts.{first-end, first-here, first-on}
+use Rattle.sums.specs.Found.{firstFrom}
+use Rattle.sums.proofs.Found.{first-end, first-here, first-on}
 use Rattle.normsum.specs.Sums.{sumsAt}
 use Rattle.normwalk.proofs.first_side.Statement.{statement}
 use Rattle.normwalk.proofs.first_side.Tie as tie

@@ -2,7 +2,7 @@
 -- Assumes nothing.
 use mathlib.Core.Path.{sym, ap, _∙_}
 use Rattle.normwalk.proofs.Wheres.{unsound-matrix, unsound-beyond}
-use Rattle.normwalk.specs.Walk.{toldSearch}
+use Rattle.sums.specs.Found.{toldWalked}
 use borrow.Author.Needs.{needs}
 use Rattle.normwalk.proofs.first_unsound.Statement.{statement}
 use Rattle.normwalk.proofs.first_unsound.Tie as tie
@@ -33,12 +33,12 @@ first-beyond-requires c κs = search needs
 
 returns : tie.Need-returns
 returns c =
-    let found = sym (c .before .before .before .first-entry .ensures) ∙ ap toldSearch (c .before .k .given .1) in
+    let found = sym (c .before .before .before .first-entry .ensures) ∙ ap toldWalked (c .before .k .given .1) in
     unsound-matrix _ _ _ _ _ _ _ (c .before .before .before .before .before .read-u642 .result) _ (c .before .before .before .before .before .before .read-u64 .ensures) (c .before .before .before .before .before .read-u642 .ensures) (c .before .before .before .before .bound-of .ensures .0) _ found
 
 returns-2 : tie.Need-returns-2
 returns-2 c =
-    let none = sym (c .before .before .before .first-entry .ensures) ∙ ap toldSearch (c .before .enum-told .given .1) in
+    let none = sym (c .before .before .before .first-entry .ensures) ∙ ap toldWalked (c .before .enum-told .given .1) in
     c .first-beyond .ensures ∙ unsound-beyond _ _ _ _ _ _ _ _ _ (c .before .before .before .before .before .before .read-u64 .ensures) (c .before .before .before .before .before .read-u642 .ensures) (c .before .before .before .before .bound-of .ensures .0) none
 
 pub first-unsound-spec : {M : Type 1} → statement M

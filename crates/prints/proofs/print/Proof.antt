@@ -21,17 +21,23 @@ list-requires c κs = search needs
 enum-known-n : tie.Need-enum-known-n
 enum-known-n c = search needs
 
-slice-reshare-prefix-write-all : tie.Need-slice-reshare-prefix-write-all
-slice-reshare-prefix-write-all c = inside c
+slice-reshare-prefix-put : tie.Need-slice-reshare-prefix-put
+slice-reshare-prefix-put c = inside c
 
-slice-aggregate-write-all : tie.Need-slice-aggregate-write-all
-slice-aggregate-write-all c = simp length-take (omega (arith, inside (c .before)))
+slice-aggregate-put : tie.Need-slice-aggregate-put
+slice-aggregate-put c = simp length-take (omega (arith, inside (c .before)))
 
-write-all-requires : tie.Need-write-all-requires
-write-all-requires c κs = search needs
+put-requires : tie.Need-put-requires
+put-requires c κs = search needs
 
 enum-told : tie.Need-enum-told
 enum-told c = search needs
+
+slice-aggregate-write-all : tie.Need-slice-aggregate-write-all
+slice-aggregate-write-all c = search needs
+
+write-all-requires : tie.Need-write-all-requires
+write-all-requires c κs = search needs
 
 same-length : tie.Need-same-length
 same-length c = search needs
@@ -51,10 +57,12 @@ print-spec =
     (tie.spec
     list-requires
     enum-known-n
-    slice-reshare-prefix-write-all
+    slice-reshare-prefix-put
+    slice-aggregate-put
+    put-requires
+    enum-told
     slice-aggregate-write-all
     write-all-requires
-    enum-told
     same-length
     returns
     same-length-2

@@ -1,11 +1,12 @@
 -- `state::matrix_sound` meets its contract.
 -- Assumes nothing.
-use mathlib.Core.Path.{_≡_, sym, subst, _∙_}
+use mathlib.Core.Path.{_≡_, sym, ap, _∙_}
 use lib.IntN.{pos}
 use mir.Syntax.{w64}
 use mir.Val.{toZ, ofZ}
 use mir.ValLaws.{toZ-ofZ}
-use Rattle.sums.specs.Sound.{Right}
+use Rattle.sums.specs.Sound.{breaks}
+use Rattle.sums.specs.Found.{columnsFrom, toldWalked}
 use Rattle.sums.specs.declared.Walked.{Walked}
 use Rattle.sums.specs.declared.Walked.the-variants.{Sound, Unsound}
 use Rattle.state.specs.State.{matrixTop}
@@ -31,10 +32,11 @@ enum-told-2 : tie.Need-enum-told-2
 enum-told-2 c = search needs
 
 -- what the walk found, at the bound
-found : (c : tie.After-first-unsound) → let s = c .before .before in (w : Walked) → c .first-unsound .result ≡ w → Right (pos (matrixTop (s .args .n))) (s .args .matrix .now) (s .args .p) w
+found : (c : tie.After-first-unsound) → let s = c .before .before in (w : Walked) → c .first-unsound .result ≡ w
+    → columnsFrom (breaks (pos (matrixTop (s .args .n))) (s .args .matrix .now)) 0 (s .args .p) ≡ toldWalked w
 found c w e =
     let s = c .before .before in
-    subst (λ b. Right b (s .args .matrix .now) (s .args .p) w) (value (c .before)) (subst (λ v. Right (toZ w64 (ofZ w64 (c .before .bound-of .result))) (s .args .matrix .now) (s .args .p) v) e (c .first-unsound .ensures))
+    ap (λ b. columnsFrom (breaks b (s .args .matrix .now)) 0 (s .args .p)) (sym (value (c .before))) ∙ sym (c .first-unsound .ensures) ∙ ap toldWalked e
 
 returns : tie.Need-returns
 returns c = sym (matrix-pass _ _ _ (found (c .before .before) Sound (c .enum-told .given .1)))

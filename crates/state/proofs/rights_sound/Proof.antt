@@ -1,11 +1,12 @@
 -- `state::rights_sound` meets its contract.
 -- Assumes nothing.
-use mathlib.Core.Path.{_≡_, sym, subst, _∙_}
+use mathlib.Core.Path.{_≡_, sym, ap, _∙_}
 use lib.IntN.{pos}
 use mir.Syntax.{w64}
 use mir.Val.{toZ, ofZ}
 use mir.ValLaws.{toZ-ofZ}
-use Rattle.sums.specs.Sound.{RightSides}
+use Rattle.sums.specs.Sound.{breaksSide}
+use Rattle.sums.specs.Found.{firstFrom, toldWalked}
 use Rattle.sums.specs.declared.Walked.{Walked}
 use Rattle.sums.specs.declared.Walked.the-variants.{Sound, Unsound}
 use Rattle.state.specs.State.{rightTop}
@@ -31,10 +32,12 @@ enum-told-2 : tie.Need-enum-told-2
 enum-told-2 c = search needs
 
 -- what the walk found, at the bound
-found : (c : tie.After-first-broken-side) → let s = c .before .before in (w : Walked) → c .first-broken-side .result ≡ w → RightSides (pos (rightTop (s .args .n))) (s .args .matrix .now) (s .args .rights .now) (s .args .p) w
+found : (c : tie.After-first-broken-side) → let s = c .before .before in (w : Walked) → c .first-broken-side .result ≡ w
+    → firstFrom (breaksSide (pos (rightTop (s .args .n))) (s .args .matrix .now) (s .args .rights .now)) 0 (s .args .p) ≡ toldWalked w
 found c w e =
     let s = c .before .before in
-    subst (λ b. RightSides b (s .args .matrix .now) (s .args .rights .now) (s .args .p) w) (value (c .before)) (subst (λ v. RightSides (toZ w64 (ofZ w64 (c .before .bound-of .result))) (s .args .matrix .now) (s .args .rights .now) (s .args .p) v) e (c .first-broken-side .ensures))
+    ap (λ b. firstFrom (breaksSide b (s .args .matrix .now) (s .args .rights .now)) 0 (s .args .p)) (sym (value (c .before))) ∙ sym (c .first-broken-side .ensures)
+    ∙ ap toldWalked e
 
 returns : tie.Need-returns
 returns c = sym (rights-pass _ _ _ _ (found (c .before .before) Sound (c .enum-told .given .1)))

@@ -1,45 +1,57 @@
--- `state::seen` meets its contract: past the end of the slice an entry is 0.
+-- `state::seen` meets its contract: the state is judged, then the parameter's number, then its diagonal sum.
 -- Assumes nothing.
-use mathlib.Core.Path.{sym, ap, _∙_}
-use mathlib.Core.Bool.{not}
+use mathlib.Core.Path.{_≡_, sym, ap, _∙_}
 use native.Mathlib.Omega.{arith}
-use lib.IntN.{pos}
-use lib.ListN.{getD, List·getD-eq-default}
-use Rattle.whole.proofs.Cases.{holds, fails, is-less, not-less}
-use Rattle.sums.specs.Sound.{isZero}
-use Rattle.sums.proofs.Tests.{zero-bits}
-use Rattle.state.specs.State.{seenIn}
+use Rattle.sums.proofs.Places.{tri-next, tri-within}
+use Rattle.heading.specs.Judge.{toldVerdict}
+use Rattle.state.specs.State.{stateOf, stateNumber}
+use Rattle.state.proofs.Rooms.{by-given, by-refused, state-roomed, sight-judged, sight-none, sight-some}
 use borrow.Author.Needs.{needs}
 use Rattle.state.proofs.seen.Statement.{statement}
 use Rattle.state.proofs.seen.Tie as tie
 
-place-requires : tie.Need-place-requires
-place-requires c κs = search needs
+-- the state is accepted
+sound : (c : tie.After-enum-told) → let s = c .before .before .before .args in stateNumber (s .h) (stateOf (s .matrix .now) (s .rights .now) (s .t)) ≡ 0
+sound c = by-given _ (sym (ap toldVerdict (c .enum-told .given .1)) ∙ c .before .before .judge-state .ensures)
 
-mul-result : tie.Need-mul-result
-mul-result c = search needs
+judge-state-requires : tie.Need-judge-state-requires
+judge-state-requires c κs = search needs
 
-shared-slice-copy-out-result : tie.Need-shared-slice-copy-out-result
-shared-slice-copy-out-result c = search needs
+enum-known-refusal : tie.Need-enum-known-refusal
+enum-known-refusal c = search needs
+
+enum-told : tie.Need-enum-told
+enum-told c = search needs
+
+is-seen-requires : tie.Need-is-seen-requires
+is-seen-requires c κs =
+    let w = state-roomed _ _ (sound (c .before .before)) in
+    let i = c .before .before .before .before .before .args .i in
+    (omega (arith, w .sound .few), omega (arith, w .matrix, tri-next i, tri-within i _ (c .if1 .taken)))
 
 returns : tie.Need-returns
-unfolding seenIn
 returns c =
-    let m = c .before .before .before .before .args .matrix .now in
-    holds _ _ (is-less _ _ (omega arith))
-    (ap not (zero-bits (getD m (c .before .before .place .result) (pos 0)) (search needs) ∙ ap (λ k. isZero (getD m k (pos 0))) (c .before .before .place .ensures)))
+    sight-judged _ _ _ (c .before .refusal .given .0 .0)
+    (by-refused _ _ (sym (ap toldVerdict (c .before .refusal .given .1)) ∙ c .before .before .before .judge-state .ensures))
 
 returns-2 : tie.Need-returns-2
-unfolding seenIn
-returns-2 c =
-    let m = c .before .before .before .args .matrix .now in
-    holds _ _ (is-less _ _ (omega arith)) (ap (λ z. not (isZero z)) (sym (List·getD-eq-default m (pos 0) (omega (arith, c .before .place .ensures)))))
+returns-2 c = sight-some _ _ _ (sound (c .before .before .before .before)) (c .before .before .if1 .taken) _ (sym (c .if2 .taken) ∙ c .before .is-seen .ensures)
 
 returns-3 : tie.Need-returns-3
-unfolding seenIn
-returns-3 c = fails _ _ (not-less _ _ (omega arith))
+returns-3 c = sight-some _ _ _ (sound (c .before .before .before .before)) (c .before .before .if1 .taken) _ (sym (c .if2 .left) ∙ c .before .is-seen .ensures)
+
+returns-4 : tie.Need-returns-4
+returns-4 c = sight-none _ _ _ (sound (c .before .before)) (omega arith)
 
 pub seen-spec : {M : Type 1} → statement M
 seen-spec =
     tie.close
-    (tie.spec place-requires mul-result shared-slice-copy-out-result returns returns-2 returns-3)
+    (tie.spec
+    judge-state-requires
+    enum-known-refusal
+    enum-told
+    is-seen-requires
+    returns
+    returns-2
+    returns-3
+    returns-4)

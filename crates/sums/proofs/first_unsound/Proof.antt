@@ -1,45 +1,50 @@
--- `sums::first_unsound` meets its contract: each entry that was passed is sound, and the loops are left at the first that is not.
+-- `sums::first_unsound` meets its contract. The loops' invariants: the first of the columns left is the first of all, and the first of the rows
+-- left is the first of the column; the loops are left at the first entry that breaks.
 -- Assumes nothing.
-use mathlib.Core.Path.{_≡_, refl, sym, subst, _∙_}
-use mathlib.Core.Bool.{Bool, true, false}
-use mathlib.Core.Logic.{⊎-elim}
-use Prim.Native.Nat.{ℕ, _≤_, _<_, _+_, _-_}
-use native.Mathlib.Nat.{eq-or-lt-of-le, not-suc-le-zero}
+use mathlib.Core.Path.{_≡_, refl, sym, ap, _∙_}
+use mathlib.Core.Bool.{Bool}
+use mathlib.Core.List.{List}
+use Prim.Native.Nat.{ℕ, _≤_, _+_, _-_}
+use native.Mathlib.Nat.{sub-zero}
 use native.Mathlib.Omega.{arith}
-use borrow.Author.Count.{below-none, below-more}
+use lib.IntN.{ℤ}
 use mir.Syntax.{w64}
 use mir.Val.{toZ, ofZ}
 use mir.ValLaws.{toZ-ofZ}
 use Rattle.sums.specs.declared.Walked.the-variants.{Sound}
-use Rattle.sums.specs.Triangle.{tri}
-use Rattle.sums.specs.Sound.{breaks, Right}
-use Rattle.sums.proofs.Places.{tri-next, tri-within, earlier}
+use Rattle.sums.specs.Sound.{breaks}
+use Rattle.sums.specs.Found.{Found, at, firstFrom, columnsFrom, toldWalked}
+use Rattle.sums.proofs.Places.{tri-next, tri-within}
+use Rattle.sums.proofs.Found.{first-end, first-here, first-on, columns-end, columns-here, columns-on}
 use Rattle.sums.proofs.first_unsound.Statement.{statement}
 use Rattle.sums.proofs.first_unsound.Tie as tie
 
+-- the walk over a column from row i on, n rows
+abbrev column : List ℤ → ℕ → ℕ → ℕ → ℕ → Found
+column s bound j i n = firstFrom (λ v. breaks (toZ w64 bound) s v j) i n
+
 abbrev Inv-loop : tie.InvT-loop
-Inv-loop s p bound found₀ j i₀ found i = (i ≤ j + 1) × ((found ≡ found₀) × ((v : ℕ) → v < i → breaks (toZ w64 bound) s v j ≡ false))
+Inv-loop s p bound found₀ j i₀ found i = (i ≤ j + 1) × (found ≡ found₀) × (column s bound j 0 (j + 1) ≡ column s bound j i (j + 1 - i))
 
 abbrev μ-loop : tie.MeasureT-loop
 μ-loop s p bound found₀ j i₀ found i = j + 1 - i
 
 abbrev Inv-all : tie.InvT-all
-Inv-all s p bound found₀ j₀ found j = (j ≤ p) × ((found ≡ Sound) × ((v u : ℕ) → v ≤ u → u < j → breaks (toZ w64 bound) s v u ≡ false))
+Inv-all s p bound found₀ j₀ found j = (j ≤ p) × (found ≡ Sound) × (columnsFrom (breaks (toZ w64 bound) s) 0 p ≡ columnsFrom (breaks (toZ w64 bound) s) j (p - j))
 
 abbrev μ-all : tie.MeasureT-all
 μ-all s p bound found₀ j₀ found j = p - j
 
-plain : (s : tie.Start Inv-loop μ-loop Inv-all μ-all) (v u : ℕ) (t : Bool) → breaks (toZ w64 (ofZ w64 (s .args .bound))) (s .args .s .now) v u ≡ t → breaks (s .args .bound) (s .args .s .now) v u ≡ t
-plain s v u t e = rw (toZ-ofZ w64 (s .args .bound) (s .fits .bound)) at e
-
-le-of-lt-add-one : {m n : ℕ} → m < n + 1 → m ≤ n
-le-of-lt-add-one h = omega arith
+-- the walk at the bound's bits is the walk at the bound
+plain : (s : tie.Start Inv-loop μ-loop Inv-all μ-all)
+    → columnsFrom (breaks (toZ w64 (ofZ w64 (s .args .bound))) (s .args .s .now)) 0 (s .args .p) ≡ columnsFrom (breaks (s .args .bound) (s .args .s .now)) 0 (s .args .p)
+plain s = ap (λ b. columnsFrom (breaks b (s .args .s .now)) 0 (s .args .p)) (toZ-ofZ w64 (s .args .bound) (s .fits .bound))
 
 all-holds : tie.Need-all-holds Inv-loop μ-loop Inv-all μ-all
-all-holds c = (omega arith, (refl, λ v u h l. absurd (not-suc-le-zero l)))
+all-holds c = (omega arith, refl, rw sub-zero)
 
 loop-holds : tie.Need-loop-holds Inv-loop μ-loop Inv-all μ-all
-loop-holds c = (omega arith, (refl, below-none _))
+loop-holds c = (omega arith, refl, rw sub-zero)
 
 is-broken-requires : tie.Need-is-broken-requires Inv-loop μ-loop Inv-all μ-all
 is-broken-requires c κs =
@@ -59,7 +64,7 @@ loop-less c = omega arith
 loop-again : tie.Need-loop-again Inv-loop μ-loop Inv-all μ-all
 loop-again c =
     let l = c .before .before .before .loop in
-    (omega arith, (l .inv .1 .0, below-more _ (l .i) (l .inv .1 .1) (sym (c .before .is-broken .ensures) ∙ c .if1 .left)))
+    (omega arith, l .inv .1, l .inv .2 ∙ first-on _ _ (l .i) (omega arith) (sym (c .before .is-broken .ensures) ∙ c .if1 .left))
 
 add-j : tie.Need-add-j Inv-loop μ-loop Inv-all μ-all
 add-j c = omega arith
@@ -71,39 +76,19 @@ all-again : tie.Need-all-again Inv-loop μ-loop Inv-all μ-all
 all-again c =
     let l = c .before .loop in
     let a = c .before .before .before .all in
-    let s = c .before .before .before .before in (
-      omega arith,
-      (
-        l .inv .1 .0 ∙ a .inv .1 .0,
-        λ v u h k. ⊎-elim
-            (λ e. subst (λ m. breaks (toZ w64 (ofZ w64 (s .args .bound))) (s .args .s .now) v m ≡ false) (sym e) (l .inv .1 .1 v (omega arith)))
-            (λ lt. a .inv .1 .1 v u h (omega arith)) (eq-or-lt-of-le (le-of-lt-add-one k)),
-      ),
-    )
+    (omega arith, l .inv .1 ∙ a .inv .1, a .inv .2 ∙ columns-on _ _ (a .j) (omega arith) (l .inv .2 ∙ first-end _ _ (l .i) (omega arith)))
 
 returns : tie.Need-returns Inv-loop μ-loop Inv-all μ-all
 returns c =
     let a = c .before .all in
-    let s = c .before .before in
-    subst (λ r. Right (s .args .bound) (s .args .s .now) (s .args .p) r) (sym (a .inv .1 .0))
-    (λ v u h k. plain s v u false (a .inv .1 .1 v u h (omega arith)))
+    ap toldWalked (a .inv .1) ∙ sym (a .inv .2 ∙ columns-end _ _ (a .j) (omega arith)) ∙ plain (c .before .before)
 
 returns-2 : tie.Need-returns-2 Inv-loop μ-loop Inv-all μ-all
 returns-2 c =
     let l = c .before .before .before .before .loop in
     let a = c .before .before .before .before .before .before .all in
-    let s = c .before .before .before .before .before .before .before in
-    record {
-      row = l .i;
-      column = a .j;
-      upper = omega arith;
-      inside = omega arith;
-      place = c .place .ensures;
-      broken = plain s (l .i) (a .j) true (sym (c .before .before .is-broken .ensures) ∙ c .before .if1 .taken);
-      first = λ v u h k. plain s v u false (⊎-elim (λ lt. a .inv .1 .1 v u h lt)
-          (λ e. subst (λ m. breaks (toZ w64 (ofZ w64 (s .args .bound))) (s .args .s .now) v m ≡ false) (sym (e .0)) (l .inv .1 .1 v (e .1)))
-          (earlier v u (l .i) (a .j) h (omega arith) (subst (λ m. tri u + v < m) (c .place .ensures) k)));
-    }
+    let found = l .inv .2 ∙ first-here _ _ (l .i) (omega arith) (sym (c .before .before .is-broken .ensures) ∙ c .before .if1 .taken) in
+    ap at (c .place .ensures) ∙ sym (a .inv .2 ∙ columns-here _ _ (a .j) (omega arith) (l .i) found) ∙ plain (c .before .before .before .before .before .before .before)
 
 pub first-unsound-spec : {M : Type 1} → statement M
 first-unsound-spec =

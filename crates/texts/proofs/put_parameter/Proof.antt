@@ -1,7 +1,10 @@
 -- `texts::put_parameter` meets its contract, piece by piece.
 -- Assumes nothing.
+use mathlib.Core.Path.{ap}
+use mathlib.Core.Bool.{not}
 use mir.Syntax.{w64}
 use mir.ValLaws.{toZ-ofZ}
+use Rattle.sums.proofs.Tests.{zero-bits}
 use Rattle.texts.proofs.Laws.{parameter-laid}
 use borrow.Author.Needs.{needs}
 use Rattle.texts.proofs.put_parameter.Statement.{statement}
@@ -23,7 +26,7 @@ returns : tie.Need-returns
 returns c =
     let a = c .before .before .before .before .before .before .before .before .before .before .before .before .before .args in
     let f = c .before .before .before .before .before .before .before .before .before .before .before .before .before .fits in
-    parameter-laid _ _ _ _ (a .diagonal) (a .right) (toZ-ofZ w64 (a .diagonal) (f .diagonal)) (toZ-ofZ w64 (a .right) (f .right))
+    parameter-laid _ _ _ _ (a .diagonal) (a .right) (ap not (zero-bits (a .diagonal) (f .diagonal))) (toZ-ofZ w64 (a .diagonal) (f .diagonal)) (toZ-ofZ w64 (a .right) (f .right))
     (c .before .before .before .before .before .before .before .before .before .before .put-label .ensures) (c .before .before .before .before .before .before .put-seen .ensures) (c .before .before .put-sums .ensures)
 
 pub put-parameter-spec : {M : Type 1} → statement M

@@ -11,8 +11,9 @@ use Rattle.whole.specs.Lists.{rest}
 use Rattle.decimal.specs.Laid.{laid}
 use Rattle.heading.specs.Judge.{labelsOf}
 use Rattle.sums.proofs.Places.{tri-within}
+use Rattle.state.proofs.Rooms.{place-small}
 use Rattle.texts.specs.Lines.{parameterLines}
-use Rattle.texts.proofs.Laws.{place-small, row-laid, lines-turn, lines-end, parameters-turn, parameters-end}
+use Rattle.texts.proofs.Laws.{row-laid, lines-turn, lines-end, parameters-turn, parameters-end}
 use Rattle.texts.proofs.put_parameters.Statement.{statement}
 use Rattle.texts.proofs.put_parameters.Tie as tie
 
@@ -39,14 +40,11 @@ element-copy-out-l c = search needs
 place-requires : tie.Need-place-requires Inv-loop μ-loop
 place-requires c κs = search needs
 
-seen-requires : tie.Need-seen-requires Inv-loop μ-loop
-seen-requires c κs = search needs
-
 mul-put-parameter : tie.Need-mul-put-parameter Inv-loop μ-loop
-mul-put-parameter c = record { fits = omega (arith, c .before .before .place .ensures, place-small (c .before .before .before .before .before .loop .i) (omega arith)) }
+mul-put-parameter c = record { fits = omega (arith, c .before .place .ensures, place-small (c .before .before .before .before .loop .i) (omega arith)) }
 
 shared-slice-copy-out-put-parameter : tie.Need-shared-slice-copy-out-put-parameter Inv-loop μ-loop
-shared-slice-copy-out-put-parameter c = omega (arith, c .before .before .place .ensures, tri-within _ _ (c .before .before .before .before .loop-test .taken))
+shared-slice-copy-out-put-parameter c = omega (arith, c .before .place .ensures, tri-within _ _ (c .before .before .before .loop-test .taken))
 
 mul-put-parameter-2 : tie.Need-mul-put-parameter-2 Inv-loop μ-loop
 mul-put-parameter-2 c = search needs
@@ -66,9 +64,9 @@ loop-less c = search needs
 
 loop-again : tie.Need-loop-again Inv-loop μ-loop
 loop-again c =
-    let l = c .before .before .before .before .before .before .before .before .before .before .loop in
-    let a = c .before .before .before .before .before .before .before .before .before .before .before .before .args in
-    let line = row-laid (l .room) (l .at) _ (a .matrix .now) (a .rights .now) (l .i) (c .before .before .before .before .before .before .before .place .ensures) (c .before .before .before .before .before .seen .ensures)
+    let l = c .before .before .before .before .before .before .before .before .before .loop in
+    let a = c .before .before .before .before .before .before .before .before .before .before .before .args in
+    let line = row-laid (l .room) (l .at) _ (a .matrix .now) (a .rights .now) (l .i) (c .before .before .before .before .before .before .place .ensures)
     (toZ-ofZ w64 _ (search needs)) (toZ-ofZ w64 _ (search needs)) (c .before .before .put-parameter .ensures) in (
       search needs,
       search needs,
@@ -95,7 +93,6 @@ put-parameters-spec =
     mul-l
     element-copy-out-l
     place-requires
-    seen-requires
     mul-put-parameter
     shared-slice-copy-out-put-parameter
     mul-put-parameter-2

@@ -1,19 +1,19 @@
 -- `wheloruka::whl_of_state` meets its contract: the file with its length, or a refusal.
 -- Assumes nothing.
-use mathlib.Core.Path.{refl, sym, ap₂, _∙_}
+use mathlib.Core.Path.{_≡_, sym, ap₂, _∙_}
 use lib.ListN.{length, take}
 use lib.Seq.{length-take-le}
 use Rattle.state.specs.State.{stateOf}
 use Rattle.normstate.specs.OfState.{fileOf, leftIn}
 use Rattle.wheloruka.specs.Taking.{lent}
-use Rattle.wheloruka.specs.Writing.{stateFile, stateFileLeft}
-use Rattle.wheloruka.proofs.Writes.{gives, keeps, file-whole, left-whole, file-short, left-short, state-none}
+use Rattle.wheloruka.specs.Writing.{headedNumber, stateFile, stateFileLeft}
+use Rattle.wheloruka.proofs.Writes.{gives, keeps, file-whole, left-whole, file-headed, left-headed, state-none}
 use borrow.Author.Needs.{needs}
 use Rattle.wheloruka.proofs.whl_of_state.Statement.{statement}
 use Rattle.wheloruka.proofs.whl_of_state.Tie as tie
 
-has-both-requires : tie.Need-has-both-requires
-has-both-requires c κs = search needs
+judge-headed-requires : tie.Need-judge-headed-requires
+judge-headed-requires c κs = search needs
 
 heading-in-requires : tie.Need-heading-in-requires
 heading-in-requires c κs = search needs
@@ -49,23 +49,24 @@ returns c =
     let room = c .before .before .before .before .before .before .before .before .room-for .result in
     let h = c .before .before .before .before .before .before .before .before .before .before .heading-in .ensures in
     let t = c .before .before .before .before .before .before .before .before .before .tally-in .ensures in
-    let whole = sym (c .before .before .before .before .before .before .before .before .before .before .before .before .has-both .ensures) ∙ c .before .before .before .before .before .before .before .before .before .before .before .if1 .taken in
+    let whole = sym (c .before .before .before .before .before .before .before .before .before .before .before .before .judge-headed .ensures) ∙ c .before .before .before .before .before .before .before .before .before .before .before .if1 .taken in
     let told = c .before .before .before .before .before .before .of-state .ensures .0 ∙ ap₂ (λ h t. fileOf h (stateOf (a .matrix .now) (a .rights .now) t) (length (take room (a .out .now)))) h t ∙ file-whole _ x whole _ in
     let left = c .before .before .before .before .before .before .of-state .ensures .1 ∙ ap₂ (λ h t. leftIn h (stateOf (a .matrix .now) (a .rights .now) t) (take room (a .out .now))) h t ∙ left-whole _ x whole _ in
     gives (stateFile (a .heading .now) x) (stateFileLeft (a .heading .now) x) _ _ (state-none _ _) _ (c .before .before .before .before .before .before .before .before .room-for .ensures .0) _ told (c .before .before .give-written .ensures) left
 
 returns-2 : tie.Need-returns-2
 returns-2 c =
-    let e = sym (c .before .has-both .ensures) ∙ c .if1 .left in
     let a = c .before .before .before .before .before .before .args in
     let x = lent (a .tally .now) (a .matrix .now) (a .rights .now) in
-    keeps (stateFile (a .heading .now) x) (stateFileLeft (a .heading .now) x) (a .size .now) (a .out .now) _ (file-short _ x e _) refl (left-short _ x e _)
+    let is = c .before .judge-headed .ensures in
+    let some : headedNumber (a .heading .now) (a .tally .now) ≡ 0 → ⊥ = λ z. c .if1 .left (is ∙ z) in
+    keeps (stateFile (a .heading .now) x) (stateFileLeft (a .heading .now) x) (a .size .now) (a .out .now) _ (file-headed _ x some _) is (left-headed _ x some _)
 
 pub whl-of-state-spec : {M : Type 1} → statement M
 whl-of-state-spec =
     tie.close
     (tie.spec
-    has-both-requires
+    judge-headed-requires
     heading-in-requires
     tally-in-requires
     room-for-requires

@@ -1,22 +1,51 @@
--- `wheloruka::whl_seen` meets its contract.
+-- `wheloruka::whl_seen` meets its contract: 20 where the heading or the tally is short, else what the state's entry told.
 -- Assumes nothing.
-use mathlib.Core.Path.{refl, sym, _∙_}
-use Rattle.whole.proofs.Cases.{yes, no}
-use Rattle.wheloruka.specs.Taking.{seenNumber}
+use mathlib.Core.Path.{sym, ap₂, _∙_}
+use Rattle.state.specs.State.{stateOf, sightOf}
+use Rattle.wheloruka.proofs.Calls.{seen-short, seen-whole}
 use borrow.Author.Needs.{needs}
 use Rattle.wheloruka.proofs.whl_seen.Statement.{statement}
 use Rattle.wheloruka.proofs.whl_seen.Tie as tie
 
+has-both-requires : tie.Need-has-both-requires
+has-both-requires c κs = search needs
+
+heading-in-requires : tie.Need-heading-in-requires
+heading-in-requires c κs = search needs
+
+tally-in-requires : tie.Need-tally-in-requires
+tally-in-requires c κs = search needs
+
 seen-requires : tie.Need-seen-requires
 seen-requires c κs = search needs
 
+give-sight-requires : tie.Need-give-sight-requires
+give-sight-requires c κs = search needs
+
+same-length : tie.Need-same-length
+same-length c = search needs
+
 returns : tie.Need-returns
-unfolding seenNumber
-returns c = yes _ _ _ (sym (c .before .seen .ensures) ∙ c .if1 .taken) refl
+returns c =
+    let told = c .before .before .before in
+    let whole = c .before .before .before .before .before .before .before in
+    let a = whole .before .before .before .before .before .args in
+    seen-whole _ _ _ _ (sym (whole .before .has-both .ensures) ∙ whole .if1 .taken) _
+    (told .seen .ensures ∙ ap₂ (λ h t. sightOf h (stateOf (a .matrix .now) (a .rights .now) t) (a .parameter)) (told .before .before .before .heading-in .ensures) (told .before .before .tally-in .ensures))
+    (c .before .before .give-sight .ensures)
 
 returns-2 : tie.Need-returns-2
-unfolding seenNumber
-returns-2 c = no _ _ _ (sym (c .before .seen .ensures) ∙ c .if1 .left) refl
+returns-2 c = seen-short _ _ _ _ (sym (c .before .has-both .ensures) ∙ c .if1 .left)
 
 pub whl-seen-spec : {M : Type 1} → statement M
-whl-seen-spec = tie.close (tie.spec seen-requires returns returns-2)
+whl-seen-spec =
+    tie.close
+    (tie.spec
+    has-both-requires
+    heading-in-requires
+    tally-in-requires
+    seen-requires
+    give-sight-requires
+    same-length
+    returns
+    returns-2)
