@@ -9,11 +9,11 @@ set -e
 cd "$(dirname "$0")/.."
 kit=$(dirname "$(dirname "$(readlink -f "$(command -v rt)")")"); own=$kit/on/$(uname -m); tools=$own/toolchain; out=target/bench
 case ${2:-taking} in
-taking) crate=bench_taking; peer=peer; drive=drive; names='take_run take' ;;
-normal) crate=bench_normal; peer=normal_peer; drive=normal_drive; names='read merge' ;;
+taking) peer=peer; drive=drive; names='take_run take' ;;
+normal) peer=normal_peer; drive=normal_drive; names='read merge' ;;
 *) echo "usage: bench.sh [time | count] [taking | normal]" >&2; exit 2 ;;
 esac
-rt staticlib $crate >/dev/null
+rt staticlib bench >/dev/null
 mkdir -p $out
 cc="$tools/bin/clang --target=x86_64-unknown-linux-gnu -O3 -fPIE -nostdinc -Wall -Wno-unused-parameter"
 qemu=$tools/bin/qemu-x86_64; [ -x "$qemu" ] || qemu=
@@ -23,7 +23,7 @@ for f in $peer $drive; do $cc -c bench/$f.c -o $out/$f.o; done
 link() { # link PAD: the driver with so many bytes before the code
     printf '__asm__(".section .text.pad,\\"axR\\"\\n.skip %d, 0x90\\n");\n' "$1" >$out/pad.c
     $cc -c $out/pad.c -o $out/pad.o
-    "$own/bin/rattle-link" --target x86_64-unknown-linux-gnu --toolchain "$tools" -o $out/bench $out/$drive.o $out/$peer.o $out/pad.o target/staticlib/lib$crate.a >/dev/null 2>&1
+    "$own/bin/rattle-link" --target x86_64-unknown-linux-gnu --toolchain "$tools" -o $out/bench $out/$drive.o $out/$peer.o $out/pad.o target/staticlib/libbench.a >/dev/null 2>&1
 }
 
 instructions() { # instructions ARGS..: how many the driver executes, the loader's among them; a block is cleared by a loop, not by a string instruction whose every byte would count
@@ -55,7 +55,7 @@ time)
 count)
     link 0
     $qemu $run $out/bench same
-    if [ $crate = bench_taking ]; then
+    if [ $drive = drive ]; then
         for p in 1 6 20 50; do echo "$p $(each 4000 0 $p @ 4000) $(each 4000 1 $p @ 4000) $(each 400 2 $p @ 400) $(each 400 3 $p @ 400)"; done
     else
         for p in 50 200 500; do s=$((p * (p + 3) / 2)); echo "$p $(each $s 0 $p @) $(each $s 1 $p @) $(each $s 2 $p @) $(each $s 3 $p @)"; done

@@ -3,17 +3,17 @@
 use libc::STDIN_FILENO;
 
 fn run(file: &mut [u8], out: &mut [u8]) {
-    let got = files::load(STDIN_FILENO, file);
+    let got = desk_files::load(STDIN_FILENO, file);
     let n = got.length;
     if got.is_whole {
-        prints::print(&file[..n], out);
+        desk_print::print(&file[..n], out);
     } else {
         os::fail(b"standard input");
     }
 }
 
 fn main() {
-    let mut file = prints::file_room();
-    let mut out = prints::text_room();
+    let mut file = desk_print::file_room();
+    let mut out = desk_print::text_room();
     run(&mut file, &mut out);
 }

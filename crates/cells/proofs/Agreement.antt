@@ -5,9 +5,9 @@ use mathlib.Core.Path.{_≡_, sym, ap, _∙_}
 use mathlib.Core.Bool.{Bool, true}
 use mathlib.Core.List.{List}
 use lib.ListN.{length, getD}
-use Rattle.whole.specs.Tests.{both, same}
-use Rattle.whole.proofs.Cases.{both-first, both-second, same-true}
-use Rattle.whole.proofs.Tables.{every, every-at}
+use Rattle.num_whole.specs.Tests.{both, same}
+use Rattle.num_whole.proofs.Cases.{both-first, both-second, same-true}
+use Rattle.num_whole.proofs.Tables.{every, every-at}
 use Rattle.cells.specs.Cells.{isCell, cellIndex, cellOf}
 use Rattle.cells.specs.Table.{decoded}
 use Rattle.cells.proofs.Owners.{found}

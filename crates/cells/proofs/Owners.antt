@@ -6,9 +6,9 @@ use mathlib.Core.Path.{_≡_, refl, sym, ap, _∙_}
 use mathlib.Core.Bool.{true, not}
 use mathlib.Core.Logic.{_↔_}
 use native.Mathlib.Omega.{arith}
-use Rattle.whole.specs.Tests.{upTo}
-use Rattle.whole.specs.Answer.{given}
-use Rattle.whole.proofs.Cases.{apart, yes, no, holds, is-less, is-upTo, not-upTo, is-same, not-same, is-between, between-true, upTo-true, upTo-false, both-first, both-second, by-cases}
+use Rattle.num_whole.specs.Tests.{upTo}
+use Rattle.num_whole.specs.Answer.{given}
+use Rattle.num_whole.proofs.Cases.{apart, yes, no, holds, is-less, is-upTo, not-upTo, is-same, not-same, is-between, between-true, upTo-true, upTo-false, both-first, both-second, by-cases}
 use Rattle.cells.specs.declared.Letter.{Letter}
 use Rattle.cells.specs.declared.Letter.the-variants.{C, S}
 use Rattle.cells.specs.declared.Cell.{Cell}

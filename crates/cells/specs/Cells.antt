@@ -3,8 +3,8 @@
 -- Outside is refusal 4, "a cell field is out of its limits".
 use Prim.Native.Nat.{ℕ, _+_, _-_, _*_, _/_, _%_}
 use mathlib.Core.Bool.{Bool, not}
-use Rattle.whole.specs.Tests.{less, upTo, same, pick, both, between}
-use Rattle.whole.specs.Answer.{Answered, given, refused}
+use Rattle.num_whole.specs.Tests.{less, upTo, same, pick, both, between}
+use Rattle.num_whole.specs.Answer.{Answered, given, refused}
 use Rattle.refusal.specs.Number.{numberOf}
 use Rattle.cells.specs.declared.Letter.{Letter}
 use Rattle.cells.specs.declared.Letter.the-variants.{C, S}
@@ -22,16 +22,16 @@ unfoldable pub isCell : Cell → Bool
 isCell c = both (between 1 (c .degree) 30) (upTo (c .order) (c .degree))
 
 -- ---- the two index rules
-abbrev pub rowOf : Letter → ℕ → ℕ
-rowOf C n = n
-rowOf S n = 31 - n
+abbrev pub cellRow : Letter → ℕ → ℕ
+cellRow C n = n
+cellRow S n = 31 - n
 
-abbrev pub columnOf : Letter → ℕ → ℕ
-columnOf C m = m + 1
-columnOf S m = 33 - m
+abbrev pub cellColumn : Letter → ℕ → ℕ
+cellColumn C m = m + 1
+cellColumn S m = 33 - m
 
 unfoldable pub cellIndex : Cell → ℕ
-cellIndex c = 33 * (rowOf (c .letter) (c .degree) - 1) + (columnOf (c .letter) (c .order) - 1)
+cellIndex c = 33 * (cellRow (c .letter) (c .degree) - 1) + (cellColumn (c .letter) (c .order) - 1)
 
 unfoldable pub indexOf : Cell → Answered ℕ
 indexOf c = pick (isCell c) (given (cellIndex c)) (refused 4)

@@ -6,9 +6,9 @@ use mathlib.Core.Bool.{Bool, true, false, Bool·beq}
 use native.Mathlib.Nat.{add-sub-of-le, add-zero, add-suc, le-refl, le-trans}
 use native.Mathlib.Numerals.{add-one}
 use native.Mathlib.Omega.{arith}
-use Rattle.whole.specs.Tests.{less, same, pick, both, either, below}
-use Rattle.whole.proofs.Cases.{by-cases, same-true, same-false, less-true, less-false, is-between, between-true, holds, both-first, both-second}
-use Rattle.whole.proofs.Tables.{below-at}
+use Rattle.num_whole.specs.Tests.{less, same, pick, both, either, below}
+use Rattle.num_whole.proofs.Cases.{by-cases, same-true, same-false, less-true, less-false, is-between, between-true, holds, both-first, both-second}
+use Rattle.num_whole.proofs.Tables.{below-at}
 use Rattle.days.specs.Calendar.{leap, monthLength, daysOfMonths, daysOfYears, isDate, dayNumber}
 use Rattle.days.specs.declared.Date.{Date}
 

@@ -5,9 +5,9 @@ use Prim.Native.Nat.{ℕ, zero, suc, _+_, _-_, _≤_, _<_}
 use mathlib.Core.Path.{_≡_, refl, sym, ap, _∙_, subst}
 use mathlib.Core.Bool.{true}
 use native.Mathlib.Omega.{arith}
-use Rattle.whole.specs.Answer.{given}
-use Rattle.whole.specs.Tests.{less}
-use Rattle.whole.proofs.Cases.{by-cases, yes, no, is-between, less-true, less-false}
+use Rattle.num_whole.specs.Answer.{given}
+use Rattle.num_whole.specs.Tests.{less}
+use Rattle.num_whole.proofs.Cases.{by-cases, yes, no, is-between, less-true, less-false}
 use Rattle.days.specs.Calendar.{monthLength, daysOfMonths, daysOfYears, isDate, dayNumber, dayOfDate, dateOf, tomorrow, dateAfter, dateOfDay}
 use Rattle.days.specs.declared.Date.{Date}
 use Rattle.days.proofs.Calendar.{before, one-place, month-range, no-months, months-up, month-step, years-up, year-step, years-all, Real, real, is-date, past-years, within-years, number-range}

@@ -2,8 +2,8 @@
 -- outside. Both directions are public." Outside is refusal 4, "a calendar field is out of its limits".
 use Prim.Native.Nat.{ℕ, zero, suc, _+_, _-_, _%_}
 use mathlib.Core.Bool.{Bool, not}
-use Rattle.whole.specs.Tests.{less, same, pick, both, either, between}
-use Rattle.whole.specs.Answer.{Answered, given, refused}
+use Rattle.num_whole.specs.Tests.{less, same, pick, both, either, between}
+use Rattle.num_whole.specs.Answer.{Answered, given, refused}
 use Rattle.refusal.specs.Number.{numberOf}
 use Rattle.days.specs.declared.Date.{Date}
 use Rattle.days.specs.declared.DayAnswer.{DayAnswer}

@@ -1,3 +1,4 @@
+-- For the proofs of the code alone: no public promise and no law cites this, and an auditor may skip it.
 -- What the private functions promise each other.
 use Prim.Native.Nat.{ℕ, _+_, _-_, _≤_, _<_}
 use Rattle.days.specs.Calendar.{daysOfMonths, daysOfYears}

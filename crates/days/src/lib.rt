@@ -89,9 +89,9 @@ fn is_date(date: Date) -> bool
     let year = date.year;
     let month = date.month;
     let day = date.day;
-    if whole::within(1950, year as u64, 2099) {
-        if whole::within(1, month as u64, 12) {
-            whole::within(1, day as u64, month_length(year, month) as u64)
+    if num_whole::within(1950, year as u64, 2099) {
+        if num_whole::within(1, month as u64, 12) {
+            num_whole::within(1, day as u64, month_length(year, month) as u64)
         } else {
             false
         }
@@ -143,7 +143,7 @@ pub fn day_of_date(date: Date) -> DayAnswer
 pub fn date_of_day(number: u32) -> DateAnswer
     ensures { λ r. ⌜ toldDate r ≡ dateOfDay number ⌝ }
 {
-    if whole::within(1, number as u64, 54787) {
+    if num_whole::within(1, number as u64, 54787) {
         let year = year_of(number);
         let before = years_days(year - 1950);
         DateAnswer::Is(date_in_year(year, number - before))

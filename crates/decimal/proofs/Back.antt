@@ -11,9 +11,9 @@ use lib.IntN.{ℤ, pos, negsuc, natAbs}
 use lib.Signed.{ltZ}
 use lib.ListN.{length, getD, set, drop, drop-of-length-le}
 use lib.Seq.{drop-cons, getD-set-same, drop-set-lt, lt-length-set}
-use Rattle.whole.specs.Tests.{less, pick, between}
-use Rattle.whole.specs.Lists.{all}
-use Rattle.whole.proofs.Cases.{apart, by-cases, less-true, less-false, is-less, not-less, is-between, holds}
+use Rattle.num_whole.specs.Tests.{less, pick, between}
+use Rattle.num_whole.specs.Lists.{all}
+use Rattle.num_whole.proofs.Cases.{apart, by-cases, less-true, less-false, is-less, not-less, is-between, holds}
 use Rattle.decimal.specs.Decimal.{digitsOf, decimal, signedDecimal, numberBehind}
 
 -- ---- one digit, and more than one

@@ -6,10 +6,10 @@ use mathlib.Core.List.{List, [], _++_}
 use native.Mathlib.Omega.{arith}
 use lib.ListN.{length, getD, set, take, drop, length-append, length-drop, drop-of-length-le}
 use lib.Seq.{drop-cons, take-all}
-use Rattle.whole.specs.Tests.{less}
-use Rattle.whole.proofs.Cases.{by-cases, less-true, less-false}
-use Rattle.words.specs.Words.{lay}
-use Rattle.words.proofs.Words.{length-lay, lay-out, lay-append}
+use Rattle.num_whole.specs.Tests.{less}
+use Rattle.num_whole.proofs.Cases.{by-cases, less-true, less-false}
+use Rattle.byte_words.specs.Words.{lay}
+use Rattle.byte_words.proofs.Words.{length-lay, lay-out, lay-append}
 use Rattle.decimal.specs.Laid.{laid}
 
 -- ---- a piece after a piece

@@ -3,7 +3,7 @@
 use Prim.Native.Nat.{ℕ, zero, suc, _+_, _-_, _*_, _/_, _%_}
 use mathlib.Core.List.{List, [], _∷_}
 use lib.IntN.{ℤ, pos, negsuc}
-use Rattle.whole.specs.Tests.{less, pick}
+use Rattle.num_whole.specs.Tests.{less, pick}
 
 -- the digits of n before those that stand already, at most so many
 unfoldable pub digitsOf : ℕ → ℕ → List ℕ → List ℕ

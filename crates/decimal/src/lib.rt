@@ -9,7 +9,7 @@ ghost use Rattle.decimal.specs.Laid.{laid};
 fn after(at: usize, k: usize, end: usize) -> usize
     ensures { λ r. ⌜ r ≡ min (at + k) end ⌝ }
 {
-    if k < words::left(end, at) {
+    if k < byte_words::left(end, at) {
         at + k
     } else {
         end
@@ -20,7 +20,7 @@ fn after(at: usize, k: usize, end: usize) -> usize
 pub fn put_text(room: &mut [u8], at: usize, text: &[u8]) -> usize
     ensures { λ r. ⌜ (now (room .exit), r) ≡ laid (now (room .entry)) at (now (text .entry)) ⌝ }
 {
-    let n = whole::least(text.len(), words::left(room.len(), at));
+    let n = num_whole::least(text.len(), byte_words::left(room.len(), at));
     let mut i: usize = 0;
     while i < n {
         room[at + i] = text[i];
@@ -74,7 +74,7 @@ pub fn put_decimal(room: &mut [u8], at: usize, n: u64) -> usize
 pub fn put_signed(room: &mut [u8], at: usize, z: i64) -> usize
     ensures { λ r. ⌜ (now (room .exit), r) ≡ laid (now (room .entry)) at (signedDecimal z) ⌝ }
 {
-    let n = signs::magnitude(z);
+    let n = num_signs::magnitude(z);
     if z < 0 {
         let next = put_text(room, at, b"-");
         put_decimal(room, next, n)

@@ -3,6 +3,6 @@
 fn main() {
     let n = os::arg_count();
     if n > 0 {
-        desking::run(1, n - 1);
+        desk_commands::run(1, n - 1);
     }
 }

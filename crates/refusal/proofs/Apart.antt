@@ -4,10 +4,10 @@ use mathlib.Core.Path.{_≡_, refl, sym, ap, _∙_}
 use Prim.Native.Nat.{ℕ, _≤_}
 use native.Mathlib.Omega.{arith}
 use lib.Dec.{eqb}
-use Rattle.whole.specs.Tests.{pick}
+use Rattle.num_whole.specs.Tests.{pick}
 use Rattle.refusal.specs.Number.{numberOf}
 use Rattle.refusal.specs.declared.Refusal.{Refusal}
-use Rattle.refusal.specs.declared.Refusal.the-variants.{Short, Count, Surplus, Limits, Order, Unsound, NoStation, NoType, Sigma, Clock, Window, NotFinite, UnitLimits, NotLater, Edit, Full, Room, SharedArc, ManyArcs, ManyParameters, Unlike}
+use Rattle.refusal.specs.declared.Refusal.the-variants.{Short, Count, Surplus, Limits, Order, Unsound, NoStation, NoType, Sigma, Clock, Window, NotFinite, UnitLimits, NotLater, Edit, Full, Room, SharedArc, ManyArcs, ManyParameters, Unlike, Lacking, Early, NothingLeft, Closed, Falling}
 
 -- the case of a number
 caseOf : ℕ → Refusal
@@ -32,7 +32,12 @@ caseOf n =
     (pick (eqb n 21) SharedArc
     (pick (eqb n 22) ManyArcs
     (pick (eqb n 23) ManyParameters
-    Unlike)))))))))))))))))))
+    (pick (eqb n 24) Unlike
+    (pick (eqb n 25) Lacking
+    (pick (eqb n 26) Early
+    (pick (eqb n 27) NothingLeft
+    (pick (eqb n 28) Closed
+    Falling))))))))))))))))))))))))
 
 back : (r : Refusal) → caseOf (numberOf r) ≡ r
 unfolding caseOf pick
@@ -57,12 +62,17 @@ back SharedArc = refl
 back ManyArcs = refl
 back ManyParameters = refl
 back Unlike = refl
+back Lacking = refl
+back Early = refl
+back NothingLeft = refl
+back Closed = refl
+back Falling = refl
 
 pub apart : (r s : Refusal) → numberOf r ≡ numberOf s → r ≡ s
 apart r s e = sym (back r) ∙ ap caseOf e ∙ back s
 
--- a number is from 1 to 24
-pub spanned : (r : Refusal) → (1 ≤ numberOf r) × (numberOf r ≤ 24)
+-- a number is from 1 to 29
+pub spanned : (r : Refusal) → (1 ≤ numberOf r) × (numberOf r ≤ 29)
 spanned Short = (omega arith, omega arith)
 spanned Count = (omega arith, omega arith)
 spanned Surplus = (omega arith, omega arith)
@@ -84,11 +94,16 @@ spanned SharedArc = (omega arith, omega arith)
 spanned ManyArcs = (omega arith, omega arith)
 spanned ManyParameters = (omega arith, omega arith)
 spanned Unlike = (omega arith, omega arith)
+spanned Lacking = (omega arith, omega arith)
+spanned Early = (omega arith, omega arith)
+spanned NothingLeft = (omega arith, omega arith)
+spanned Closed = (omega arith, omega arith)
+spanned Falling = (omega arith, omega arith)
 
 pub some : (r : Refusal) → 1 ≤ numberOf r
 some r = spanned r .0
 
-pub few : (r : Refusal) → numberOf r ≤ 24
+pub few : (r : Refusal) → numberOf r ≤ 29
 few r = spanned r .1
 
 pub not-none : (r : Refusal) → numberOf r ≡ 0 → ⊥

@@ -4,9 +4,9 @@ use Prim.Native.Nat.{ℕ}
 use mathlib.Core.Path.{_≡_, refl, sym, ap, _∙_}
 use mathlib.Core.Bool.{Bool, true, false}
 use mathlib.Core.List.{List, [], _∷_}
-use Rattle.whole.specs.Tests.{same}
-use Rattle.whole.specs.Answer.{Answered, given, refused}
-use Rattle.whole.proofs.Cases.{yes, no, is-same, not-same, same-true, same-false, by-cases, refused-not}
+use Rattle.num_whole.specs.Tests.{same}
+use Rattle.num_whole.specs.Answer.{Answered, given, refused}
+use Rattle.num_whole.proofs.Cases.{yes, no, is-same, not-same, same-true, same-false, by-cases, refused-not}
 use Rattle.refusal.specs.Number.{numberOf}
 use Rattle.refusal.specs.declared.Refusal.{Refusal}
 use Rattle.refusal.proofs.Apart.{not-none}

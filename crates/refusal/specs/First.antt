@@ -3,8 +3,8 @@
 use Prim.Native.Nat.{ℕ}
 use mathlib.Core.Bool.{Bool}
 use mathlib.Core.List.{List, [], _∷_}
-use Rattle.whole.specs.Tests.{same, pick}
-use Rattle.whole.specs.Answer.{Answered, given, refused}
+use Rattle.num_whole.specs.Tests.{same, pick}
+use Rattle.num_whole.specs.Answer.{Answered, given, refused}
 
 -- the number where a test holds
 unfoldable pub when : ℕ → Bool → ℕ

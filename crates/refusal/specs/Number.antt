@@ -1,7 +1,7 @@
--- Document 01, 'Refusal numbers': the number of each case.
+-- Document 01, 'Refusal numbers', and the refusals of document 02's requests: the number of each case.
 use Prim.Native.Nat.{ℕ}
 use Rattle.refusal.specs.declared.Refusal.{Refusal}
-use Rattle.refusal.specs.declared.Refusal.the-variants.{Short, Count, Surplus, Limits, Order, Unsound, NoStation, NoType, Sigma, Clock, Window, NotFinite, UnitLimits, NotLater, Edit, Full, Room, SharedArc, ManyArcs, ManyParameters, Unlike}
+use Rattle.refusal.specs.declared.Refusal.the-variants.{Short, Count, Surplus, Limits, Order, Unsound, NoStation, NoType, Sigma, Clock, Window, NotFinite, UnitLimits, NotLater, Edit, Full, Room, SharedArc, ManyArcs, ManyParameters, Unlike, Lacking, Early, NothingLeft, Closed, Falling}
 
 abbrev pub numberOf : Refusal → ℕ
 numberOf Short = 1
@@ -25,3 +25,8 @@ numberOf SharedArc = 21
 numberOf ManyArcs = 22
 numberOf ManyParameters = 23
 numberOf Unlike = 24
+numberOf Lacking = 25
+numberOf Early = 26
+numberOf NothingLeft = 27
+numberOf Closed = 28
+numberOf Falling = 29

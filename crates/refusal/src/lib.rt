@@ -1,4 +1,4 @@
-// Document 01's refusal numbers: one enum, a case for each number of its table.
+// The papers' refusal numbers: one enum, a case for each number of document 01's table and of document 02's requests.
 ghost use mathlib.Core.Path.{_≡_};
 ghost use Rattle.refusal.specs.Number.{numberOf};
 
@@ -45,9 +45,26 @@ pub enum Refusal {
     ManyParameters,
     // a common label with unlike prior weight or estimate
     Unlike,
+    // from here on the numbers of requests that have not landed: nothing gives them yet
+    // a label or arc that the system lacks
+    Lacking,
+    // a system written before each arc that its join listed has been added
+    Early,
+    // no parameter is left
+    NothingLeft,
+    // a part or a finish after the file is over, or after a refusal in its form
+    Closed,
+    // a time earlier than the one before it in its run
+    Falling,
 }
 
-// The number of a refusal in the paper's table.
+// The judgement of a heading, a state or a system.
+pub enum Verdict {
+    Sound,
+    Refused(Refusal),
+}
+
+// The number of a refusal in the papers.
 pub fn number(r: Refusal) -> u32
     ensures { λ n. ⌜ n ≡ numberOf r ⌝ }
 {
@@ -73,5 +90,10 @@ pub fn number(r: Refusal) -> u32
         Refusal::ManyArcs => 22,
         Refusal::ManyParameters => 23,
         Refusal::Unlike => 24,
+        Refusal::Lacking => 25,
+        Refusal::Early => 26,
+        Refusal::NothingLeft => 27,
+        Refusal::Closed => 28,
+        Refusal::Falling => 29,
     }
 }

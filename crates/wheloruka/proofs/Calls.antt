@@ -7,28 +7,28 @@ use mathlib.Core.Bool.{Bool, true, false}
 use native.Mathlib.Omega.{arith}
 use lib.IntN.{ℤ}
 use lib.ListN.{length}
-use Rattle.whole.specs.Tests.{same}
-use Rattle.whole.specs.Answer.{Answered, given, refused}
-use Rattle.whole.proofs.Cases.{yes, no, is-same, not-same, same-true, same-false, by-cases}
-use Rattle.words.specs.Words.{lay}
+use Rattle.num_whole.specs.Tests.{same}
+use Rattle.num_whole.specs.Answer.{Answered, given, refused}
+use Rattle.num_whole.proofs.Cases.{yes, no, is-same, not-same, same-true, same-false, by-cases}
+use Rattle.byte_words.specs.Words.{lay}
 use Rattle.refusal.specs.Number.{numberOf}
 use Rattle.refusal.specs.First.{answered, numberIn}
 use Rattle.refusal.specs.declared.Refusal.{Refusal}
 use Rattle.refusal.proofs.Apart.{not-none}
 use Rattle.refusal.proofs.Firsts.{unless-true, unless-false, first-pass, first-stop, first-one, answered-given, answered-refused}
-use Rattle.heading.specs.declared.Heading.{Heading}
-use Rattle.tally.specs.Tally.{emptyTally}
-use Rattle.tally.specs.declared.Tally.{Tally}
-use Rattle.state.specs.State.{State, stateOf, roomNumber, started, sightOf}
-use Rattle.state.proofs.Rooms.{by-given, by-refused}
-use Rattle.account.specs.Taking.{takeAnswer, takeStep, runAnswers}
-use Rattle.lent.specs.Lent.{headingIn, hasBoth}
-use Rattle.lenttally.specs.Tally.{tallyBytes}
-use Rattle.section.specs.Told.{onDone}
-use Rattle.rooms.specs.Result.{resultNumber, resultLeft, told}
-use Rattle.rooms.proofs.Rooms.{as-refused}
-use Rattle.calling.specs.Taking.{seenNumbers}
-use Rattle.calling.proofs.Rooms.{is-done, is-kept}
+use Rattle.arc_heading.specs.declared.Heading.{Heading}
+use Rattle.take_tally.specs.Tally.{emptyTally}
+use Rattle.take_tally.specs.declared.Tally.{Tally}
+use Rattle.take_state.specs.State.{State, stateOf, roomNumber, started, sightOf}
+use Rattle.take_state.proofs.Rooms.{by-given, by-refused}
+use Rattle.take_laws.specs.Taking.{takeAnswer, takeStep, runAnswers}
+use Rattle.call_heading.specs.Lent.{headingIn, hasBoth}
+use Rattle.call_tally.specs.Tally.{tallyBytes}
+use Rattle.byte_section.specs.Told.{onDone}
+use Rattle.call_rooms.specs.Result.{resultNumber, resultLeft, toldValues}
+use Rattle.call_rooms.proofs.Rooms.{as-refused}
+use Rattle.call_files.specs.Taking.{seenNumbers}
+use Rattle.call_files.proofs.Rooms.{is-done, is-kept}
 use Rattle.wheloruka.specs.Taking.{Lent, lent, stateIn, lentNumber, callNumber, callLeft, answersLeft, seenValues}
 
 -- ---- any call: k is the number that follows
@@ -74,7 +74,7 @@ module _ (b : List ℕ) (x : Lent) (k : ℕ) where
           (is, ap₂ (λ y z. lent (x .tally) y z) f g ∙ left-kept (λ z. not-none e (sym i ∙ is ∙ z)))
 
 -- ---- a call that answers w: s is the state that it leaves, as it was where the number is not 0
-module _ (b : List ℕ) (x : Lent) (k : ℕ) (s : State) (whole : hasBoth b (x .tally) ≡ true) (w : Answered (Unit {0})) (told : w ≡ answered k tt)
+module _ (b : List ℕ) (x : Lent) (k : ℕ) (s : State) (whole : hasBoth b (x .tally) ≡ true) (w : Answered (Unit {0})) (toldValues : w ≡ answered k tt)
     (m r : List ℤ) (u : Tally) (after : stateOf m r u ≡ s) (as-it-was : (k ≡ 0 → ⊥) → s ≡ stateIn x)
   where
     pub gives : {n : ℕ} {t : List ℕ} → (n ≡ numberIn w) × (t ≡ onDone w (lay (x .tally) 0 (tallyBytes u)) (x .tally))
@@ -82,13 +82,13 @@ module _ (b : List ℕ) (x : Lent) (k : ℕ) (s : State) (whole : hasBoth b (x .
     gives put =
         by-cases (same k 0)
         (λ y.
-        let e : w ≡ given tt = told ∙ sym (answered-given k tt (same-true k 0 y)) in
+        let e : w ≡ given tt = toldValues ∙ sym (answered-given k tt (same-true k 0 y)) in
         let new = is-done w (lay (x .tally) 0 (tallyBytes u)) (x .tally) e refl in
-        let d = done b x k s whole m r _ u (put .1 ∙ sym (new .1)) (sym e ∙ told) after in
+        let d = done b x k s whole m r _ u (put .1 ∙ sym (new .1)) (sym e ∙ toldValues) after in
         (put .0 ∙ sym (new .0) ∙ d .0, d .1))
         (λ y.
         let some : k ≡ 0 → ⊥ = same-false k 0 y in
-        let e : w ≡ refused k = told ∙ sym (answered-refused k tt some) in
+        let e : w ≡ refused k = toldValues ∙ sym (answered-refused k tt some) in
         let old = is-kept w (lay (x .tally) 0 (tallyBytes u)) (x .tally) e refl in
         let back = after ∙ as-it-was some in
         let is = number-is b x k whole in
@@ -125,9 +125,9 @@ module _ (b : List ℕ) (x : Lent) (i : ℕ) (out : List ℕ) where
 
   -- w is what was told of the state
   pub seen-whole : hasBoth b (x .tally) ≡ true → (w : Answered Bool) → w ≡ sightOf (headingIn b) (stateIn x) i → {n : ℕ} {left : List ℕ}
-      → (n ≡ resultNumber (told seenNumbers w) (length out)) × (left ≡ resultLeft (told seenNumbers w) out)
+      → (n ≡ resultNumber (toldValues seenNumbers w) (length out)) × (left ≡ resultLeft (toldValues seenNumbers w) out)
       → (n ≡ resultNumber (seenValues b x i) (length out)) × (left ≡ resultLeft (seenValues b x i) out)
   unfolding seenValues
   seen-whole e w t put =
-      let is : told seenNumbers w ≡ seenValues b x i = yes _ _ _ e (ap (told seenNumbers) t) in
+      let is : toldValues seenNumbers w ≡ seenValues b x i = yes _ _ _ e (ap (toldValues seenNumbers) t) in
       (put .0 ∙ ap (λ v. resultNumber v (length out)) is, put .1 ∙ ap (λ v. resultLeft v out) is)

@@ -8,34 +8,34 @@ use mathlib.Core.Logic.{_↔_}
 use native.Mathlib.Omega.{arith}
 use lib.IntN.{pos}
 use lib.ListN.{length}
-use Rattle.whole.specs.Tests.{same, upTo, both}
-use Rattle.whole.specs.Lists.{Each}
-use Rattle.whole.proofs.Cases.{yes, no, is-same, same-true, same-false, by-cases, both-second, upTo-true}
-use Rattle.whole.proofs.Adding.{length-plus}
-use Rattle.words.specs.Words.{lay}
-use Rattle.words.proofs.Words.{length-lay}
+use Rattle.num_whole.specs.Tests.{same, upTo, both}
+use Rattle.num_whole.specs.Lists.{Each}
+use Rattle.num_whole.proofs.Cases.{yes, no, is-same, same-true, same-false, by-cases, both-second, upTo-true}
+use Rattle.num_whole.proofs.Adding.{length-plus}
+use Rattle.byte_words.specs.Words.{lay}
+use Rattle.byte_words.proofs.Words.{length-lay}
 use Rattle.refusal.proofs.Firsts.{unless-none, first-none}
-use Rattle.heading.specs.declared.Heading.{Heading}
-use Rattle.tally.specs.Tally.{emptyTally}
-use Rattle.state.specs.State.{State, stateOf, started, seenIn, roomNumber}
-use Rattle.account.specs.Machine.{run, answers}
-use Rattle.account.specs.Mix.{pairs, told, taken, toldTo}
-use Rattle.account.specs.Arc.{endOf, toldIn}
-use Rattle.account.specs.Order.{whose}
-use Rattle.account.specs.SumsOver.{partialOf, SumsOver}
-use Rattle.account.specs.Taking.{frameOf, book, recordStep, takeAnswer, takeStep, recordsIn, runNumber, runState}
-use Rattle.account.proofs.Kept.{length-cleared, step-keeps}
-use Rattle.account.proofs.Trace.{reached, run-append}
-use Rattle.account.proofs.Guarded.{Held, take-step, guarded-run, held-run, started-is, started-held}
-use Rattle.account.proofs.Runs.{run-state, run-told}
-use Rattle.account.proofs.Order.{order}
-use Rattle.account.proofs.SumsOver.{sums-over}
-use Rattle.account.proofs.Silence.{silence}
-use Rattle.state.proofs.Rooms.{roomed}
-use Rattle.taking.proofs.Answers.{state-left}
-use Rattle.lent.specs.Lent.{headingIn, hasHeading, hasBoth}
-use Rattle.lent.proofs.Back.{TallyFits, tally-stays}
-use Rattle.lenttally.specs.Tally.{tallyIn, tallyBytes, tallyLong, hasTally}
+use Rattle.arc_heading.specs.declared.Heading.{Heading}
+use Rattle.take_tally.specs.Tally.{emptyTally}
+use Rattle.take_state.specs.State.{State, stateOf, started, seenIn, roomNumber}
+use Rattle.take_laws.specs.Machine.{run, answers}
+use Rattle.take_laws.specs.Mix.{pairs, recordsTold, taken, toldTo}
+use Rattle.take_laws.specs.Arc.{endOf, toldIn}
+use Rattle.take_laws.specs.Order.{whose}
+use Rattle.take_laws.specs.SumsOver.{partialOf, SumsOver}
+use Rattle.take_laws.specs.Taking.{frameOf, book, recordStep, takeAnswer, takeStep, recordsIn, runNumber, runState}
+use Rattle.take_laws.proofs.Kept.{length-cleared, step-keeps}
+use Rattle.take_laws.proofs.Trace.{reached, run-append}
+use Rattle.take_laws.proofs.Guarded.{Held, take-step, guarded-run, held-run, started-is, started-held}
+use Rattle.take_laws.proofs.Runs.{run-state, run-told}
+use Rattle.take_laws.proofs.Order.{order}
+use Rattle.take_laws.proofs.SumsOver.{sums-over}
+use Rattle.take_laws.proofs.Silence.{silence}
+use Rattle.take_state.proofs.Rooms.{roomed}
+use Rattle.take.proofs.Answers.{state-left}
+use Rattle.call_heading.specs.Lent.{headingIn, hasHeading, hasBoth}
+use Rattle.call_heading.proofs.Back.{TallyFits, tally-stays}
+use Rattle.call_tally.specs.Tally.{tallyIn, tallyBytes, tallyLong, hasTally}
 use Rattle.wheloruka.specs.Taking.{Lent, lent, stateIn, lentNumber, callNumber, callLeft, startNumber, startLeft, takeLeft, runCallNumber, runLeft}
 use Rattle.wheloruka.specs.Sequence.{SameRooms, OneCall, Handed, single, several, handedLeft, handedIn, handedTold, ofEach, callsEnd, callsIn, callsTold, Sequence}
 use Rattle.wheloruka.proofs.Calls.{number-is, left-kept, take-kept, answers-whole}
@@ -155,7 +155,7 @@ module _ (b : List ℕ) (x : Lent) where
 
 -- ---- a machine's answers to one list after another
 told-append : {R S A : Type 0} (step : R → S → S) (ans : R → S → A) (s : S) (l m : List R)
-    → told step ans s (l ++ m) ≡ told step ans s l ++ told step ans (run step s l) m
+    → recordsTold step ans s (l ++ m) ≡ recordsTold step ans s l ++ recordsTold step ans (run step s l) m
 unfolding pairs answers run
 told-append step ans s [] m = refl
 told-append step ans s (r ∷ l) m = ap (λ x. (r, ans r s) ∷ x) (told-append step ans (step r s) l m)
@@ -204,7 +204,7 @@ module _ (b : List ℕ) (y : Lent) (p : Ready b y) where
       state-left h l (length out) (stateIn y) (λ z. same-false _ _ t (run-number l (length out) ∙ z))
       ∙ ap (run (takeStep h) (stateIn y)) (no _ _ _ t refl))
 
-  call-told : (c : Handed) → handedTold b c y ≡ told (takeStep h) (takeAnswer h) (stateIn y) (handedIn b c y)
+  call-told : (c : Handed) → handedTold b c y ≡ recordsTold (takeStep h) (takeAnswer h) (stateIn y) (handedIn b c y)
   unfolding handedTold handedIn pairs answers
   call-told (single r) = ap (λ k. (r, k) ∷ []) (number-is b y _ (p .whole))
   call-told (several l out) =
@@ -213,8 +213,8 @@ module _ (b : List ℕ) (y : Lent) (p : Ready b y) where
       sym (yes _ _ _ t refl)
       ∙ ap (pairs (recordsIn h l)) (sym (answers-whole b l out y (p .whole) _ refl))
       ∙ run-told h l (stateIn y) (p .held) out (sym (run-number l (length out)) ∙ same-true _ _ t)
-      ∙ ap (told (takeStep h) (takeAnswer h) (stateIn y)) (yes _ _ _ t refl))
-      (λ t. sym (no _ _ _ t refl) ∙ ap (told (takeStep h) (takeAnswer h) (stateIn y)) (no _ _ _ t refl))
+      ∙ ap (recordsTold (takeStep h) (takeAnswer h) (stateIn y)) (yes _ _ _ t refl))
+      (λ t. sym (no _ _ _ t refl) ∙ ap (recordsTold (takeStep h) (takeAnswer h) (stateIn y)) (no _ _ _ t refl))
 
   call-as-long : (c : Handed) → SameRooms (handedLeft b c y) y
   unfolding handedLeft
@@ -240,14 +240,14 @@ module _ (b : List ℕ) where
       ∙ sym (run-append (takeStep (headingIn b)) (stateIn y) (handedIn b c y) (ofEach b (handedIn b) (handedLeft b c y) cs))
 
   all-told : (cs : List Handed) (y : Lent) → Ready b y
-      → ofEach b (handedTold b) y cs ≡ told (takeStep (headingIn b)) (takeAnswer (headingIn b)) (stateIn y) (ofEach b (handedIn b) y cs)
+      → ofEach b (handedTold b) y cs ≡ recordsTold (takeStep (headingIn b)) (takeAnswer (headingIn b)) (stateIn y) (ofEach b (handedIn b) y cs)
   unfolding ofEach pairs
   all-told [] y p = refl
   all-told (c ∷ cs) y p =
       let on = handedLeft b c y in
       ap₂ (λ l m. l ++ m) (call-told b y p c)
       (all-told cs on (call-ready b y p c)
-      ∙ ap (λ s. told (takeStep (headingIn b)) (takeAnswer (headingIn b)) s (ofEach b (handedIn b) on cs)) (call-is b y p c))
+      ∙ ap (λ s. recordsTold (takeStep (headingIn b)) (takeAnswer (headingIn b)) s (ofEach b (handedIn b) on cs)) (call-is b y p c))
       ∙ sym (told-append (takeStep (headingIn b)) (takeAnswer (headingIn b)) (stateIn y) (handedIn b c y) (ofEach b (handedIn b) on cs))
 
   all-ready : (cs : List Handed) (y : Lent) → Ready b y → Ready b (run (handedLeft b) y cs) × SameRooms (run (handedLeft b) y cs) y
@@ -277,7 +277,7 @@ module _ (b : List ℕ) (x : Lent) (e : startNumber b x ≡ 0) where
   told-is : (cs : List Handed) → callsTold b x cs ≡ toldIn (headingIn b) (x .matrix) (x .rights) (callsIn b x cs)
   told-is cs =
       all-told b cs (startLeft b x) ready-start
-      ∙ ap (λ s. told (takeStep (headingIn b)) (takeAnswer (headingIn b)) s (callsIn b x cs)) (start-state b x e)
+      ∙ ap (λ s. recordsTold (takeStep (headingIn b)) (takeAnswer (headingIn b)) s (callsIn b x cs)) (start-state b x e)
 
   -- "so that the laws of demands 2 and 3 hold": each by those two equations
   pub sequence : Sequence b x

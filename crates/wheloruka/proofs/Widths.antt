@@ -10,28 +10,28 @@ use borrow.Author.Tests.{ltb-true}
 use lib.Dec.{leb}
 use lib.IntN.{pos}
 use lib.ListN.{length, getD, set, replicate, length-set}
-use Rattle.whole.specs.Lists.{Each}
-use Rattle.whole.proofs.Cases.{apart, yes, no, is-same, same-true, by-cases, both-second, upTo-true}
-use Rattle.whole.specs.Tests.{same}
-use Rattle.words.specs.Words.{word}
-use Rattle.words.specs.Stands.{stands}
-use Rattle.words.proofs.Words.{Bytes, word-small}
-use Rattle.words.proofs.Stands.{length-stands}
+use Rattle.num_whole.specs.Lists.{Each}
+use Rattle.num_whole.proofs.Cases.{apart, yes, no, is-same, same-true, by-cases, both-second, upTo-true}
+use Rattle.num_whole.specs.Tests.{same}
+use Rattle.byte_words.specs.Words.{word}
+use Rattle.byte_words.specs.Stands.{stands}
+use Rattle.byte_words.proofs.Words.{Bytes, word-small}
+use Rattle.byte_words.proofs.Stands.{length-stands}
 use Rattle.refusal.proofs.Firsts.{first-none}
-use Rattle.rules.specs.Rules.{inWindow, dayLength}
-use Rattle.limits.specs.Limits.{windowOk, settingsOk}
-use Rattle.heading.specs.declared.Heading.{Heading}
-use Rattle.heading.proofs.Sound.{Sound}
-use Rattle.tally.specs.Tally.{noRow, lastTimes, tallyWith, emptyTally}
-use Rattle.state.specs.State.{State, stateNumber}
-use Rattle.account.specs.Machine.{run}
-use Rattle.account.specs.Taking.{frameOf, placeOf, columnOf, stamp, book, recordAnswer, recordStep, takeAnswer, takeStep, recordsIn, runNumber, runState}
-use Rattle.account.proofs.Accepted.{Fits, accepted-in, terms}
-use Rattle.account.proofs.Kept.{square-fits, step-keeps}
-use Rattle.account.proofs.Guarded.{Held, whole, fine, numbers-few, held-heading, held-step, take-step}
-use Rattle.account.proofs.Trace.{reached}
-use Rattle.lenttally.specs.Tally.{rowAt, tallyIn}
-use Rattle.lent.proofs.Back.{RowFits, TallyFits}
+use Rattle.take_rules.specs.Rules.{inWindow, dayLength}
+use Rattle.arc_limits.specs.Limits.{windowOk, settingsOk}
+use Rattle.arc_heading.specs.declared.Heading.{Heading}
+use Rattle.arc_heading.proofs.Sound.{Sound}
+use Rattle.take_tally.specs.Tally.{noRow, lastTimes, tallyWith, emptyTally}
+use Rattle.take_state.specs.State.{State, stateNumber}
+use Rattle.take_laws.specs.Machine.{run}
+use Rattle.take_laws.specs.Taking.{frameOf, stationRow, typeColumn, stamp, book, recordAnswer, recordStep, takeAnswer, takeStep, recordsIn, runNumber, runState}
+use Rattle.take_laws.proofs.Accepted.{Fits, accepted-in, terms}
+use Rattle.take_laws.proofs.Kept.{square-fits, step-keeps}
+use Rattle.take_laws.proofs.Guarded.{Held, whole, fine, numbers-few, held-heading, held-step, take-step}
+use Rattle.take_laws.proofs.Trace.{reached}
+use Rattle.call_tally.specs.Tally.{timesRowAt, tallyIn}
+use Rattle.call_heading.proofs.Back.{RowFits, TallyFits}
 
 -- ---- lists in which something holds of each
 module _ {A : Type 0} (P : A → Type 0) where
@@ -56,13 +56,13 @@ module _ {A : Type 0} (P : A → Type 0) where
 
 -- ---- the tally in a room of bytes, and the empty one
 pub bytes-fit : (b : List ℕ) → Bytes b → TallyFits (tallyIn b)
-unfolding tallyIn rowAt
+unfolding tallyIn timesRowAt
 bytes-fit b h = record {
   square = word-small 8 b 0 h;
   counted = length-stands (word 4 b) 4 16 8;
   counts = each-stands (λ n. n < 256 ^ 4) (word 4 b) 4 (λ at. word-small 4 b at h) 16 8;
-  seats = length-stands (rowAt b) 80 16 72;
-  rows = each-stands RowFits (rowAt b) 80 (λ at. record {
+  seats = length-stands (timesRowAt b) 80 16 72;
+  rows = each-stands RowFits (timesRowAt b) 80 (λ at. record {
     long = length-stands (word 8 b) 8 10 at;
     times = each-stands (λ n. n < 256 ^ 8) (word 8 b) 8 (λ k. word-small 8 b k h) 10 at;
   }) 16 72;
@@ -105,16 +105,16 @@ module _ (h : Heading) (b : List ℕ) (s : State) (v : Held h s) (fit : TallyFit
       let ok = accepted-in f b s e in
       let big = terms f b _ _ (fine h heading .level) ok in
       let square = square-fits _ (h .parameters) s (whole h s (v .number) .state) (v .counts) in
-      let row : placeOf f b < length (t .rows) = omega (arith, ok .fits .row, numbers-few h, heading .seats, fit .seats) in
-      let was = each-at RowFits (t .rows) (placeOf f b) noRow row (fit .rows) in
+      let row : stationRow f b < length (t .rows) = omega (arith, ok .fits .row, numbers-few h, heading .seats, fit .seats) in
+      let was = each-at RowFits (t .rows) (stationRow f b) noRow row (fit .rows) in
       record {
         square = omega (arith, big .square);
         counted = rw length-set (fit .counted);
-        counts = each-set (λ n. n < 256 ^ 4) (t .counts) (placeOf f b) _ (fit .counts) (omega (arith, ok .seat));
+        counts = each-set (λ n. n < 256 ^ 4) (t .counts) (stationRow f b) _ (fit .counts) (omega (arith, ok .seat));
         seats = rw length-set (fit .seats);
-        rows = each-set RowFits (t .rows) (placeOf f b) _ (fit .rows) (record {
+        rows = each-set RowFits (t .rows) (stationRow f b) _ (fit .rows) (record {
           long = rw length-set (was .long);
-          times = each-set (λ n. n < 256 ^ 8) (lastTimes t (placeOf f b) .times) (columnOf b) (stamp f b) (was .times) (stamp-small h heading b (ok .fits));
+          times = each-set (λ n. n < 256 ^ 8) (lastTimes t (stationRow f b) .times) (typeColumn b) (stamp f b) (was .times) (stamp-small h heading b (ok .fits));
         });
       }
 

@@ -6,34 +6,34 @@ use mathlib.Core.List.{List, [], _++_}
 use mathlib.Core.Bool.{true, false}
 use lib.IntN.{ℤ}
 use lib.ListN.{length, take, drop}
-use Rattle.whole.specs.Tests.{less, pick}
-use Rattle.whole.specs.Answer.{Answered, given, refused, Judged, good, bad}
-use Rattle.whole.proofs.Cases.{yes, no, by-cases}
+use Rattle.num_whole.specs.Tests.{less, pick}
+use Rattle.num_whole.specs.Answer.{Answered, given, refused, Judged, good, bad}
+use Rattle.num_whole.proofs.Cases.{yes, no, by-cases}
 use Rattle.refusal.specs.Number.{numberOf}
 use Rattle.refusal.specs.declared.Refusal.{Refusal}
 use Rattle.refusal.specs.declared.Refusal.the-variants.{Room}
 use Rattle.refusal.proofs.Firsts.{unless-true, unless-false, first-pass, first-stop, first-none, first-none-left, first-by, number-given, number-refused, answered-refused}
-use Rattle.section.specs.Writing.{writingNumber, written, writtenIn}
-use Rattle.heading.specs.Judge.{judged}
-use Rattle.system.specs.System.{System}
-use Rattle.normread.specs.Normal as normals
-use Rattle.normread.specs.Normal.{Normal, readNormal}
-use Rattle.rooms.specs.Result.{resultNumber, resultLeft, told, one, roomFor, bytesLeft}
-use Rattle.rooms.proofs.Rooms.{on-refused, part-long, part-left}
-use Rattle.section.proofs.Writing.{left-old, none-laid}
-use Rattle.lent.specs.Lent.{headingIn, headNumber}
-use Rattle.lenttally.specs.Tally.{hasTally}
-use Rattle.normwrite.specs.Write as write
-use Rattle.normstate.specs.OfState as state
-use Rattle.normmerge.specs.Files.{fromFile, pairLeft, mergeLeft}
-use Rattle.listing.specs.Listing.{listLeft}
+use Rattle.byte_section.specs.Writing.{writingNumber, written, writtenIn}
+use Rattle.arc_heading.specs.Judge.{judged}
+use Rattle.norm_system.specs.System.{System}
+use Rattle.norm_read.specs.Normal as normals
+use Rattle.norm_read.specs.Normal.{Normal, readNormal}
+use Rattle.call_rooms.specs.Result.{resultNumber, resultLeft, toldValues, one, roomFor, bytesLeft}
+use Rattle.call_rooms.proofs.Rooms.{on-refused, part-long, part-left}
+use Rattle.byte_section.proofs.Writing.{left-old, none-laid}
+use Rattle.call_heading.specs.Lent.{headingIn, headNumber}
+use Rattle.call_tally.specs.Tally.{hasTally}
+use Rattle.norm_write.specs.Write as write
+use Rattle.norm_state.specs.OfState as state
+use Rattle.merge.specs.Files.{fromFile, pairLeft, mergeLeft}
+use Rattle.list.specs.Listing.{listLeft}
 use Rattle.wheloruka.specs.Taking.{Lent, stateIn}
-use Rattle.calling.specs.Reading.{judgedNumber}
+use Rattle.call_files.specs.Reading.{judgedNumber}
 use Rattle.wheloruka.specs.Writing.{headedNumber, stateFileNumber, stateFile, stateFileLeft}
 use Rattle.wheloruka.proofs.Numbers.{as-told}
 
 -- ---- a file that was unpacked
-pub judged-number : (j : Judged Normal) (r : normals.Shown) → r ≡ normals.shown j → judgedNumber (r .verdict) ≡ judgedNumber j
+pub judged-number : (j : Judged Normal) (r : normals.ShownNormal) → r ≡ normals.shownNormal j → judgedNumber (r .verdict) ≡ judgedNumber j
 unfolding judgedNumber
 judged-number (good x) r told = ap (λ x. judgedNumber (x .verdict)) told
 judged-number (bad number place) r told = ap (λ x. judgedNumber (x .verdict)) told
@@ -42,8 +42,8 @@ judged-number (bad number place) r told = ap (λ x. judgedNumber (x .verdict)) t
 module _ (answer : ℕ → Answered ℕ) (left : List ℕ → List ℕ) (size out : List ℕ) where
   abbrev Done : ℕ → List ℕ → List ℕ → Type 0
   Done k s b =
-      (k ≡ resultNumber (told one (answer (roomFor (length size) (length out)))) (length size))
-      × ((s ≡ resultLeft (told one (answer (roomFor (length size) (length out)))) size)
+      (k ≡ resultNumber (toldValues one (answer (roomFor (length size) (length out)))) (length size))
+      × ((s ≡ resultLeft (toldValues one (answer (roomFor (length size) (length out)))) size)
       × (b ≡ bytesLeft (length size) left out))
 
   -- a part of the room is handed on
@@ -55,7 +55,7 @@ module _ (answer : ℕ → Answered ℕ) (left : List ℕ → List ℕ) (size ou
     bytes e = ap (λ l. l ++ drop room out) e ∙ ap (λ k. left (take k out) ++ drop k out) is ∙ part-left (length size) out left none
 
     pub gives : (w : Answered ℕ) {k : ℕ} {s b : List ℕ} → w ≡ answer (length (take room out))
-        → (k ≡ resultNumber (told one w) (length size)) × (s ≡ resultLeft (told one w) size) → b ≡ left (take room out) → Done k s (b ++ drop room out)
+        → (k ≡ resultNumber (toldValues one w) (length size)) × (s ≡ resultLeft (toldValues one w) size) → b ≡ left (take room out) → Done k s (b ++ drop room out)
     gives w e put f = let p = as-told one (e ∙ at-part) size put in (p .0, (p .1, bytes f))
 
   -- nothing is handed on
@@ -67,8 +67,8 @@ module _ (answer : ℕ → Answered ℕ) (left : List ℕ → List ℕ) (size ou
       (d .0, (d .1, same))
 
 -- ---- an empty room stays so
-pub write-none : (a p : ℕ) (h : List ℕ) (m r : List ℤ) → write.leftIn a p h m r [] ≡ []
-unfolding write.leftIn
+pub write-none : (a p : ℕ) (h : List ℕ) (m r : List ℤ) → write.normalLeftIn a p h m r [] ≡ []
+unfolding write.normalLeftIn
 write-none a p h m r = none-laid _ _
 
 from-none : (j : Judged Normal) (f : System → List ℕ) → ((x : System) → f x ≡ []) → fromFile j (λ number place. []) f ≡ []
@@ -116,8 +116,8 @@ module _ (b : List ℕ) (x : Lent) where
     unfolding stateFile state.fileOf
     file-whole room = ap (λ k. written k (state.stateBytes (headingIn b) (stateIn x)) room) number-whole
 
-    pub left-whole : (out : List ℕ) → state.leftIn (headingIn b) (stateIn x) out ≡ stateFileLeft b x out
-    unfolding stateFileLeft state.leftIn
+    pub left-whole : (out : List ℕ) → state.stateLeftIn (headingIn b) (stateIn x) out ≡ stateFileLeft b x out
+    unfolding stateFileLeft state.stateLeftIn
     left-whole out = ap (λ k. writtenIn k (state.stateBytes (headingIn b) (stateIn x)) out) number-whole
 
   module _ (some : headedNumber b (x .tally) ≡ 0 → ⊥) where

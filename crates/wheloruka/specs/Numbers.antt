@@ -3,34 +3,34 @@ use Prim.Native.Nat.{ℕ}
 use mathlib.Core.List.{List}
 use lib.IntN.{ℤ}
 use lib.Ieee.{Float}
-use Rattle.whole.specs.Answer.{Answered}
-use Rattle.rooms.specs.Result.{told, one}
+use Rattle.num_whole.specs.Answer.{Answered}
+use Rattle.call_rooms.specs.Result.{toldValues, one}
 use Rattle.days.specs.Calendar.{dateOf, dayOfDate, dateOfDay}
 use Rattle.cells.specs.Cells.{cellAt}
-use Rattle.units.specs.Units.{unitOf, doubleOf}
-use Rattle.giving.specs.Given.{dateNumbers, cellNumbers, indexBy, residualAs}
+use Rattle.unit_convert.specs.Units.{unitOf, doubleOf}
+use Rattle.call_numbers.specs.Given.{dateNumbers, cellNumbers, indexBy, residualAs}
 
 -- ---- days
 unfoldable pub dayValues : ℕ → ℕ → ℕ → Answered (List ℕ)
-dayValues year month day = told one (dayOfDate (dateOf year month day))
+dayValues year month day = toldValues one (dayOfDate (dateOf year month day))
 
 unfoldable pub dateValues : ℕ → Answered (List ℕ)
-dateValues day = told dateNumbers (dateOfDay day)
+dateValues day = toldValues dateNumbers (dateOfDay day)
 
 -- ---- cells
 unfoldable pub cellValues : ℕ → Answered (List ℕ)
-cellValues index = told cellNumbers (cellAt index)
+cellValues index = toldValues cellNumbers (cellAt index)
 
 unfoldable pub indexValues : ℕ → ℕ → ℕ → Answered (List ℕ)
-indexValues letter degree order = told one (indexBy letter degree order)
+indexValues letter degree order = toldValues one (indexBy letter degree order)
 
 -- ---- units
 unfoldable pub unitValues : ℕ → Float → Answered (List ℤ)
-unitValues kind x = told one (unitOf kind x)
+unitValues kind x = toldValues one (unitOf kind x)
 
 unfoldable pub doubleValues : ℕ → ℤ → Answered (List Float)
-doubleValues kind q = told one (doubleOf kind q)
+doubleValues kind q = toldValues one (doubleOf kind q)
 
 -- ---- residuals
 unfoldable pub residualValues : ℕ → Float → Float → Answered (List ℤ)
-residualValues kind observed computed = told one (residualAs kind observed computed)
+residualValues kind observed computed = toldValues one (residualAs kind observed computed)

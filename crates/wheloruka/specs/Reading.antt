@@ -2,8 +2,8 @@
 use Prim.Native.Nat.{ℕ}
 use mathlib.Core.List.{List, [], _∷_}
 use lib.ListN.{length}
-use Rattle.whole.specs.Answer.{Answered, given, refused, Judged, good, bad}
-use Rattle.normread.specs.Normal.{Normal}
+use Rattle.num_whole.specs.Answer.{Answered, given, refused, Judged, good, bad}
+use Rattle.norm_read.specs.Normal.{Normal}
 
 -- ---- a normal file: its numbers of arcs and parameters, and where the matrix sums, the right sides and the totals begin
 unfoldable pub normalValues : Judged Normal → Answered (List ℕ)

@@ -7,16 +7,16 @@ use mathlib.Core.List.{List, [], _∷_, _++_, map}
 use mathlib.Core.Logic.{_↔_}
 use lib.IntN.{pos}
 use lib.ListN.{length, getD}
-use Rattle.whole.specs.Tests.{same, pick}
-use Rattle.whole.specs.Lists.{Each}
-use Rattle.state.specs.State.{started, seenIn}
-use Rattle.account.specs.Machine.{run}
-use Rattle.account.specs.Taking.{frameOf, takeAnswer, takeStep, recordsIn, runNumber, runState}
-use Rattle.account.specs.Mix.{pairs, taken, toldTo}
-use Rattle.account.specs.Arc.{endOf, toldIn}
-use Rattle.account.specs.Order.{whose, Mixes}
-use Rattle.account.specs.SumsOver.{partialOf, SumsOver}
-use Rattle.lent.specs.Lent.{headingIn}
+use Rattle.num_whole.specs.Tests.{same, pick}
+use Rattle.num_whole.specs.Lists.{Each}
+use Rattle.take_state.specs.State.{started, seenIn}
+use Rattle.take_laws.specs.Machine.{run}
+use Rattle.take_laws.specs.Taking.{frameOf, takeAnswer, takeStep, recordsIn, runNumber, runState}
+use Rattle.take_laws.specs.Mix.{pairs, taken, toldTo}
+use Rattle.take_laws.specs.Arc.{endOf, toldIn}
+use Rattle.take_laws.specs.Order.{whose, Mixes}
+use Rattle.take_laws.specs.SumsOver.{partialOf, SumsOver}
+use Rattle.call_heading.specs.Lent.{headingIn}
 use Rattle.wheloruka.specs.Taking.{Lent, stateIn, lentNumber, startNumber, startLeft, judgeNumber, takeNumber, takeLeft, runCallNumber, runLeft, answersLeft}
 
 -- the elements are bytes

@@ -3,16 +3,16 @@
 use Prim.Native.Nat.{ℕ}
 use mathlib.Core.List.{List, [], _∷_}
 use lib.IntN.{ℤ}
-use Rattle.whole.specs.Tests.{same, pick}
-use Rattle.whole.specs.Answer.{Answered, refused}
-use Rattle.words.specs.Words.{lay}
+use Rattle.num_whole.specs.Tests.{same, pick}
+use Rattle.num_whole.specs.Answer.{Answered, refused}
+use Rattle.byte_words.specs.Words.{lay}
 use Rattle.refusal.specs.First.{unless, first}
-use Rattle.rooms.specs.Result.{told}
-use Rattle.state.specs.State.{State, stateOf, roomNumber, stateNumber, started, sightOf}
-use Rattle.account.specs.Taking.{takeAnswer, takeStep, runNumber, runState, runAnswers}
-use Rattle.lent.specs.Lent.{headingIn, hasBoth}
-use Rattle.lenttally.specs.Tally.{tallyIn, tallyBytes}
-use Rattle.calling.specs.Taking.{seenNumbers}
+use Rattle.call_rooms.specs.Result.{toldValues}
+use Rattle.take_state.specs.State.{State, stateOf, roomNumber, stateNumber, started, sightOf}
+use Rattle.take_laws.specs.Taking.{takeAnswer, takeStep, runNumber, runState, runAnswers}
+use Rattle.call_heading.specs.Lent.{headingIn, hasBoth}
+use Rattle.call_tally.specs.Tally.{tallyIn, tallyBytes}
+use Rattle.call_files.specs.Taking.{seenNumbers}
 
 -- a state in lent room: the tally's bytes, the matrix sums, the right sides
 pub record Lent : Type 0 where
@@ -69,4 +69,4 @@ answersLeft b l out x = pick (same (lentNumber b x) 0) (runAnswers (headingIn b)
 
 -- ---- whether a parameter is seen: 1 or 0
 unfoldable pub seenValues : List ℕ → Lent → ℕ → Answered (List ℕ)
-seenValues b x i = pick (hasBoth b (x .tally)) (told seenNumbers (sightOf (headingIn b) (stateIn x) i)) (refused 20)
+seenValues b x i = pick (hasBoth b (x .tally)) (toldValues seenNumbers (sightOf (headingIn b) (stateIn x) i)) (refused 20)

@@ -1,14 +1,14 @@
 -- What the call that writes the normal file of a state in lent room answers and leaves.
 use Prim.Native.Nat.{ℕ}
 use mathlib.Core.List.{List, [], _∷_}
-use Rattle.whole.specs.Answer.{Answered}
+use Rattle.num_whole.specs.Answer.{Answered}
 use Rattle.refusal.specs.First.{unless, numberIn, first}
-use Rattle.section.specs.Writing.{written, writtenIn}
-use Rattle.heading.specs.Judge.{judged}
-use Rattle.state.specs.State.{roomy, soundState}
-use Rattle.lent.specs.Lent.{headingIn, headNumber}
-use Rattle.lenttally.specs.Tally.{hasTally}
-use Rattle.normstate.specs.OfState.{stateBytes}
+use Rattle.byte_section.specs.Writing.{written, writtenIn}
+use Rattle.arc_heading.specs.Judge.{judged}
+use Rattle.take_state.specs.State.{roomy, soundState}
+use Rattle.call_heading.specs.Lent.{headingIn, headNumber}
+use Rattle.call_tally.specs.Tally.{hasTally}
+use Rattle.norm_state.specs.OfState.{stateBytes}
 use Rattle.wheloruka.specs.Taking.{Lent, stateIn}
 
 -- a heading b in lent bytes with its tally t, before any sum is looked at: 20 and 2 for what of the heading is there, 4, 5, 20 for the tally

@@ -1,20 +1,20 @@
 // The library for callers in C and in Rust: numbers and slices only, no requirement on any of them. A call answers 0 where it is done, else the
 // paper's refusal number; results go into lent room, and a refusal changes nothing there. include/wheloruka.h declares the calls.
+use byte_section::ReadAnswer;
 use days::Date;
-use heading::Verdict;
-use section::ReadAnswer;
+use refusal::Verdict;
 ghost use mathlib.Core.Path.{_≡_};
 ghost use lib.ListN.{length};
-ghost use Rattle.rooms.specs.Result.{resultNumber, resultLeft, told, one, roomFor, bytesLeft};
-ghost use Rattle.arcread.specs.Arc.{readArc};
-ghost use Rattle.normread.specs.Normal.{readNormal};
-ghost use Rattle.normroom.specs.Room.{headsOf};
-ghost use Rattle.normunpack.specs.Unpack.{unpackNormal, filled, matrixOf, rightsOf};
-ghost use Rattle.normwrite.specs.Write.{writeNormal, leftIn};
-ghost use Rattle.normmerge.specs.Files.{mergeAnswer, mergeLeft};
-ghost use Rattle.listing.specs.Listing.{listAnswer, listLeft};
+ghost use Rattle.call_rooms.specs.Result.{resultNumber, resultLeft, toldValues, one, roomFor, bytesLeft};
+ghost use Rattle.arc_read.specs.Arc.{readArc};
+ghost use Rattle.norm_read.specs.Normal.{readNormal};
+ghost use Rattle.norm_room.specs.Room.{headsOf};
+ghost use Rattle.norm_unpack.specs.Unpack.{unpackNormal, filled, matrixOf, rightsOf};
+ghost use Rattle.norm_write.specs.Write.{writeNormal, normalLeftIn};
+ghost use Rattle.merge.specs.Files.{mergeAnswer, mergeLeft};
+ghost use Rattle.list.specs.Listing.{listAnswer, listLeft};
 ghost use Rattle.wheloruka.specs.Numbers.{dayValues, dateValues, cellValues, indexValues, unitValues, doubleValues, residualValues};
-ghost use Rattle.calling.specs.Reading.{placeOf, readNumber, headingLeft, placesLeft, judgedNumber};
+ghost use Rattle.call_files.specs.Reading.{refusalPlace, readNumber, headingLeft, placesLeft, judgedNumber};
 ghost use Rattle.wheloruka.specs.Reading.{normalValues};
 ghost use Rattle.wheloruka.specs.Taking.{
   lent,
@@ -28,8 +28,8 @@ ghost use Rattle.wheloruka.specs.Taking.{
   answersLeft,
   seenValues,
 };
-ghost use Rattle.calling.specs.Writing.{mergeNumber};
-ghost use Rattle.calling.specs.Arcs.{arcFile, arcLeft};
+ghost use Rattle.call_files.specs.Writing.{mergeCallNumber};
+ghost use Rattle.call_files.specs.Arcs.{arcFile, arcLeft};
 ghost use Rattle.wheloruka.specs.Writing.{headedNumber, stateFile, stateFileLeft};
 
 // ---- days
@@ -40,7 +40,7 @@ pub extern "C" fn whl_day_of_date(year: u32, month: u32, day: u32, out: &mut [u3
     ensures { λ r. ⌜ r ≡ resultNumber (dayValues year month day) (length (now (out .entry))) ⌝ }
     ensures left { λ _. ⌜ now (out .exit) ≡ resultLeft (dayValues year month day) (now (out .entry)) ⌝ }
 {
-    giving::give_day(out, days::day_of_date(Date { year, month, day }))
+    call_numbers::give_day(out, days::day_of_date(Date { year, month, day }))
 }
 
 // The year, the month and the day of a day number.
@@ -49,7 +49,7 @@ pub extern "C" fn whl_date_of_day(day: u32, out: &mut [u32]) -> u32
     ensures { λ r. ⌜ r ≡ resultNumber (dateValues day) (length (now (out .entry))) ⌝ }
     ensures left { λ _. ⌜ now (out .exit) ≡ resultLeft (dateValues day) (now (out .entry)) ⌝ }
 {
-    giving::give_date(out, days::date_of_day(day))
+    call_numbers::give_date(out, days::date_of_day(day))
 }
 
 // ---- cells
@@ -60,7 +60,7 @@ pub extern "C" fn whl_cell_at(index: u32, out: &mut [u32]) -> u32
     ensures { λ r. ⌜ r ≡ resultNumber (cellValues index) (length (now (out .entry))) ⌝ }
     ensures left { λ _. ⌜ now (out .exit) ≡ resultLeft (cellValues index) (now (out .entry)) ⌝ }
 {
-    giving::give_cell(out, cells::cell_at(index))
+    call_numbers::give_cell(out, cells::cell_at(index))
 }
 
 // The index of a cell by its letter's number.
@@ -69,7 +69,7 @@ pub extern "C" fn whl_index_of(letter: u32, degree: u32, order: u32, out: &mut [
     ensures { λ r. ⌜ r ≡ resultNumber (indexValues letter degree order) (length (now (out .entry))) ⌝ }
     ensures left { λ _. ⌜ now (out .exit) ≡ resultLeft (indexValues letter degree order) (now (out .entry)) ⌝ }
 {
-    giving::give_index(out, giving::index_by(letter, degree, order))
+    call_numbers::give_index(out, call_numbers::index_by(letter, degree, order))
 }
 
 // ---- units
@@ -80,7 +80,7 @@ pub extern "C" fn whl_unit_of(kind: u32, x: f64, out: &mut [i64]) -> u32
     ensures { λ r. ⌜ r ≡ resultNumber (unitValues kind x) (length (now (out .entry))) ⌝ }
     ensures left { λ _. ⌜ now (out .exit) ≡ resultLeft (unitValues kind x) (now (out .entry)) ⌝ }
 {
-    giving::give_unit(out, units::unit_of(kind, x))
+    call_numbers::give_unit(out, unit_convert::unit_of(kind, x))
 }
 
 // The double of a unit of a type.
@@ -89,7 +89,7 @@ pub extern "C" fn whl_double_of(kind: u32, unit: i64, out: &mut [f64]) -> u32
     ensures { λ r. ⌜ r ≡ resultNumber (doubleValues kind unit) (length (now (out .entry))) ⌝ }
     ensures left { λ _. ⌜ now (out .exit) ≡ resultLeft (doubleValues kind unit) (now (out .entry)) ⌝ }
 {
-    giving::give_double(out, units::double_of_unit(kind, unit))
+    call_numbers::give_double(out, unit_convert::double_of_unit(kind, unit))
 }
 
 // The residual of a measurement: observed minus computed, in units.
@@ -98,7 +98,7 @@ pub extern "C" fn whl_residual(kind: u32, observed: f64, computed: f64, out: &mu
     ensures { λ r. ⌜ r ≡ resultNumber (residualValues kind observed computed) (length (now (out .entry))) ⌝ }
     ensures left { λ _. ⌜ now (out .exit) ≡ resultLeft (residualValues kind observed computed) (now (out .entry)) ⌝ }
 {
-    giving::give_unit(out, giving::residual_as(kind, observed, computed))
+    call_numbers::give_unit(out, call_numbers::residual_as(kind, observed, computed))
 }
 
 // ---- files
@@ -110,29 +110,29 @@ pub extern "C" fn whl_read(file: &[u8], heading: &mut [u8], out: &mut [u64]) -> 
     ensures heading { λ _. ⌜ now (heading .exit) ≡ headingLeft (readArc (now (file .entry))) (now (heading .entry)) (length (now (out .entry))) ⌝ }
     ensures places { λ _. ⌜ now (out .exit) ≡ placesLeft (readArc (now (file .entry))) (length (now (heading .entry))) (now (out .entry)) ⌝ }
 {
-    calling::give_arc(arcread::read(file), heading, out)
+    call_files::give_arc(arc_read::read(file), heading, out)
 }
 
 // The place of an arc file's refusal; 0 where the file is accepted.
 #[no_mangle]
 pub extern "C" fn whl_read_place(file: &[u8]) -> u64
-    ensures { λ r. ⌜ r ≡ placeOf (readArc (now (file .entry))) ⌝ }
+    ensures { λ r. ⌜ r ≡ refusalPlace (readArc (now (file .entry))) ⌝ }
 {
-    let r = arcread::read(file);
+    let r = arc_read::read(file);
     let answer = r.answer;
-    calling::read_place(answer)
+    call_files::read_place(answer)
 }
 
 // An arc file of a heading and a run of records.
 #[no_mangle]
 pub extern "C" fn whl_write(heading: &[u8], run: &[u8], out: &mut [u8], size: &mut [u64]) -> u32
-    ensures { λ r. ⌜ r ≡ resultNumber (told one (arcFile (now (heading .entry)) (now (run .entry)) (roomFor (length (now (size .entry))) (length (now (out .entry)))))) (length (now (size .entry))) ⌝ }
-    ensures size { λ _. ⌜ now (size .exit) ≡ resultLeft (told one (arcFile (now (heading .entry)) (now (run .entry)) (roomFor (length (now (size .entry))) (length (now (out .entry)))))) (now (size .entry)) ⌝ }
+    ensures { λ r. ⌜ r ≡ resultNumber (toldValues one (arcFile (now (heading .entry)) (now (run .entry)) (roomFor (length (now (size .entry))) (length (now (out .entry)))))) (length (now (size .entry))) ⌝ }
+    ensures size { λ _. ⌜ now (size .exit) ≡ resultLeft (toldValues one (arcFile (now (heading .entry)) (now (run .entry)) (roomFor (length (now (size .entry))) (length (now (out .entry)))))) (now (size .entry)) ⌝ }
     ensures bytes { λ _. ⌜ now (out .exit) ≡ bytesLeft (length (now (size .entry))) (arcLeft (now (heading .entry)) (now (run .entry))) (now (out .entry)) ⌝ }
 {
-    let room = rooms::room_for(size.len(), out.len());
-    let w = calling::write_arc(heading, run, &mut out[..room]);
-    calling::give_written(size, w)
+    let room = call_rooms::room_for(size.len(), out.len());
+    let w = call_files::write_arc(heading, run, &mut out[..room]);
+    call_files::give_written(size, w)
 }
 
 // A normal file's numbers of arcs and parameters, and the places of its matrix sums, right sides and totals.
@@ -141,11 +141,11 @@ pub extern "C" fn whl_normal_read(file: &[u8], out: &mut [u64]) -> u32
     ensures { λ r. ⌜ r ≡ resultNumber (normalValues (readNormal (now (file .entry)))) (length (now (out .entry))) ⌝ }
     ensures left { λ _. ⌜ now (out .exit) ≡ resultLeft (normalValues (readNormal (now (file .entry)))) (now (out .entry)) ⌝ }
 {
-    let r = normread::read(file);
+    let r = norm_read::read(file);
     let answer = r.answer;
     match answer {
         ReadAnswer::Refused(e, _) => refusal::number(e),
-        ReadAnswer::Read => rooms::give_five(
+        ReadAnswer::Read => call_rooms::give_five(
             out,
             r.arcs as u64,
             r.parameters as u64,
@@ -159,11 +159,11 @@ pub extern "C" fn whl_normal_read(file: &[u8], out: &mut [u64]) -> u32
 // The place of a normal file's refusal; 0 where the file is accepted.
 #[no_mangle]
 pub extern "C" fn whl_normal_place(file: &[u8]) -> u64
-    ensures { λ r. ⌜ r ≡ placeOf (readNormal (now (file .entry))) ⌝ }
+    ensures { λ r. ⌜ r ≡ refusalPlace (readNormal (now (file .entry))) ⌝ }
 {
-    let r = normread::read(file);
+    let r = norm_read::read(file);
     let answer = r.answer;
-    calling::read_place(answer)
+    call_files::read_place(answer)
 }
 
 // ---- taking
@@ -179,13 +179,13 @@ pub extern "C" fn whl_start(
     ensures { λ r. ⌜ r ≡ startNumber (now (heading .entry)) (lent (now (tally .entry)) (now (matrix .entry)) (now (rights .entry))) ⌝ }
     ensures left { λ _. ⌜ lent (now (tally .exit)) (now (matrix .exit)) (now (rights .exit)) ≡ startLeft (now (heading .entry)) (lent (now (tally .entry)) (now (matrix .entry)) (now (rights .entry))) ⌝ }
 {
-    if lent::has_both(heading, tally) {
-        let started = state::start(lent::heading_in(heading), matrix, rights);
+    if call_heading::has_both(heading, tally) {
+        let started = take_state::start(call_heading::heading_in(heading), matrix, rights);
         let answer = started.answer;
         let t = started.tally;
         match answer {
             Verdict::Sound => {
-                lenttally::put_tally(t, tally);
+                call_tally::put_tally(t, tally);
                 0
             }
             Verdict::Refused(e) => refusal::number(e),
@@ -200,10 +200,10 @@ pub extern "C" fn whl_start(
 pub extern "C" fn whl_judge(heading: &[u8], tally: &[u8], matrix: &[i64], rights: &[i64]) -> u32
     ensures { λ r. ⌜ r ≡ judgeNumber (now (heading .entry)) (lent (now (tally .entry)) (now (matrix .entry)) (now (rights .entry))) ⌝ }
 {
-    if lent::has_both(heading, tally) {
-        let h = lent::heading_in(heading);
-        let t = lenttally::tally_in(tally);
-        match state::judge_state(h, t, matrix, rights) {
+    if call_heading::has_both(heading, tally) {
+        let h = call_heading::heading_in(heading);
+        let t = call_tally::tally_in(tally);
+        match take_state::judge_state(h, t, matrix, rights) {
             Verdict::Sound => 0,
             Verdict::Refused(e) => refusal::number(e),
         }
@@ -224,10 +224,10 @@ pub extern "C" fn whl_take(
     ensures { λ r. ⌜ r ≡ takeNumber (now (heading .entry)) (now (bytes .entry)) (lent (now (tally .entry)) (now (matrix .entry)) (now (rights .entry))) ⌝ }
     ensures left { λ _. ⌜ lent (now (tally .exit)) (now (matrix .exit)) (now (rights .exit)) ≡ takeLeft (now (heading .entry)) (now (bytes .entry)) (lent (now (tally .entry)) (now (matrix .entry)) (now (rights .entry))) ⌝ }
 {
-    if lent::has_both(heading, tally) {
-        let h = lent::heading_in(heading);
-        let t = lenttally::tally_in(tally);
-        calling::give_taken(taking::take(h, t, matrix, rights, bytes), tally)
+    if call_heading::has_both(heading, tally) {
+        let h = call_heading::heading_in(heading);
+        let t = call_tally::tally_in(tally);
+        call_files::give_taken(take::take(h, t, matrix, rights, bytes), tally)
     } else {
         20
     }
@@ -247,11 +247,11 @@ pub extern "C" fn whl_take_run(
     ensures left { λ _. ⌜ lent (now (tally .exit)) (now (matrix .exit)) (now (rights .exit)) ≡ runLeft (now (heading .entry)) (now (run .entry)) (length (now (answers .entry))) (lent (now (tally .entry)) (now (matrix .entry)) (now (rights .entry))) ⌝ }
     ensures told { λ _. ⌜ now (answers .exit) ≡ answersLeft (now (heading .entry)) (now (run .entry)) (now (answers .entry)) (lent (now (tally .entry)) (now (matrix .entry)) (now (rights .entry))) ⌝ }
 {
-    if lent::has_both(heading, tally) {
-        let h = lent::heading_in(heading);
-        let t = lenttally::tally_in(tally);
-        let taken = taking::take_run(h, t, matrix, rights, run, answers);
-        calling::give_taken(taken, tally)
+    if call_heading::has_both(heading, tally) {
+        let h = call_heading::heading_in(heading);
+        let t = call_tally::tally_in(tally);
+        let taken = take::take_run(h, t, matrix, rights, run, answers);
+        call_files::give_taken(taken, tally)
     } else {
         20
     }
@@ -270,10 +270,10 @@ pub extern "C" fn whl_seen(
     ensures { λ r. ⌜ r ≡ resultNumber (seenValues (now (heading .entry)) (lent (now (tally .entry)) (now (matrix .entry)) (now (rights .entry))) parameter) (length (now (out .entry))) ⌝ }
     ensures left { λ _. ⌜ now (out .exit) ≡ resultLeft (seenValues (now (heading .entry)) (lent (now (tally .entry)) (now (matrix .entry)) (now (rights .entry))) parameter) (now (out .entry)) ⌝ }
 {
-    if lent::has_both(heading, tally) {
-        let h = lent::heading_in(heading);
-        let t = lenttally::tally_in(tally);
-        calling::give_sight(out, state::seen(h, t, matrix, rights, parameter))
+    if call_heading::has_both(heading, tally) {
+        let h = call_heading::heading_in(heading);
+        let t = call_tally::tally_in(tally);
+        call_files::give_sight(out, take_state::seen(h, t, matrix, rights, parameter))
     } else {
         20
     }
@@ -294,9 +294,9 @@ pub extern "C" fn whl_normal_unpack(
     ensures matrix { λ _. ⌜ now (matrix .exit) ≡ filled matrixOf (unpackNormal (now (file .entry)) (length (now (heads .entry))) (length (now (matrix .entry))) (length (now (rights .entry)))) (now (matrix .entry)) ⌝ }
     ensures rights { λ _. ⌜ now (rights .exit) ≡ filled rightsOf (unpackNormal (now (file .entry)) (length (now (heads .entry))) (length (now (matrix .entry))) (length (now (rights .entry)))) (now (rights .entry)) ⌝ }
 {
-    let r = normunpack::unpack(file, heads, matrix, rights);
+    let r = norm_unpack::unpack(file, heads, matrix, rights);
     let answer = r.answer;
-    calling::read_number(answer)
+    call_files::read_number(answer)
 }
 
 // The normal file of a system in three rooms.
@@ -310,24 +310,24 @@ pub extern "C" fn whl_normal_write(
     out: &mut [u8],
     size: &mut [u64],
 ) -> u32
-    ensures { λ r. ⌜ r ≡ resultNumber (told one (writeNormal arcs parameters (now (heads .entry)) (now (matrix .entry)) (now (rights .entry)) (roomFor (length (now (size .entry))) (length (now (out .entry)))))) (length (now (size .entry))) ⌝ }
-    ensures size { λ _. ⌜ now (size .exit) ≡ resultLeft (told one (writeNormal arcs parameters (now (heads .entry)) (now (matrix .entry)) (now (rights .entry)) (roomFor (length (now (size .entry))) (length (now (out .entry)))))) (now (size .entry)) ⌝ }
-    ensures bytes { λ _. ⌜ now (out .exit) ≡ bytesLeft (length (now (size .entry))) (leftIn arcs parameters (now (heads .entry)) (now (matrix .entry)) (now (rights .entry))) (now (out .entry)) ⌝ }
+    ensures { λ r. ⌜ r ≡ resultNumber (toldValues one (writeNormal arcs parameters (now (heads .entry)) (now (matrix .entry)) (now (rights .entry)) (roomFor (length (now (size .entry))) (length (now (out .entry)))))) (length (now (size .entry))) ⌝ }
+    ensures size { λ _. ⌜ now (size .exit) ≡ resultLeft (toldValues one (writeNormal arcs parameters (now (heads .entry)) (now (matrix .entry)) (now (rights .entry)) (roomFor (length (now (size .entry))) (length (now (out .entry)))))) (now (size .entry)) ⌝ }
+    ensures bytes { λ _. ⌜ now (out .exit) ≡ bytesLeft (length (now (size .entry))) (normalLeftIn arcs parameters (now (heads .entry)) (now (matrix .entry)) (now (rights .entry))) (now (out .entry)) ⌝ }
 {
-    let room = rooms::room_for(size.len(), out.len());
-    let w = normwrite::write(arcs, parameters, heads, matrix, rights, &mut out[..room]);
-    calling::give_written(size, w)
+    let room = call_rooms::room_for(size.len(), out.len());
+    let w = norm_write::write(arcs, parameters, heads, matrix, rights, &mut out[..room]);
+    call_files::give_written(size, w)
 }
 
 // What is wrong with a heading and a tally in lent bytes that are to be written from, before any sum is looked at; 0 where nothing is.
 fn judge_headed(heading: &[u8], tally: &[u8]) -> u32
     ensures { λ r. ⌜ r ≡ headedNumber (now (heading .entry)) (now (tally .entry)) ⌝ }
 {
-    let k = lent::judge_head(heading);
+    let k = call_heading::judge_head(heading);
     if k == 0 {
-        match heading::judge(lent::heading_in(heading)) {
+        match arc_heading::judge(call_heading::heading_in(heading)) {
             Verdict::Refused(e) => refusal::number(e),
-            Verdict::Sound => if lenttally::has_tally(tally) { 0 } else { 20 },
+            Verdict::Sound => if call_tally::has_tally(tally) { 0 } else { 20 },
         }
     } else {
         k
@@ -344,17 +344,17 @@ pub extern "C" fn whl_of_state(
     out: &mut [u8],
     size: &mut [u64],
 ) -> u32
-    ensures { λ r. ⌜ r ≡ resultNumber (told one (stateFile (now (heading .entry)) (lent (now (tally .entry)) (now (matrix .entry)) (now (rights .entry))) (roomFor (length (now (size .entry))) (length (now (out .entry)))))) (length (now (size .entry))) ⌝ }
-    ensures size { λ _. ⌜ now (size .exit) ≡ resultLeft (told one (stateFile (now (heading .entry)) (lent (now (tally .entry)) (now (matrix .entry)) (now (rights .entry))) (roomFor (length (now (size .entry))) (length (now (out .entry)))))) (now (size .entry)) ⌝ }
+    ensures { λ r. ⌜ r ≡ resultNumber (toldValues one (stateFile (now (heading .entry)) (lent (now (tally .entry)) (now (matrix .entry)) (now (rights .entry))) (roomFor (length (now (size .entry))) (length (now (out .entry)))))) (length (now (size .entry))) ⌝ }
+    ensures size { λ _. ⌜ now (size .exit) ≡ resultLeft (toldValues one (stateFile (now (heading .entry)) (lent (now (tally .entry)) (now (matrix .entry)) (now (rights .entry))) (roomFor (length (now (size .entry))) (length (now (out .entry)))))) (now (size .entry)) ⌝ }
     ensures bytes { λ _. ⌜ now (out .exit) ≡ bytesLeft (length (now (size .entry))) (stateFileLeft (now (heading .entry)) (lent (now (tally .entry)) (now (matrix .entry)) (now (rights .entry)))) (now (out .entry)) ⌝ }
 {
     let k = judge_headed(heading, tally);
     if k == 0 {
-        let h = lent::heading_in(heading);
-        let t = lenttally::tally_in(tally);
-        let room = rooms::room_for(size.len(), out.len());
-        let w = normstate::of_state(h, t, matrix, rights, &mut out[..room]);
-        calling::give_written(size, w)
+        let h = call_heading::heading_in(heading);
+        let t = call_tally::tally_in(tally);
+        let room = call_rooms::room_for(size.len(), out.len());
+        let w = norm_state::of_state(h, t, matrix, rights, &mut out[..room]);
+        call_files::give_written(size, w)
     } else {
         k
     }
@@ -363,13 +363,13 @@ pub extern "C" fn whl_of_state(
 // Two normal files merged: a file's own refusal plus 100 for the first, plus 200 for the second.
 #[no_mangle]
 pub extern "C" fn whl_merge(first: &[u8], second: &[u8], out: &mut [u8], size: &mut [u64]) -> u32
-    ensures { λ r. ⌜ r ≡ resultNumber (told one (mergeNumber (mergeAnswer (now (first .entry)) (now (second .entry)) (roomFor (length (now (size .entry))) (length (now (out .entry))))))) (length (now (size .entry))) ⌝ }
-    ensures size { λ _. ⌜ now (size .exit) ≡ resultLeft (told one (mergeNumber (mergeAnswer (now (first .entry)) (now (second .entry)) (roomFor (length (now (size .entry))) (length (now (out .entry))))))) (now (size .entry)) ⌝ }
+    ensures { λ r. ⌜ r ≡ resultNumber (toldValues one (mergeCallNumber (mergeAnswer (now (first .entry)) (now (second .entry)) (roomFor (length (now (size .entry))) (length (now (out .entry))))))) (length (now (size .entry))) ⌝ }
+    ensures size { λ _. ⌜ now (size .exit) ≡ resultLeft (toldValues one (mergeCallNumber (mergeAnswer (now (first .entry)) (now (second .entry)) (roomFor (length (now (size .entry))) (length (now (out .entry))))))) (now (size .entry)) ⌝ }
     ensures bytes { λ _. ⌜ now (out .exit) ≡ bytesLeft (length (now (size .entry))) (mergeLeft (now (first .entry)) (now (second .entry))) (now (out .entry)) ⌝ }
 {
-    let room = rooms::room_for(size.len(), out.len());
-    let w = normmerge::merge(first, second, &mut out[..room]);
-    calling::give_merged(size, w)
+    let room = call_rooms::room_for(size.len(), out.len());
+    let w = merge::merge(first, second, &mut out[..room]);
+    call_files::give_merged(size, w)
 }
 
 // ---- the listing
@@ -377,11 +377,11 @@ pub extern "C" fn whl_merge(first: &[u8], second: &[u8], out: &mut [u8], size: &
 // The text that the arc program prints of a file of at most `limit` bytes.
 #[no_mangle]
 pub extern "C" fn whl_list(file: &[u8], limit: usize, out: &mut [u8], size: &mut [u64]) -> u32
-    ensures { λ r. ⌜ r ≡ resultNumber (told one (listAnswer limit (now (file .entry)) (roomFor (length (now (size .entry))) (length (now (out .entry)))))) (length (now (size .entry))) ⌝ }
-    ensures size { λ _. ⌜ now (size .exit) ≡ resultLeft (told one (listAnswer limit (now (file .entry)) (roomFor (length (now (size .entry))) (length (now (out .entry)))))) (now (size .entry)) ⌝ }
+    ensures { λ r. ⌜ r ≡ resultNumber (toldValues one (listAnswer limit (now (file .entry)) (roomFor (length (now (size .entry))) (length (now (out .entry)))))) (length (now (size .entry))) ⌝ }
+    ensures size { λ _. ⌜ now (size .exit) ≡ resultLeft (toldValues one (listAnswer limit (now (file .entry)) (roomFor (length (now (size .entry))) (length (now (out .entry)))))) (now (size .entry)) ⌝ }
     ensures bytes { λ _. ⌜ now (out .exit) ≡ bytesLeft (length (now (size .entry))) (listLeft limit (now (file .entry))) (now (out .entry)) ⌝ }
 {
-    let room = rooms::room_for(size.len(), out.len());
-    let w = listing::list(file, limit, &mut out[..room]);
-    calling::give_written(size, w)
+    let room = call_rooms::room_for(size.len(), out.len());
+    let w = list::list(file, limit, &mut out[..room]);
+    call_files::give_written(size, w)
 }

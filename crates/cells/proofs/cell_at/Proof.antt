@@ -3,8 +3,8 @@
 use borrow.Author.Needs.{needs}
 use mathlib.Core.Path.{refl, ap, _∙_}
 use native.Mathlib.Omega.{arith}
-use Rattle.whole.specs.Answer.{given}
-use Rattle.whole.proofs.Cases.{yes, no, is-less, not-less}
+use Rattle.num_whole.specs.Answer.{given}
+use Rattle.num_whole.proofs.Cases.{yes, no, is-less, not-less}
 use Rattle.cells.specs.Cells.{cellAt}
 use Rattle.cells.proofs.cell_at.Statement.{statement}
 use Rattle.cells.proofs.cell_at.Tie as tie

@@ -1,8 +1,8 @@
 -- `cells::decode` meets its contract: the letter goes by the one test of the definition.
 -- Assumes nothing.
 use native.Mathlib.Omega.{arith}
-use Rattle.whole.specs.Tests.{pick}
-use Rattle.whole.proofs.Cases.{is-less, not-less}
+use Rattle.num_whole.specs.Tests.{pick}
+use Rattle.num_whole.proofs.Cases.{is-less, not-less}
 use Rattle.cells.specs.Table.{decoded}
 use Rattle.cells.proofs.decode.Statement.{statement}
 use Rattle.cells.proofs.decode.Tie as tie

@@ -3,8 +3,8 @@
 use borrow.Author.Needs.{needs}
 use mathlib.Core.Path.{refl, ap, sym, _∙_}
 use native.Mathlib.Omega.{arith}
-use Rattle.whole.specs.Answer.{given}
-use Rattle.whole.proofs.Cases.{yes, no}
+use Rattle.num_whole.specs.Answer.{given}
+use Rattle.num_whole.proofs.Cases.{yes, no}
 use Rattle.cells.specs.Cells.{indexOf, cellIndex}
 use Rattle.cells.proofs.Owners.{limits}
 use Rattle.cells.proofs.index_of.Statement.{statement}

@@ -1,7 +1,7 @@
 -- `cells::within` meets its contract: the three tests of the limits, in their order.
 -- Assumes nothing.
 use native.Mathlib.Omega.{arith}
-use Rattle.whole.proofs.Cases.{holds, fails, is-between, is-below, is-above, by-upTo}
+use Rattle.num_whole.proofs.Cases.{holds, fails, is-between, is-below, is-above, by-upTo}
 use Rattle.cells.specs.Cells.{isCell}
 use Rattle.cells.proofs.within.Statement.{statement}
 use Rattle.cells.proofs.within.Tie as tie

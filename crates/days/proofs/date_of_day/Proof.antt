@@ -3,7 +3,7 @@
 use mathlib.Core.Path.{_≡_, refl, sym, ap, _∙_}
 use native.Mathlib.Omega.{arith}
 use borrow.Author.Needs.{needs}
-use Rattle.whole.proofs.Cases.{no, between-true}
+use Rattle.num_whole.proofs.Cases.{no, between-true}
 use Rattle.days.specs.Calendar.{dayNumber, dateOfDay}
 use Rattle.days.proofs.Undo.{found}
 use Rattle.days.proofs.date_of_day.Statement.{statement}

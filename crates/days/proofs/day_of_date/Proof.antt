@@ -4,8 +4,8 @@ use Prim.Native.Nat.{_+_}
 use mathlib.Core.Path.{_≡_, refl, sym, ap, _∙_}
 use native.Mathlib.Omega.{arith}
 use borrow.Author.Needs.{needs}
-use Rattle.whole.specs.Answer.{given}
-use Rattle.whole.proofs.Cases.{yes, no}
+use Rattle.num_whole.specs.Answer.{given}
+use Rattle.num_whole.proofs.Cases.{yes, no}
 use Rattle.days.specs.Calendar.{dayNumber, dayOfDate}
 use Rattle.days.proofs.Calendar.{real, number-range}
 use Rattle.days.proofs.day_of_date.Statement.{statement}

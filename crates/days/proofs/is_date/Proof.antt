@@ -2,8 +2,8 @@
 -- Assumes nothing.
 use mathlib.Core.Path.{ap, sym, _∙_}
 use borrow.Author.Needs.{needs}
-use Rattle.whole.specs.Tests.{between}
-use Rattle.whole.proofs.Cases.{holds, fails}
+use Rattle.num_whole.specs.Tests.{between}
+use Rattle.num_whole.proofs.Cases.{holds, fails}
 use Rattle.days.specs.Calendar.{isDate}
 use Rattle.days.proofs.is_date.Statement.{statement}
 use Rattle.days.proofs.is_date.Tie as tie

@@ -3,7 +3,7 @@
 use mathlib.Core.Path.{ap}
 use mathlib.Core.Bool.{not}
 use native.Mathlib.Omega.{arith}
-use Rattle.whole.proofs.Cases.{holds, fails, at-once, at-last, is-same, not-same, by-same}
+use Rattle.num_whole.proofs.Cases.{holds, fails, at-once, at-last, is-same, not-same, by-same}
 use Rattle.days.specs.Calendar.{leap}
 use Rattle.days.proofs.is_leap.Statement.{statement}
 use Rattle.days.proofs.is_leap.Tie as tie

@@ -4,8 +4,8 @@ use mathlib.Core.Path.{refl, sym, _∙_}
 use mathlib.Core.Logic.{⊎-elim, inl, inr}
 use native.Mathlib.Omega.{arith}
 use borrow.Author.Needs.{needs}
-use Rattle.whole.specs.Tests.{same, either, pick}
-use Rattle.whole.proofs.Cases.{yes, no, at-last, is-same, not-same}
+use Rattle.num_whole.specs.Tests.{same, either, pick}
+use Rattle.num_whole.proofs.Cases.{yes, no, at-last, is-same, not-same}
 use Rattle.days.specs.Calendar.{monthLength}
 use Rattle.days.proofs.month_length.Statement.{statement}
 use Rattle.days.proofs.month_length.Tie as tie

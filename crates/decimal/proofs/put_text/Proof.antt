@@ -6,7 +6,7 @@ use native.Mathlib.Nat.{add-zero}
 use native.Mathlib.Omega.{arith}
 use lib.ListN.{length, drop, length-set}
 use borrow.Author.Needs.{needs}
-use Rattle.words.specs.Words.{lay}
+use Rattle.byte_words.specs.Words.{lay}
 use Rattle.decimal.specs.Laid.{laid}
 use Rattle.decimal.proofs.Laying.{copy-turn, copy-end}
 use Rattle.decimal.proofs.put_text.Statement.{statement}

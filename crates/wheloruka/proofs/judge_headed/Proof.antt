@@ -1,8 +1,9 @@
 -- `wheloruka::judge_headed` meets its contract: one step for each test.
 -- Assumes nothing.
 use mathlib.Core.Path.{_≡_, sym, ap, _∙_}
-use Rattle.heading.specs.Judge.{judged, toldVerdict}
-use Rattle.lent.specs.Lent.{headingIn, headNumber}
+use Rattle.arc_heading.specs.Judge.{judged}
+use Rattle.refusal.specs.Told.{toldVerdict}
+use Rattle.call_heading.specs.Lent.{headingIn, headNumber}
 use Rattle.wheloruka.proofs.Writes.{headed-head, headed-judged, headed-tally, headed-none}
 use borrow.Author.Needs.{needs}
 use Rattle.wheloruka.proofs.judge_headed.Statement.{statement}

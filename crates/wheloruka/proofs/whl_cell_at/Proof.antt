@@ -1,6 +1,6 @@
 -- `wheloruka::whl_cell_at` meets its contract: the cell, or the refusal.
 -- Assumes nothing.
-use Rattle.giving.specs.Given.{cellNumbers}
+use Rattle.call_numbers.specs.Given.{cellNumbers}
 use Rattle.wheloruka.specs.Numbers.{cellValues}
 use Rattle.wheloruka.proofs.Numbers.{as-told}
 use borrow.Author.Needs.{needs}

@@ -1,6 +1,6 @@
 -- `wheloruka::whl_date_of_day` meets its contract: the date, or the refusal.
 -- Assumes nothing.
-use Rattle.giving.specs.Given.{dateNumbers}
+use Rattle.call_numbers.specs.Given.{dateNumbers}
 use Rattle.wheloruka.specs.Numbers.{dateValues}
 use Rattle.wheloruka.proofs.Numbers.{as-told}
 use borrow.Author.Needs.{needs}

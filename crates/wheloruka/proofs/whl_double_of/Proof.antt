@@ -3,8 +3,8 @@
 use mathlib.Core.Path.{ap, _∙_}
 use mir.Syntax.{w64}
 use mir.ValLaws.{toZ-ofZ}
-use Rattle.rooms.specs.Result.{one}
-use Rattle.units.specs.Units.{doubleOf}
+use Rattle.call_rooms.specs.Result.{one}
+use Rattle.unit_convert.specs.Units.{doubleOf}
 use Rattle.wheloruka.specs.Numbers.{doubleValues}
 use Rattle.wheloruka.proofs.Numbers.{as-told}
 use borrow.Author.Needs.{needs}

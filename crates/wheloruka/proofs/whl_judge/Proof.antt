@@ -2,8 +2,8 @@
 -- Assumes nothing.
 use mathlib.Core.Path.{sym, ap, ap₂, _∙_}
 use Rattle.refusal.specs.First.{answered}
-use Rattle.heading.specs.Judge.{toldVerdict}
-use Rattle.state.specs.State.{stateOf, stateNumber}
+use Rattle.refusal.specs.Told.{toldVerdict}
+use Rattle.take_state.specs.State.{stateOf, stateNumber}
 use Rattle.wheloruka.proofs.Calls.{number-short, number-done, number-refused}
 use borrow.Author.Needs.{needs}
 use Rattle.wheloruka.proofs.whl_judge.Statement.{statement}

@@ -2,7 +2,7 @@
 -- Assumes nothing.
 use mathlib.Core.Path.{sym}
 use lib.Seq.{length-take-le}
-use Rattle.listing.specs.Listing.{listAnswer, listLeft}
+use Rattle.list.specs.Listing.{listAnswer, listLeft}
 use Rattle.wheloruka.proofs.Writes.{gives, list-none}
 use borrow.Author.Needs.{needs}
 use Rattle.wheloruka.proofs.whl_list.Statement.{statement}

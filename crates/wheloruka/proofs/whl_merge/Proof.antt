@@ -2,8 +2,8 @@
 -- Assumes nothing.
 use mathlib.Core.Path.{sym, ap}
 use lib.Seq.{length-take-le}
-use Rattle.normmerge.specs.Files.{mergeAnswer, mergeLeft}
-use Rattle.calling.specs.Writing.{mergeNumber}
+use Rattle.merge.specs.Files.{mergeAnswer, mergeLeft}
+use Rattle.call_files.specs.Writing.{mergeCallNumber}
 use Rattle.wheloruka.proofs.Writes.{gives, merge-none}
 use borrow.Author.Needs.{needs}
 use Rattle.wheloruka.proofs.whl_merge.Statement.{statement}
@@ -33,7 +33,7 @@ same-length-2 c = search needs
 returns : tie.Need-returns
 returns c =
     let a = c .before .before .before .before .before .before .before .before .before .before .before .before .before .args in
-    gives (λ k. mergeNumber (mergeAnswer (a .first .now) (a .second .now) k)) (mergeLeft (a .first .now) (a .second .now)) _ _ (merge-none _ _) _ (c .before .before .before .before .before .before .before .before .room-for .ensures .0) _ (ap mergeNumber (c .before .before .before .before .before .before .merge .ensures .0)) (c .before .before .give-merged .ensures) (c .before .before .before .before .before .before .merge .ensures .1)
+    gives (λ k. mergeCallNumber (mergeAnswer (a .first .now) (a .second .now) k)) (mergeLeft (a .first .now) (a .second .now)) _ _ (merge-none _ _) _ (c .before .before .before .before .before .before .before .before .room-for .ensures .0) _ (ap mergeCallNumber (c .before .before .before .before .before .before .merge .ensures .0)) (c .before .before .give-merged .ensures) (c .before .before .before .before .before .before .merge .ensures .1)
 
 pub whl-merge-spec : {M : Type 1} → statement M
 whl-merge-spec =

@@ -1,7 +1,7 @@
 -- `wheloruka::whl_normal_place` meets its contract.
 -- Assumes nothing.
 use mathlib.Core.Path.{_∙_}
-use Rattle.normread.specs.Normal.{readNormal}
+use Rattle.norm_read.specs.Normal.{readNormal}
 use Rattle.wheloruka.proofs.Files.{normal-place}
 use borrow.Author.Needs.{needs}
 use Rattle.wheloruka.proofs.whl_normal_place.Statement.{statement}

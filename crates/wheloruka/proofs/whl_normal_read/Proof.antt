@@ -1,8 +1,8 @@
 -- `wheloruka::whl_normal_read` meets its contract: five numbers, or the refusal.
 -- Assumes nothing.
 use mathlib.Core.Path.{ap}
-use Rattle.section.specs.Told.{toldAnswer}
-use Rattle.rooms.proofs.Rooms.{as-given, as-refused}
+use Rattle.byte_section.specs.Told.{toldAnswer}
+use Rattle.call_rooms.proofs.Rooms.{as-given, as-refused}
 use Rattle.wheloruka.proofs.Files.{normal-good, normal-bad}
 use borrow.Author.Needs.{needs}
 use Rattle.wheloruka.proofs.whl_normal_read.Statement.{statement}

@@ -1,7 +1,7 @@
 -- `wheloruka::whl_normal_unpack` meets its contract.
 -- Assumes nothing.
 use mathlib.Core.Path.{_∙_}
-use Rattle.normunpack.specs.Unpack.{unpackNormal}
+use Rattle.norm_unpack.specs.Unpack.{unpackNormal}
 use Rattle.wheloruka.proofs.Writes.{judged-number}
 use borrow.Author.Needs.{needs}
 use Rattle.wheloruka.proofs.whl_normal_unpack.Statement.{statement}

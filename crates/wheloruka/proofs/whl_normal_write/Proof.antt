@@ -2,7 +2,7 @@
 -- Assumes nothing.
 use mathlib.Core.Path.{sym}
 use lib.Seq.{length-take-le}
-use Rattle.normwrite.specs.Write.{writeNormal, leftIn}
+use Rattle.norm_write.specs.Write.{writeNormal, normalLeftIn}
 use Rattle.wheloruka.proofs.Writes.{gives, write-none}
 use borrow.Author.Needs.{needs}
 use Rattle.wheloruka.proofs.whl_normal_write.Statement.{statement}
@@ -32,7 +32,7 @@ same-length-2 c = search needs
 returns : tie.Need-returns
 returns c =
     let a = c .before .before .before .before .before .before .before .before .before .before .before .before .args in
-    gives (writeNormal (a .arcs) (a .parameters) (a .heads .now) (a .matrix .now) (a .rights .now)) (leftIn (a .arcs) (a .parameters) (a .heads .now) (a .matrix .now) (a .rights .now)) _ _ (write-none _ _ _ _ _) _ (c .before .before .before .before .before .before .before .before .room-for .ensures .0) _ (c .before .before .before .before .before .before .write .ensures .0) (c .before .before .give-written .ensures) (c .before .before .before .before .before .before .write .ensures .1)
+    gives (writeNormal (a .arcs) (a .parameters) (a .heads .now) (a .matrix .now) (a .rights .now)) (normalLeftIn (a .arcs) (a .parameters) (a .heads .now) (a .matrix .now) (a .rights .now)) _ _ (write-none _ _ _ _ _) _ (c .before .before .before .before .before .before .before .before .room-for .ensures .0) _ (c .before .before .before .before .before .before .write .ensures .0) (c .before .before .give-written .ensures) (c .before .before .before .before .before .before .write .ensures .1)
 
 pub whl-normal-write-spec : {M : Type 1} → statement M
 whl-normal-write-spec =

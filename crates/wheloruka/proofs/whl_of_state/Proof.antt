@@ -3,8 +3,8 @@
 use mathlib.Core.Path.{_≡_, sym, ap₂, _∙_}
 use lib.ListN.{length, take}
 use lib.Seq.{length-take-le}
-use Rattle.state.specs.State.{stateOf}
-use Rattle.normstate.specs.OfState.{fileOf, leftIn}
+use Rattle.take_state.specs.State.{stateOf}
+use Rattle.norm_state.specs.OfState.{fileOf, stateLeftIn}
 use Rattle.wheloruka.specs.Taking.{lent}
 use Rattle.wheloruka.specs.Writing.{headedNumber, stateFile, stateFileLeft}
 use Rattle.wheloruka.proofs.Writes.{gives, keeps, file-whole, left-whole, file-headed, left-headed, state-none}
@@ -51,7 +51,7 @@ returns c =
     let t = c .before .before .before .before .before .before .before .before .before .tally-in .ensures in
     let whole = sym (c .before .before .before .before .before .before .before .before .before .before .before .before .judge-headed .ensures) ∙ c .before .before .before .before .before .before .before .before .before .before .before .if1 .taken in
     let told = c .before .before .before .before .before .before .of-state .ensures .0 ∙ ap₂ (λ h t. fileOf h (stateOf (a .matrix .now) (a .rights .now) t) (length (take room (a .out .now)))) h t ∙ file-whole _ x whole _ in
-    let left = c .before .before .before .before .before .before .of-state .ensures .1 ∙ ap₂ (λ h t. leftIn h (stateOf (a .matrix .now) (a .rights .now) t) (take room (a .out .now))) h t ∙ left-whole _ x whole _ in
+    let left = c .before .before .before .before .before .before .of-state .ensures .1 ∙ ap₂ (λ h t. stateLeftIn h (stateOf (a .matrix .now) (a .rights .now) t) (take room (a .out .now))) h t ∙ left-whole _ x whole _ in
     gives (stateFile (a .heading .now) x) (stateFileLeft (a .heading .now) x) _ _ (state-none _ _) _ (c .before .before .before .before .before .before .before .before .room-for .ensures .0) _ told (c .before .before .give-written .ensures) left
 
 returns-2 : tie.Need-returns-2

@@ -2,8 +2,8 @@
 -- Assumes nothing.
 use mathlib.Core.Path.{_∙_, ap}
 use lib.ListN.{length}
-use Rattle.arcread.specs.Arc.{readArc}
-use Rattle.calling.specs.Reading.{readNumber, headingLeft, placesLeft}
+use Rattle.arc_read.specs.Arc.{readArc}
+use Rattle.call_files.specs.Reading.{readNumber, headingLeft, placesLeft}
 use Rattle.wheloruka.proofs.Files.{arc-is, arc-fits}
 use borrow.Author.Needs.{needs}
 use Rattle.wheloruka.proofs.whl_read.Statement.{statement}

@@ -1,7 +1,7 @@
 -- `wheloruka::whl_read_place` meets its contract.
 -- Assumes nothing.
 use mathlib.Core.Path.{_∙_}
-use Rattle.arcread.specs.Arc.{readArc}
+use Rattle.arc_read.specs.Arc.{readArc}
 use Rattle.wheloruka.proofs.Files.{arc-place}
 use borrow.Author.Needs.{needs}
 use Rattle.wheloruka.proofs.whl_read_place.Statement.{statement}

@@ -1,7 +1,7 @@
 -- `wheloruka::whl_seen` meets its contract: 20 where the heading or the tally is short, else what the state's entry told.
 -- Assumes nothing.
 use mathlib.Core.Path.{sym, ap₂, _∙_}
-use Rattle.state.specs.State.{stateOf, sightOf}
+use Rattle.take_state.specs.State.{stateOf, sightOf}
 use Rattle.wheloruka.proofs.Calls.{seen-short, seen-whole}
 use borrow.Author.Needs.{needs}
 use Rattle.wheloruka.proofs.whl_seen.Statement.{statement}

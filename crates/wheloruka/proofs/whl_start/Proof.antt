@@ -2,8 +2,8 @@
 -- Assumes nothing.
 use mathlib.Core.Path.{sym, ap, _∙_}
 use Rattle.refusal.specs.First.{answered}
-use Rattle.heading.specs.Judge.{toldVerdict}
-use Rattle.state.specs.State.{roomNumber, started}
+use Rattle.refusal.specs.Told.{toldVerdict}
+use Rattle.take_state.specs.State.{roomNumber, started}
 use Rattle.wheloruka.proofs.Calls.{short, done, kept, start-kept}
 use borrow.Author.Needs.{needs}
 use Rattle.wheloruka.proofs.whl_start.Statement.{statement}

@@ -2,8 +2,8 @@
 -- Assumes nothing.
 use mathlib.Core.Path.{sym, ap₂, _∙_}
 use Rattle.refusal.specs.First.{answered}
-use Rattle.state.specs.State.{stateOf}
-use Rattle.account.specs.Taking.{takeAnswer, takeStep}
+use Rattle.take_state.specs.State.{stateOf}
+use Rattle.take_laws.specs.Taking.{takeAnswer, takeStep}
 use Rattle.wheloruka.proofs.Calls.{short, gives, take-kept}
 use borrow.Author.Needs.{needs}
 use Rattle.wheloruka.proofs.whl_take.Statement.{statement}

@@ -3,9 +3,9 @@
 use mathlib.Core.Path.{sym, ap₂, _∙_}
 use lib.ListN.{length}
 use Rattle.refusal.specs.First.{answered}
-use Rattle.state.specs.State.{stateOf}
-use Rattle.account.specs.Taking.{runNumber, runState, runAnswers}
-use Rattle.taking.proofs.Answers.{state-left}
+use Rattle.take_state.specs.State.{stateOf}
+use Rattle.take_laws.specs.Taking.{runNumber, runState, runAnswers}
+use Rattle.take.proofs.Answers.{state-left}
 use Rattle.wheloruka.proofs.Calls.{short, gives, answers-short, answers-whole}
 use borrow.Author.Needs.{needs}
 use Rattle.wheloruka.proofs.whl_take_run.Statement.{statement}

@@ -1,6 +1,6 @@
 -- `wheloruka::whl_unit_of` meets its contract: the unit, or the refusal.
 -- Assumes nothing.
-use Rattle.rooms.specs.Result.{one}
+use Rattle.call_rooms.specs.Result.{one}
 use Rattle.wheloruka.specs.Numbers.{unitValues}
 use Rattle.wheloruka.proofs.Numbers.{as-told}
 use borrow.Author.Needs.{needs}

@@ -2,8 +2,8 @@
 -- Assumes nothing.
 use mathlib.Core.Path.{sym}
 use lib.Seq.{length-take-le}
-use Rattle.calling.specs.Arcs.{arcFile, arcLeft}
-use Rattle.calling.proofs.Arcs.{arc-none}
+use Rattle.call_files.specs.Arcs.{arcFile, arcLeft}
+use Rattle.call_files.proofs.Arcs.{arc-none}
 use Rattle.wheloruka.proofs.Writes.{gives}
 use borrow.Author.Needs.{needs}
 use Rattle.wheloruka.proofs.whl_write.Statement.{statement}

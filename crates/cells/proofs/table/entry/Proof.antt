@@ -6,8 +6,8 @@ use mathlib.Core.Bool.{true}
 use mathlib.Core.List.{List}
 use mathlib.Core.Path.{_≡_, refl}
 use Prim.Native.Nat.{ℕ}
-use Rattle.whole.specs.Tests.{less, upTo, same, pick, both, between}
-use Rattle.whole.proofs.Tables.{every}
+use Rattle.num_whole.specs.Tests.{less, upTo, same, pick, both, between}
+use Rattle.num_whole.proofs.Tables.{every}
 use Rattle.cells.specs.Cells.{isCell, cellIndex}
 use Rattle.cells.specs.Table.{decoded}
 use Rattle.cells.proofs.Agreement.{right, agrees}

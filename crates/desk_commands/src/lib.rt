@@ -1,0 +1,513 @@
+// The commands of the desk program: which words name them, which files they read and write, and what they tell. What is told of a file comes
+// from the proved libraries; here bytes are only moved. Results and refusals go to standard output, what the system refuses to standard error.
+// The rooms for files are locals of two functions, one for arc files and one for normal files, each called from several places: a function that is
+// called from one place only becomes a part of its caller, and the stack then has the rooms of all commands at once.
+use arc_heading::Heading;
+use arc_read::ArcRead;
+use byte_section::ReadAnswer;
+use byte_section::WriteAnswer;
+use merge::MergeAnswer;
+use norm_read::NormalRead;
+use refusal::Verdict;
+use take_one::TakeAnswer;
+use take_tally::Tally;
+ghost use mathlib.Core.Path.{_≡_};
+ghost use lib.ListN.{length};
+ghost use Rattle.io.specs.Counts.{Counts};
+
+// ---- files in and out
+
+// What was fetched: whether the file is in the room, whole, and its length.
+struct Fetched {
+    is_here: bool,
+    length: usize,
+}
+
+// Reads a file into the room, whose last byte only shows that there is more. A file that can't be read or is too long is told.
+fn fetch(path: &[u8], room: &mut [u8]) -> Fetched {
+    let got = desk_files::load_path(path, room);
+    let n = got.length;
+    let mut is_here = false;
+    if got.is_whole {
+        if n < room.len() {
+            is_here = true;
+        } else if n > 0 {
+            desk_tell::tell_long(path, n - 1);
+        }
+    }
+    Fetched { is_here, length: n }
+}
+
+// Writes the first bytes of the room as a new file: whether that was done.
+fn store(path: &[u8], room: &[u8], count: usize) -> bool {
+    let k = desk_files::within(count, room);
+    let is_saved = desk_files::save(path, &room[..k]);
+    if is_saved {
+        desk_tell::begin(path, b"written, ");
+        desk_lines::put_number(k as u64, b" bytes\n");
+    }
+    is_saved
+}
+
+// ---- arc files
+
+// What is done with an arc file.
+enum Asked {
+    Check,
+    List,
+    Normal,
+}
+
+fn tell_arc(path: &[u8], r: ArcRead) {
+    let h = r.heading;
+    desk_tell::begin(path, b"accepted: arc ");
+    desk_lines::put_number(h.settings.arc as u64, b", parameters ");
+    desk_lines::put_number(h.parameters as u64, b", stations ");
+    desk_lines::put_number(h.stations as u64, b", records ");
+    desk_lines::put_number(r.count as u64, b"\n");
+}
+
+// For the longest listing (docs/FORMATS.md).
+fn text_room() -> [u8; 5596]
+    ensures { λ r. ⌜ 5596 ≡ length r ⌝ }
+{
+    [0; 5596]
+}
+
+// The listing of an accepted arc file.
+fn list_arc(path: &[u8], file: &[u8]) {
+    let mut out = text_room();
+    match list::list(file, file.len(), &mut out) {
+        WriteAnswer::Is(n) => {
+            let k = desk_files::within(n, &out);
+            desk_lines::put(&out[..k]);
+        }
+        WriteAnswer::Refused(why) => desk_tell::tell_refusal(path, why),
+    }
+}
+
+// The records of a file, from their place on.
+fn records_of(file: &[u8], start: usize) -> &[u8] {
+    if start <= file.len() {
+        &file[start..]
+    } else {
+        &file[0..0]
+    }
+}
+
+fn matrix_room() -> [i64; 1275]
+    ensures { λ r. ⌜ 1275 ≡ length r ⌝ }
+{
+    [0; 1275]
+}
+
+// For the answers of the most records that a file has.
+fn answers_room() -> [u8; 65535]
+    ensures { λ r. ⌜ 65535 ≡ length r ⌝ }
+{
+    [0; 65535]
+}
+
+// For the longest normal file of one arc.
+fn single_room() -> [u8; 11840]
+    ensures { λ r. ⌜ 11840 ≡ length r ⌝ }
+{
+    [0; 11840]
+}
+
+// The normal file of a state, and what its records came to.
+fn store_state(
+    path: &[u8],
+    h: Heading,
+    t: Tally,
+    matrix: &[i64],
+    rights: &[i64],
+    answers: &[u8],
+    to: &[u8],
+) {
+    let mut out = single_room();
+    match norm_state::of_state(h, t, matrix, rights, &mut out) {
+        WriteAnswer::Is(n) => {
+            if store(to, &out, n) {
+                desk_tell::tell_records(answers);
+                desk_tell::tell_unseen(h, matrix);
+            }
+        }
+        WriteAnswer::Refused(why) => desk_tell::tell_refusal(path, why),
+    }
+}
+
+// An accepted arc file's records taken into the empty state. `answers` has room for an answer a record.
+fn take_records(
+    path: &[u8],
+    file: &[u8],
+    r: ArcRead,
+    t: Tally,
+    matrix: &mut [i64],
+    rights: &mut [i64],
+    answers: &mut [u8],
+    to: &[u8],
+) {
+    let h = r.heading;
+    let run = records_of(file, r.start);
+    let taken = take::take_run(h, t, matrix, rights, run, answers);
+    let u = taken.tally;
+    let answer = taken.answer;
+    match answer {
+        TakeAnswer::Accepted => {
+            let k = desk_files::within(r.count, answers);
+            store_state(path, h, u, matrix, rights, &answers[..k], to);
+        }
+        TakeAnswer::Refused(why) => desk_tell::tell_refusal(path, why),
+    }
+}
+
+// The normal file of an accepted arc file.
+fn normal_of_arc(path: &[u8], file: &[u8], r: ArcRead, to: &[u8]) {
+    let h = r.heading;
+    let mut matrix = matrix_room();
+    let mut rights: [i64; 50] = [0; 50];
+    let mut answers = answers_room();
+    let s = take_state::start(h, &mut matrix, &mut rights);
+    let t = s.tally;
+    let answer = s.answer;
+    match answer {
+        Verdict::Sound => take_records(
+            path,
+            file,
+            r,
+            t,
+            &mut matrix,
+            &mut rights,
+            &mut answers,
+            to,
+        ),
+        Verdict::Refused(why) => desk_tell::tell_refusal(path, why),
+    }
+}
+
+// What is asked of an accepted arc file.
+fn use_arc(path: &[u8], file: &[u8], r: ArcRead, to: &[u8], asked: Asked) {
+    match asked {
+        Asked::Check => tell_arc(path, r),
+        Asked::List => list_arc(path, file),
+        Asked::Normal => normal_of_arc(path, file, r, to),
+    }
+}
+
+fn judge_arc(path: &[u8], file: &[u8], to: &[u8], asked: Asked) {
+    let r = arc_read::read(file);
+    let answer = r.answer;
+    match answer {
+        ReadAnswer::Read => use_arc(path, file, r, to, asked),
+        ReadAnswer::Refused(why, place) => desk_tell::tell_place(path, why, place),
+    }
+}
+
+fn fetch_arc(path: &[u8], to: &[u8], asked: Asked, room: &mut [u8]) {
+    let got = fetch(path, room);
+    if got.is_here {
+        let n = desk_files::within(got.length, room);
+        judge_arc(path, &room[..n], to, asked);
+    }
+}
+
+// An arc file is read and judged, and what is asked is done with it, with OUT where that is a file.
+fn with_arc(path: &[u8], to: &[u8], asked: Asked) {
+    let mut room = desk_files::arc_room();
+    fetch_arc(path, to, asked, &mut room);
+}
+
+// ---- normal files
+
+fn tell_normal(path: &[u8], file: &[u8], r: NormalRead) {
+    desk_tell::begin(path, b"accepted: arcs ");
+    desk_lines::put_number(r.arcs as u64, b", parameters ");
+    desk_lines::put_number(r.parameters as u64, b", records accepted ");
+    desk_lines::put_number(byte_read::read_u64(file, r.totals), b"\n");
+}
+
+// Two files and the name of the third.
+fn merge_files(first: &[u8], a: &[u8], second: &[u8], b: &[u8], to: &[u8], out: &mut [u8]) {
+    match merge::merge(a, b, out) {
+        MergeAnswer::Is(n) => {
+            store(to, out, n);
+        }
+        MergeAnswer::First(why, place) => desk_tell::tell_place(first, why, place),
+        MergeAnswer::Second(why, place) => desk_tell::tell_place(second, why, place),
+        MergeAnswer::Refused(why) => {
+            desk_lines::put(first);
+            desk_lines::put(b" and ");
+            desk_tell::tell_refusal(second, why);
+        }
+    }
+}
+
+fn fetch_second(first: &[u8], a: &[u8], second: &[u8], to: &[u8], room: &mut [u8], out: &mut [u8]) {
+    let got = fetch(second, room);
+    if got.is_here {
+        let n = desk_files::within(got.length, room);
+        merge_files(first, a, second, &room[..n], to, out);
+    }
+}
+
+// The first file is judged before the second is fetched.
+fn judge_first(
+    first: &[u8],
+    a: &[u8],
+    is_merge: bool,
+    second: &[u8],
+    to: &[u8],
+    room: &mut [u8],
+    out: &mut [u8],
+) {
+    let r = norm_read::read(a);
+    let answer = r.answer;
+    match answer {
+        ReadAnswer::Read => {
+            if is_merge {
+                fetch_second(first, a, second, to, room, out);
+            } else {
+                tell_normal(first, a, r);
+            }
+        }
+        ReadAnswer::Refused(why, place) => desk_tell::tell_place(first, why, place),
+    }
+}
+
+fn fetch_first(
+    first: &[u8],
+    is_merge: bool,
+    second: &[u8],
+    to: &[u8],
+    one: &mut [u8],
+    two: &mut [u8],
+    out: &mut [u8],
+) {
+    let got = fetch(first, one);
+    if got.is_here {
+        let n = desk_files::within(got.length, one);
+        judge_first(first, &one[..n], is_merge, second, to, two, out);
+    }
+}
+
+// A normal file is read and judged, and told with its counts or merged with a second one into OUT.
+fn with_normals(first: &[u8], is_merge: bool, second: &[u8], to: &[u8]) {
+    let mut one = desk_files::normal_room();
+    let mut two = desk_files::normal_room();
+    let mut out = desk_files::normal_room();
+    fetch_first(first, is_merge, second, to, &mut one, &mut two, &mut out);
+}
+
+// ---- the lines of help
+
+fn help_list() {
+    desk_lines::put(b"desk list ARC              the listing of an arc file\n");
+}
+
+fn help_normal() {
+    desk_lines::put(
+        b"desk normal ARC OUT        the normal file of an arc file, as a new file OUT\n",
+    );
+}
+
+fn help_merge() {
+    desk_lines::put(b"desk merge A B OUT         two normal files merged, as a new file OUT\n");
+}
+
+fn help_check() {
+    desk_lines::put(
+        b"desk check arc FILE        an arc file accepted with its counts, or refused with number and place\n",
+    );
+    desk_lines::put(b"desk check normal FILE     the same for a normal file\n");
+}
+
+fn help_help() {
+    desk_lines::put(b"desk help                  these lines\n");
+}
+
+fn help() {
+    help_list();
+    help_normal();
+    help_merge();
+    help_check();
+    help_help();
+    desk_lines::put(
+        b"Arc files may have up to 4194304 bytes, normal files up to 1018100. A file OUT that is there stays as it is.\n",
+    );
+    desk_lines::put(
+        b"OUT is written as OUT.part and then gets its name, so that it is whole or not there.\n",
+    );
+}
+
+// The words of a command that has too few or too many.
+fn usage() {
+    desk_lines::put(b"desk: this command wants other words:\n");
+}
+
+fn unknown() {
+    desk_lines::put(b"desk: no such command; 'desk help' names them\n");
+}
+
+// ---- the words
+
+// Says what is wrong with a word that is not in its buffer, or is no path.
+fn tell_word(after: u8, text: &[u8]) {
+    desk_lines::put(b"desk: word ");
+    desk_lines::put_number(after as u64 + 1, text);
+}
+
+// Whether a word is too long for a path, which has a 0 behind it; errno tells of one that is longer than its buffer.
+fn is_long(length: usize, why: i32) -> bool {
+    if length < libc::PATH_MAX {
+        why == libc::ENAMETOOLONG
+    } else {
+        true
+    }
+}
+
+// The length of a word that is a path; 0 where it is empty or too long for one, which is told.
+fn judged(after: u8, length: usize, why: i32) -> usize {
+    if is_long(length, why) {
+        tell_word(after, b" is longer than a name may be, 4095 bytes\n");
+        return 0;
+    }
+    if length == 0 {
+        tell_word(after, b" is empty\n");
+    }
+    length
+}
+
+// Puts a word of the command line into a buffer, so many after word `at`: its length, or 0 where it is no path.
+fn word(at: usize, after: u8, buf: &mut [u8]) -> usize
+    ensures { λ r. ⌜ Counts r (now (buf .exit)) ⌝ }
+{
+    if at < 1000000 {
+        let n = os::arg(at + after as usize, buf);
+        return desk_files::within(judged(after, n, os::errno()), buf);
+    }
+    desk_files::within(0, buf)
+}
+
+// `list ARC`
+fn words_list(at: usize, count: usize) {
+    if count != 2 {
+        usage();
+        help_list();
+        return;
+    }
+    let mut path = io::buffer();
+    let n = word(at, 1, &mut path);
+    if n > 0 {
+        with_arc(&path[..n], b"", Asked::List);
+    }
+}
+
+// `normal ARC OUT`
+fn words_normal(at: usize, count: usize) {
+    if count != 3 {
+        usage();
+        help_normal();
+        return;
+    }
+    let mut path = io::buffer();
+    let mut to = io::buffer();
+    let n = word(at, 1, &mut path);
+    let m = word(at, 2, &mut to);
+    if n > 0 {
+        if m > 0 {
+            with_arc(&path[..n], &to[..m], Asked::Normal);
+        }
+    }
+}
+
+// `merge A B OUT`
+fn words_merge(at: usize, count: usize) {
+    if count != 4 {
+        usage();
+        help_merge();
+        return;
+    }
+    let mut one = io::buffer();
+    let mut two = io::buffer();
+    let mut to = io::buffer();
+    let p = word(at, 1, &mut one);
+    let q = word(at, 2, &mut two);
+    let r = word(at, 3, &mut to);
+    if p > 0 {
+        if q > 0 {
+            if r > 0 {
+                with_normals(&one[..p], true, &two[..q], &to[..r]);
+            }
+        }
+    }
+}
+
+fn run_check(what: &[u8], path: &[u8]) {
+    if check::same(what, b"arc") {
+        with_arc(path, b"", Asked::Check);
+    } else if check::same(what, b"normal") {
+        with_normals(path, false, b"", b"");
+    } else {
+        usage();
+        help_check();
+    }
+}
+
+// `check arc FILE`, `check normal FILE`
+fn words_check(at: usize, count: usize) {
+    if count != 3 {
+        usage();
+        help_check();
+        return;
+    }
+    let mut what = io::buffer();
+    let mut path = io::buffer();
+    let n = word(at, 1, &mut what);
+    let m = word(at, 2, &mut path);
+    if n > 0 {
+        if m > 0 {
+            run_check(&what[..n], &path[..m]);
+        }
+    }
+}
+
+// `help`
+fn words_help(count: usize) {
+    if count == 1 {
+        help();
+    } else {
+        usage();
+        help_help();
+    }
+}
+
+// The command that a word names.
+fn run_verb(verb: &[u8], at: usize, count: usize) {
+    if check::same(verb, b"list") {
+        words_list(at, count);
+    } else if check::same(verb, b"normal") {
+        words_normal(at, count);
+    } else if check::same(verb, b"merge") {
+        words_merge(at, count);
+    } else if check::same(verb, b"check") {
+        words_check(at, count);
+    } else if check::same(verb, b"help") {
+        words_help(count);
+    } else {
+        unknown();
+    }
+}
+
+// The command of `count` words from word `at` of the command line on; with none, the lines of help.
+pub fn run(at: usize, count: usize) {
+    if count == 0 {
+        help();
+        return;
+    }
+    let mut verb = io::buffer();
+    let n = word(at, 0, &mut verb);
+    if n > 0 {
+        run_verb(&verb[..n], at, count);
+    }
+}

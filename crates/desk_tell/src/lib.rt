@@ -1,0 +1,159 @@
+// What the desk program says of a file: its name, the refusal's number and place, and the sentence of the paper's table, in one line; and what an
+// arc's records came to.
+use arc_heading::Heading;
+use arc_limits::Label;
+use refusal::Refusal;
+ghost use mathlib.Core.Path.{_≡_};
+ghost use Prim.Native.Nat.{_+_, _<_, _≤_};
+ghost use lib.ListN.{length};
+
+// The sentence of the paper's table for a refusal.
+fn put_sentence(r: Refusal) {
+    match r {
+        Refusal::Short => desk_lines::put(
+            b"bytes end before a count or section is complete, or a record is short",
+        ),
+        Refusal::Count => desk_lines::put(b"a count is not one that this paper allows"),
+        Refusal::Surplus => desk_lines::put(b"bytes follow the last section or a record's end"),
+        Refusal::Limits => desk_lines::put(
+            b"a heading, label, calendar or cell field is out of its limits",
+        ),
+        Refusal::Order => desk_lines::put(b"labels, stations or arcs don't ascend"),
+        Refusal::Unsound => desk_lines::put(b"sums not sound"),
+        Refusal::NoStation => desk_lines::put(b"station not listed"),
+        Refusal::NoType => desk_lines::put(b"type not 1 to 10"),
+        Refusal::Sigma => desk_lines::put(b"s not 1 to 256"),
+        Refusal::Clock => desk_lines::put(b"day not 1 to 54,787, or ms not 0 to 86,399,999"),
+        Refusal::Window => desk_lines::put(b"t outside the window"),
+        Refusal::NotFinite => desk_lines::put(b"observed or computed not finite"),
+        Refusal::UnitLimits => desk_lines::put(b"either one's q out of its limits"),
+        Refusal::NotLater => desk_lines::put(
+            b"t not later than the last time of this station and type",
+        ),
+        Refusal::Edit => desk_lines::put(b"edit not passed"),
+        Refusal::Full => desk_lines::put(b"station already has 256"),
+        Refusal::Room => desk_lines::put(b"a lent buffer shorter than needed"),
+        Refusal::SharedArc => desk_lines::put(b"both files list one arc"),
+        Refusal::ManyArcs => desk_lines::put(b"more than 16 arcs together"),
+        Refusal::ManyParameters => desk_lines::put(b"more than 500 parameters together"),
+        Refusal::Unlike => desk_lines::put(b"a common label with unlike prior weight or estimate"),
+        Refusal::Lacking => desk_lines::put(b"a label or arc that the system lacks"),
+        Refusal::Early => desk_lines::put(b"written before every listed arc has been added"),
+        Refusal::NothingLeft => desk_lines::put(b"nothing is left"),
+        Refusal::Closed => desk_lines::put(b"the file is over, or was refused"),
+        Refusal::Falling => desk_lines::put(b"a time falls within a run"),
+    }
+}
+
+// One line: the file, and what came of it so far.
+pub fn begin(path: &[u8], text: &[u8]) {
+    desk_lines::put(path);
+    desk_lines::put(b": ");
+    desk_lines::put(text);
+}
+
+// A refusal with its place in a file.
+pub fn tell_place(path: &[u8], why: Refusal, place: usize) {
+    begin(path, b"");
+    desk_lines::put_refusal(why, b" at byte ");
+    desk_lines::put_number(place as u64, b": ");
+    put_sentence(why);
+    desk_lines::put(b"\n");
+}
+
+// A refusal that has no place.
+pub fn tell_refusal(path: &[u8], why: Refusal) {
+    begin(path, b"");
+    desk_lines::put_refusal(why, b": ");
+    put_sentence(why);
+    desk_lines::put(b"\n");
+}
+
+// A file that is longer than the room for it.
+pub fn tell_long(path: &[u8], most: usize) {
+    begin(path, b"refused 20 at byte ");
+    desk_lines::put_number(
+        most as u64,
+        b": the file is longer than this program reads\n",
+    );
+}
+
+// ---- the records of an arc
+
+// For the lines of the records: 59 bytes and at most 19 lines of 42.
+fn lines_room() -> [u8; 857]
+    ensures { λ r. ⌜ 857 ≡ length r ⌝ }
+{
+    [0; 857]
+}
+
+// The listing's lines of the records: how many, how many accepted, and how many have each refusal.
+pub fn tell_records(answers: &[u8]) {
+    let mut room = lines_room();
+    let n = answers.len() as u64;
+    let a = list_lines::put_two(
+        &mut room,
+        0,
+        b"records ",
+        n,
+        b" accepted ",
+        list_tallies::tally(answers, 0),
+    );
+    let b = list_tallies::put_tallies(&mut room, a, answers);
+    let k = desk_files::within(b, &room);
+    desk_lines::put(&room[..k]);
+}
+
+// Whether parameter i of an arc is unseen: its diagonal sum is 0.
+fn is_unseen(matrix: &[i64], i: usize) -> bool
+    requires { ⌜ i < 50 ⌝ }
+{
+    let k = num_packed::place(i, i);
+    if k < matrix.len() {
+        matrix[k] == 0
+    } else {
+        false
+    }
+}
+
+// Kind and index of a parameter, with a comma before all but the first.
+fn tell_label(before: usize, kind: u16, index: u16) {
+    if before == 0 {
+        desk_lines::put(b" ");
+    } else {
+        desk_lines::put(b", ");
+    }
+    desk_lines::put_number(kind as u64, b" ");
+    desk_lines::put_number(index as u64, b"");
+}
+
+// Tells parameter i of an arc with so many, so many told before it, where it is unseen: how many are told then.
+fn tell_silent(parameters: usize, matrix: &[i64], i: usize, before: usize, l: Label) -> usize
+    requires { ⌜ (i < 50) × (before < 50) ⌝ }
+    ensures { λ r. ⌜ r ≤ before + 1 ⌝ }
+{
+    if i < parameters {
+        if is_unseen(matrix, i) {
+            tell_label(before, l.kind, l.index);
+            return before + 1;
+        }
+    }
+    before
+}
+
+// One line: the unseen parameters of an arc by kind and index, or that there is none.
+pub fn tell_unseen(h: Heading, matrix: &[i64]) {
+    let p = h.parameters;
+    desk_lines::put(b"unseen parameters:");
+    let mut n: usize = 0;
+    let mut i: usize = 0;
+    while i < 50 {
+        let l = h.labels[i];
+        n = tell_silent(p, matrix, i, n, l);
+        i += 1;
+    }
+    if n == 0 {
+        desk_lines::put(b" none");
+    }
+    desk_lines::put(b"\n");
+}

@@ -1,0 +1,106 @@
+-- `list_lines::put_parameters` meets its contract. The loop's invariant: the lines of the labels left, laid at the place, make the whole.
+-- Assumes nothing.
+use Prim.Native.Nat.{_-_, _≤_}
+use mathlib.Core.Path.{_≡_, refl, _∙_}
+use native.Mathlib.Omega.{arith}
+use lib.ListN.{length, length-map}
+use mir.Syntax.{w64}
+use mir.ValLaws.{toZ-ofZ}
+use borrow.Author.Needs.{needs}
+use Rattle.num_whole.specs.Lists.{rest}
+use Rattle.decimal.specs.Laid.{laid}
+use Rattle.arc_heading.specs.Judge.{labelsOf}
+use Rattle.num_packed.proofs.Places.{tri-within}
+use Rattle.take_state.proofs.Rooms.{place-small}
+use Rattle.list_lines.specs.Lines.{parameterLines}
+use Rattle.list_lines.proofs.Laws.{row-laid, lines-turn, lines-end, parameters-turn, parameters-end}
+use Rattle.list_lines.proofs.put_parameters.Statement.{statement}
+use Rattle.list_lines.proofs.put_parameters.Tie as tie
+
+abbrev Inv-loop : tie.InvT-loop
+Inv-loop room₀ start matrix rights h n at₀ i₀ room at i =
+    (i ≤ n)
+    × (length (h .labels) ≡ 50)
+    × (length room ≡ length room₀)
+    × (laid room at (parameterLines matrix rights i (rest (h .labels) n i)) ≡ laid room₀ start (parameterLines matrix rights 0 (labelsOf h)))
+
+abbrev μ-loop : tie.MeasureT-loop
+μ-loop room₀ start matrix rights h n at₀ i₀ room at i = n - i
+
+loop-holds : tie.Need-loop-holds Inv-loop μ-loop
+unfolding labelsOf rest
+loop-holds c = (search needs, simp length-map at (c .before .good .1 .1 .0 .1 .1 .1 .1 .1 .0 .1 .0 .1), refl, refl)
+
+mul-l : tie.Need-mul-l Inv-loop μ-loop
+mul-l c = search needs
+
+element-copy-out-l : tie.Need-element-copy-out-l Inv-loop μ-loop
+element-copy-out-l c = search needs
+
+place-requires : tie.Need-place-requires Inv-loop μ-loop
+place-requires c κs = search needs
+
+mul-put-parameter : tie.Need-mul-put-parameter Inv-loop μ-loop
+mul-put-parameter c = record { fits = omega (arith, c .before .place .ensures, place-small (c .before .before .before .before .loop .i) (omega arith)) }
+
+shared-slice-copy-out-put-parameter : tie.Need-shared-slice-copy-out-put-parameter Inv-loop μ-loop
+shared-slice-copy-out-put-parameter c = omega (arith, c .before .place .ensures, tri-within _ _ (c .before .before .before .loop-test .taken))
+
+mul-put-parameter-2 : tie.Need-mul-put-parameter-2 Inv-loop μ-loop
+mul-put-parameter-2 c = search needs
+
+shared-slice-copy-out-put-parameter-2 :
+    tie.Need-shared-slice-copy-out-put-parameter-2 Inv-loop μ-loop
+shared-slice-copy-out-put-parameter-2 c = search needs
+
+put-parameter-requires : tie.Need-put-parameter-requires Inv-loop μ-loop
+put-parameter-requires c κs = search needs
+
+add-i : tie.Need-add-i Inv-loop μ-loop
+add-i c = search needs
+
+loop-less : tie.Need-loop-less Inv-loop μ-loop
+loop-less c = search needs
+
+loop-again : tie.Need-loop-again Inv-loop μ-loop
+loop-again c =
+    let l = c .before .before .before .before .before .before .before .before .before .loop in
+    let a = c .before .before .before .before .before .before .before .before .before .before .before .args in
+    let line = row-laid (l .room) (l .at) _ (a .matrix .now) (a .rights .now) (l .i) (c .before .before .before .before .before .before .place .ensures)
+    (toZ-ofZ w64 _ (search needs)) (toZ-ofZ w64 _ (search needs)) (c .before .before .put-parameter .ensures) in (
+      search needs,
+      search needs,
+      c .before .before .put-parameter .kept .0 ∙ l .inv .2,
+      lines-turn _ _ _ _ line (parameters-turn (a .matrix .now) (a .rights .now) _ _ (l .i) (omega arith) (omega arith)) (l .inv .3),
+    )
+
+least-requires : tie.Need-least-requires Inv-loop μ-loop
+least-requires c κs = search needs
+
+same-length : tie.Need-same-length Inv-loop μ-loop
+same-length c = search needs
+
+returns : tie.Need-returns Inv-loop μ-loop
+returns c = lines-end _ _ (c .least .ensures) (parameters-end _ _ _ _ _ (omega arith)) (c .before .before .loop .inv .3)
+
+pub put-parameters-spec : {M : Type 1} → statement M
+put-parameters-spec =
+    tie.close
+    (tie.spec
+    Inv-loop
+    μ-loop
+    loop-holds
+    mul-l
+    element-copy-out-l
+    place-requires
+    mul-put-parameter
+    shared-slice-copy-out-put-parameter
+    mul-put-parameter-2
+    shared-slice-copy-out-put-parameter-2
+    put-parameter-requires
+    add-i
+    loop-less
+    loop-again
+    least-requires
+    same-length
+    returns)

@@ -1,0 +1,108 @@
+-- Document 01, 'At the edges' 7: the lines of the arc program's listing, as bytes. "Parameter lines give diagonal and right side; refusal lines give
+-- number and tally, ascending. With no records, line 3 is `3 0 unseen 0 0`. A refused file prints only `refused N at PLACE`". Every line ends in
+-- one newline; numbers with tally 0 are left out.
+use Prim.Native.Nat.{ℕ, zero, suc}
+use mathlib.Core.Bool.{Bool}
+use mathlib.Core.List.{List, [], _∷_, _++_}
+use lib.IntN.{ℤ, pos}
+use lib.ListN.{length, getD}
+use Rattle.num_whole.specs.Tests.{same, pick}
+use Rattle.decimal.specs.Decimal.{decimal, signedDecimal}
+use Rattle.decimal.specs.Text.{ascii}
+use Rattle.arc_limits.specs.declared.Label.{Label}
+use Rattle.arc_heading.specs.Judge.{labelsOf}
+use Rattle.arc_heading.specs.declared.Heading.{Heading}
+use Rattle.num_packed.specs.Sound.{entry}
+use Rattle.take_state.specs.State.{seenIn}
+use Rattle.take_laws.specs.Mix.{keep}
+
+-- ---- the words
+abbrev pub arcText : List ℕ
+arcText = ascii "arc "
+
+abbrev pub parametersText : List ℕ
+parametersText = ascii "parameters "
+
+abbrev pub seenText : List ℕ
+seenText = ascii " seen "
+
+abbrev pub unseenText : List ℕ
+unseenText = ascii " unseen "
+
+abbrev pub recordsText : List ℕ
+recordsText = ascii "records "
+
+abbrev pub acceptedText : List ℕ
+acceptedText = ascii " accepted "
+
+abbrev pub squareText : List ℕ
+squareText = ascii "square sum "
+
+abbrev pub refusedText : List ℕ
+refusedText = ascii "refused "
+
+abbrev pub atText : List ℕ
+atText = ascii " at "
+
+abbrev pub space : List ℕ
+space = ascii " "
+
+-- the end of a line
+abbrev pub newline : List ℕ
+newline = ascii "\n"
+
+-- ---- lines
+-- a text and a number: `arc 7`
+unfoldable pub oneLine : List ℕ → ℕ → List ℕ
+oneLine text n = text ++ (decimal n ++ newline)
+
+-- a number behind a text, twice: `records 2 accepted 1`
+unfoldable pub twoLine : List ℕ → ℕ → List ℕ → ℕ → List ℕ
+twoLine before m between n = before ++ (decimal m ++ (between ++ (decimal n ++ newline)))
+
+-- `refused N at PLACE`
+unfoldable pub refusedLine : ℕ → ℕ → List ℕ
+refusedLine number place = twoLine refusedText number atText place
+
+-- kind and index: `3 0`
+unfoldable pub labelText : Label → List ℕ
+labelText l = decimal (l .kind) ++ (space ++ decimal (l .index))
+
+-- diagonal and right side: `147456 50331648`, with the line's end
+unfoldable pub sumsText : ℤ → ℤ → List ℕ
+sumsText diagonal right = signedDecimal diagonal ++ (space ++ (signedDecimal right ++ newline))
+
+-- `3 0 seen 147456 50331648`
+unfoldable pub parameterLine : Label → Bool → ℤ → ℤ → List ℕ
+parameterLine l seen diagonal right = labelText l ++ (pick seen seenText unseenText ++ sumsText diagonal right)
+
+-- those of labels, the first of them parameter i, with sums
+unfoldable pub parameterLines : List ℤ → List ℤ → ℕ → List Label → List ℕ
+parameterLines m r i [] = []
+parameterLines m r i (l ∷ ls) =
+    parameterLine l (seenIn m i) (entry m i i) (getD r i (pos 0)) ++ parameterLines m r (suc i) ls
+
+-- ---- what the records were answered: 0 for accepted, else the refusal's number
+-- how many have an answer
+unfoldable pub tallyOf : ℕ → List ℕ → ℕ
+tallyOf k told = length (keep (λ n. same n k) told)
+
+-- `18 1`, or nothing where no record has that number
+unfoldable pub tallyLine : List ℕ → ℕ → List ℕ
+tallyLine told k = pick (same (tallyOf k told) 0) [] (twoLine [] k space (tallyOf k told))
+
+-- those of so many numbers, from k up
+unfoldable pub tallyLines : List ℕ → ℕ → ℕ → List ℕ
+tallyLines told zero k = []
+tallyLines told (suc n) k = tallyLine told k ++ tallyLines told n (suc k)
+
+-- ---- an arc
+-- of a heading, so many records with their answers, and the state after them: its sums, right sides and square sum
+unfoldable pub arcLines : Heading → ℕ → List ℕ → List ℤ → List ℤ → ℕ → List ℕ
+arcLines h n told m r square =
+    oneLine arcText (h .settings .arc)
+    ++ (oneLine parametersText (h .parameters)
+    ++ (parameterLines m r 0 (labelsOf h)
+    ++ (twoLine recordsText n acceptedText (tallyOf 0 told)
+    ++ (tallyLines told 19 1
+    ++ oneLine squareText square))))

@@ -1,0 +1,16 @@
+-- `list_tallies::hit` meets its contract.
+-- Assumes nothing.
+use mathlib.Core.Path.{refl}
+use native.Mathlib.Omega.{arith}
+use Rattle.num_whole.proofs.Cases.{yes, no, is-same, not-same}
+use Rattle.list_tallies.proofs.hit.Statement.{statement}
+use Rattle.list_tallies.proofs.hit.Tie as tie
+
+returns : tie.Need-returns
+returns c = (yes _ _ _ (is-same _ _ (c .if1 .taken)) refl, omega arith)
+
+returns-2 : tie.Need-returns-2
+returns-2 c = (no _ _ _ (not-same _ _ (c .if1 .left)) refl, omega arith)
+
+pub hit-spec : {M : Type 1} → statement M
+hit-spec = tie.close (tie.spec returns returns-2)

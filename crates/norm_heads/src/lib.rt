@@ -1,0 +1,136 @@
+// The arcs and the labels of a normal file, read and judged where they stand: how many of each and the place after them, or the first refusal and its place.
+use byte_section::CountAnswer;
+use byte_section::SectionAnswer;
+use norm_kinds::FloorAnswer;
+use refusal::Refusal;
+ghost use mathlib.Core.Path.{_≡_};
+ghost use Prim.Native.Nat.{_+_, _*_, _≤_};
+ghost use lib.ListN.{length, take};
+ghost use Rattle.byte_words.specs.Words.{lay};
+ghost use Rattle.byte_section.specs.Section.{records, sectionAt};
+ghost use Rattle.norm_kinds.specs.Kinds.{arcKind, normalLabelKind};
+ghost use Rattle.byte_section.specs.Told.{spanOf, toldSection};
+ghost use Rattle.norm_heads.specs.Heads.{countsPart, arcsAt, toldHeads};
+
+// What reading the arcs and the labels finds: how many of each, and the place after them.
+pub enum HeadsAnswer {
+    Read(usize, usize, usize),
+    Refused(Refusal, usize),
+}
+
+// The `count` records of the arcs section, from `start` on.
+fn walk_arcs(s: &[u8], start: usize, count: usize) -> SectionAnswer
+    requires { ⌜ (start ≤ length (now s)) × (count ≤ 16) ⌝ }
+    ensures { λ r. ⌜ toldSection r ≡ spanOf (records arcKind (now (s .entry)) count start 0) ⌝ }
+{
+    let mut at = start;
+    let mut floor: u64 = 0;
+    let mut i: usize = 0;
+    while i < count {
+        match norm_kinds::read_arc(s, at, floor) {
+            FloorAnswer::Next(next) => {
+                floor = next;
+                at += 4;
+                i += 1;
+            }
+            FloorAnswer::Refused(r, place) => {
+                return SectionAnswer::Refused(r, place);
+            }
+        }
+    }
+    SectionAnswer::Read(count, at)
+}
+
+// The arcs section, the first of the file: its count, from 1 to 16, then its records.
+fn read_arcs(s: &[u8]) -> SectionAnswer
+    ensures { λ r. ⌜ toldSection r ≡ spanOf (sectionAt arcKind (now (s .entry)) 1 16 0) ⌝ }
+{
+    match byte_section::read_count(s, 0, 1, 16) {
+        CountAnswer::Is(n) => walk_arcs(s, 4, n),
+        CountAnswer::Refused(r, place) => SectionAnswer::Refused(r, place),
+    }
+}
+
+// The n arcs of a file; slots past them are 0.
+fn arcs_of(s: &[u8], n: usize) -> [u32; 16]
+    requires { ⌜ n ≤ 16 ⌝ }
+    ensures { λ r. ⌜ (take n r ≡ arcsAt (now (s .entry)) n) × (16 ≡ length r) ⌝ }
+{
+    let mut arcs: [u32; 16] = [0; 16];
+    let mut i: usize = 0;
+    while i < n {
+        arcs[i] = byte_read::read_u32(s, 4 + 4 * i);
+        i += 1;
+    }
+    arcs
+}
+
+// The n arcs of a file, into lent room.
+pub fn load_arcs(s: &[u8], n: usize, arcs: &mut [u64])
+    requires { ⌜ (4 + 4 * n ≤ length (now s)) × (n ≤ length (now arcs)) ⌝ }
+    ensures { λ _. ⌜ now (arcs .exit) ≡ lay (now (arcs .entry)) 0 (arcsAt (now (s .entry)) n) ⌝ }
+{
+    let mut at: usize = 4;
+    let mut i: usize = 0;
+    while i < n {
+        let a = byte_read::read_u32(s, at);
+        arcs[i] = a as u64;
+        at += 4;
+        i += 1;
+    }
+}
+
+// The `count` records of the parameters section, from `start` on.
+fn walk_labels(s: &[u8], start: usize, count: usize, arcs: &[u32]) -> SectionAnswer
+    requires { ⌜ (start ≤ length (now s)) × (count ≤ 500) ⌝ }
+    ensures { λ r. ⌜ toldSection r ≡ spanOf (records (normalLabelKind (now (arcs .entry))) (now (s .entry)) count start 0) ⌝ }
+{
+    let mut at = start;
+    let mut floor: u64 = 0;
+    let mut i: usize = 0;
+    while i < count {
+        match norm_kinds::read_label(s, at, floor, arcs) {
+            FloorAnswer::Next(next) => {
+                floor = next;
+                at += 24;
+                i += 1;
+            }
+            FloorAnswer::Refused(r, place) => {
+                return SectionAnswer::Refused(r, place);
+            }
+        }
+    }
+    SectionAnswer::Read(count, at)
+}
+
+// The parameters section: its count, from 1 to 500, then its records.
+fn read_labels(s: &[u8], at: usize, arcs: &[u32]) -> SectionAnswer
+    ensures { λ r. ⌜ toldSection r ≡ spanOf (sectionAt (normalLabelKind (now (arcs .entry))) (now (s .entry)) 1 500 at) ⌝ }
+{
+    match byte_section::read_count(s, at, 1, 500) {
+        CountAnswer::Is(n) => walk_labels(s, at + 4, n, arcs),
+        CountAnswer::Refused(r, place) => SectionAnswer::Refused(r, place),
+    }
+}
+
+// The parameters section of a file of n arcs.
+fn read_parameters(s: &[u8], at: usize, n: usize) -> SectionAnswer
+    requires { ⌜ n ≤ 16 ⌝ }
+    ensures { λ r. ⌜ toldSection r ≡ spanOf (sectionAt (normalLabelKind (arcsAt (now (s .entry)) n)) (now (s .entry)) 1 500 at) ⌝ }
+{
+    let arcs = arcs_of(s, n);
+    read_labels(s, at, &arcs[..n])
+}
+
+// The arcs and the labels, one after the other.
+pub fn read_heads(s: &[u8]) -> HeadsAnswer
+    ensures { λ r. ⌜ toldHeads r ≡ countsPart (now (s .entry)) ⌝ }
+{
+    match read_arcs(s) {
+        SectionAnswer::Read(arcs, next) => match read_parameters(s, next, arcs) {
+            SectionAnswer::Read(parameters, end) => HeadsAnswer::Read(arcs, parameters, end),
+            SectionAnswer::Refused(r, place) => HeadsAnswer::Refused(r, place),
+        },
+        SectionAnswer::Refused(r, place) => HeadsAnswer::Refused(r, place),
+    }
+}

@@ -1,0 +1,4 @@
+pub mod Floors
+pub mod Records
+pub mod Labels
+pub mod Long

@@ -1,0 +1,91 @@
+-- Document 01, 'Normal file': "Sections, each after its count: arcs ..; parameters ..; matrix sums ..; right sides ..; totals"; "Files are read
+-- left to right: a section's count (1, 2), then its records one by one, each 1, 4, 5; then 3; then 6."
+use Prim.Native.Nat.{ℕ, _+_, _*_}
+use mathlib.Core.List.{List}
+use lib.IntN.{ℤ}
+use lib.ListN.{length, getD}
+use Rattle.num_whole.specs.Answer.{Judged, good, bad}
+use Rattle.byte_section.specs.Section.{Kind, Run, andThen, sectionAt, closed}
+use Rattle.num_packed.specs.Triangle.{tri}
+use Rattle.norm_system.specs.System.{System, Where, nowhere, inMatrix, inRights, inAccepted, inSquare, unsoundIn}
+use Rattle.norm_system.specs.declared.NormalLabel.{NormalLabel}
+use Rattle.norm_kinds.specs.Kinds.{arcKind, normalLabelKind, sumKind, Totals, noTotals, totalsKind}
+use Rattle.byte_section.specs.Told.{toldAnswer}
+use Rattle.norm_read.specs.declared.NormalRead.{NormalRead}
+
+-- what a normal file holds, and where the records of its last three sections begin
+pub record Normal : Type 0 where
+  pub holds : System
+  pub matrix : ℕ
+  pub rights : ℕ
+  pub totals : ℕ
+
+abbrev pub systemFrom : List ℕ → List NormalLabel → List ℤ → List ℤ → Totals → System
+systemFrom arcs labels matrix rights t =
+    record { arcs = arcs; labels = labels; matrix = matrix; rights = rights; accepted = t .accepted; square = t .square }
+
+-- a section whose count can only be n
+abbrev pub exactly : {A : Type 0} → Kind A → List ℕ → ℕ → ℕ → Judged (Run A)
+exactly K s n at = sectionAt K s n n at
+
+-- "for 6 the first unsound sum in file order": its first byte; accepted stands at the totals' first byte, the square sum eight later
+unfoldable pub atWhere : Normal → Where → Judged Normal
+atWhere x nowhere = good x
+atWhere x (inMatrix k) = bad 6 (x .matrix + 8 * k)
+atWhere x (inRights k) = bad 6 (x .rights + 8 * k)
+atWhere x inAccepted = bad 6 (x .totals)
+atWhere x inSquare = bad 6 (x .totals + 8)
+
+unfoldable pub soundly : Normal → Judged Normal
+soundly x = atWhere x (unsoundIn (x .holds))
+
+-- "arcs (1 to 16); parameters (1 to 500); matrix sums (P(P+1)/2); right sides (P); totals (1)"; then 3; then 6
+unfoldable pub readNormal : List ℕ → Judged Normal
+readNormal s =
+    andThen (sectionAt arcKind s 1 16 0) λ a.
+    andThen (sectionAt (normalLabelKind (a .items)) s 1 500 (a .next)) λ b.
+    andThen (exactly sumKind s (tri (length (b .items))) (b .next)) λ m.
+    andThen (exactly sumKind s (length (b .items)) (m .next)) λ r.
+    andThen (exactly totalsKind s 1 (r .next)) λ t.
+    andThen
+    (closed s (t .next)
+    (record {
+      holds = systemFrom (a .items) (b .items) (m .items) (r .items) (getD (t .items) 0 noTotals);
+      matrix = b .next + 4;
+      rights = m .next + 4;
+      totals = r .next + 4;
+    }))
+    soundly
+
+-- ---- what the answer says: with a refusal every number is 0
+pub record ShownNormal : Type 0 where
+  pub verdict : Judged (Unit {0})
+  pub arcs : ℕ
+  pub parameters : ℕ
+  pub matrix : ℕ
+  pub rights : ℕ
+  pub totals : ℕ
+
+abbrev pub shownNormal : Judged Normal → ShownNormal
+shownNormal (good x) =
+    record {
+      verdict = good tt;
+      arcs = length (x .holds .arcs);
+      parameters = length (x .holds .labels);
+      matrix = x .matrix;
+      rights = x .rights;
+      totals = x .totals;
+    }
+shownNormal (bad number place) =
+    record { verdict = bad number place; arcs = 0; parameters = 0; matrix = 0; rights = 0; totals = 0 }
+
+abbrev pub toldNormalRead : NormalRead → ShownNormal
+toldNormalRead r =
+    record {
+      verdict = toldAnswer (r .answer);
+      arcs = r .arcs;
+      parameters = r .parameters;
+      matrix = r .matrix;
+      rights = r .rights;
+      totals = r .totals;
+    }

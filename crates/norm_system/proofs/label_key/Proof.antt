@@ -1,0 +1,46 @@
+-- `norm_system::label_key` meets its contract: no label overflows, and its kind bounds it.
+-- Assumes nothing.
+use native.Mathlib.Omega.{arith}
+use mathlib.Core.Path.{refl}
+use Rattle.norm_system.specs.System.{keyOf}
+use borrow.Author.Needs.{needs}
+use Rattle.norm_system.proofs.label_key.Statement.{statement}
+use Rattle.norm_system.proofs.label_key.Tie as tie
+
+cast-result : tie.Need-cast-result
+cast-result c = search needs
+
+mul-result : tie.Need-mul-result
+mul-result c = search needs
+
+cast-result-2 : tie.Need-cast-result-2
+cast-result-2 c = search needs
+
+mul-result-2 : tie.Need-mul-result-2
+mul-result-2 c = search needs
+
+add-result : tie.Need-add-result
+add-result c = search needs
+
+cast-result-3 : tie.Need-cast-result-3
+cast-result-3 c = search needs
+
+add-result-2 : tie.Need-add-result-2
+add-result-2 c = search needs
+
+returns : tie.Need-returns
+unfolding keyOf
+returns c = (refl, omega arith)
+
+pub label-key-spec : {M : Type 1} → statement M
+label-key-spec =
+    tie.close
+    (tie.spec
+    cast-result
+    mul-result
+    cast-result-2
+    mul-result-2
+    add-result
+    cast-result-3
+    add-result-2
+    returns)

@@ -1,0 +1,13 @@
+-- For the proofs of the code alone: no public promise and no law cites this, and an auditor may skip it.
+-- The first unsound sum of a normal file.
+use Prim.Native.Nat.{ℕ, _+_}
+use mathlib.Core.List.{List}
+use Rattle.byte_words.specs.Words.{word}
+use Rattle.num_packed.specs.Triangle.{tri}
+use Rattle.norm_sum.specs.Sums.{sumsAt}
+use Rattle.norm_system.specs.System.{Where, sumsWhere}
+
+-- the first unsound sum of those that stand at these places
+unfoldable pub unsoundAt : List ℕ → ℕ → ℕ → ℕ → ℕ → ℕ → Where
+unsoundAt s arcs p matrix rights totals =
+    sumsWhere arcs p (sumsAt s matrix (tri p)) (sumsAt s rights p) (word 8 s totals) (word 8 s (totals + 8))

@@ -1,3 +1,0 @@
-pub mod Floors
-pub mod Records
-pub mod Labels

@@ -1,0 +1,170 @@
+// Taking records: one record, or a run of them, into the state of an arc.
+use arc_heading::Heading;
+use refusal::Refusal;
+use refusal::Verdict;
+use take_one::TakeAnswer;
+use take_one::Taken;
+use take_tally::Tally;
+ghost use mathlib.Core.Path.{_≡_};
+ghost use Prim.Native.Nat.{_*_, _/_, _<_};
+ghost use lib.ListN.{length};
+ghost use Rattle.refusal.specs.First.{answered};
+ghost use Rattle.arc_heading.specs.Judge.{numbersOf};
+ghost use Rattle.refusal.specs.Told.{toldVerdict};
+ghost use Rattle.take_state.specs.State.{stateOf, stateNumber};
+ghost use Rattle.take_laws.specs.Taking.{frameOf, correctionsOf, recordAnswer, recordStep, takeAnswer, takeStep, runNumber, runState, runAnswers};
+ghost use Rattle.take_one.specs.Told.{toldTake};
+
+// The numbers of the listed stations, in the order of the heading.
+fn numbers_of(h: Heading) -> [u16; 16]
+    ensures { λ r. ⌜ r ≡ numbersOf (h .listed) ⌝ }
+{
+    let mut a: [u16; 16] = [0; 16];
+    let mut i: usize = 0;
+    while i < 16 {
+        let t = h.listed[i];
+        a[i] = t.number;
+        i += 1;
+    }
+    a
+}
+
+// Their corrections.
+fn corrections_of(h: Heading) -> [i32; 16]
+    ensures { λ r. ⌜ r ≡ correctionsOf (h .listed) ⌝ }
+{
+    let mut a: [i32; 16] = [0; 16];
+    let mut i: usize = 0;
+    while i < 16 {
+        let t = h.listed[i];
+        let c = t.correction;
+        a[i] = c;
+        i += 1;
+    }
+    a
+}
+
+// A record taken, the heading and the state found sound.
+fn take_sound(h: Heading, t: Tally, matrix: &mut [i64], rights: &mut [i64], bytes: &[u8]) -> Taken
+    requires { ⌜ stateNumber h (stateOf (now matrix) (now rights) t) ≡ 0 ⌝ }
+    ensures { λ r. ⌜ toldTake (r .answer) ≡ answered (recordAnswer (frameOf h) (now (bytes .entry)) (stateOf (now (matrix .entry)) (now (rights .entry)) t)) tt ⌝ }
+    ensures state { λ r. ⌜ stateOf (now (matrix .exit)) (now (rights .exit)) (r .tally) ≡ recordStep (frameOf h) (now (bytes .entry)) (stateOf (now (matrix .entry)) (now (rights .entry)) t) ⌝ }
+{
+    let p = h.parameters;
+    let n = h.stations;
+    let k = num_packed::triangle(p);
+    let numbers = numbers_of(h);
+    let corrections = corrections_of(h);
+    let mut room: [i16; 50] = [0; 50];
+    take_one::take_record(
+        h.settings,
+        &numbers[..n],
+        &corrections[..n],
+        t,
+        &mut matrix[..k],
+        &mut rights[..p],
+        &mut room[..p],
+        bytes,
+    )
+}
+
+// A record taken into a state: 20, 2, 4, 5, 6, 1, 3, 10 to 19, or accepted.
+pub fn take(h: Heading, t: Tally, matrix: &mut [i64], rights: &mut [i64], bytes: &[u8]) -> Taken
+    ensures { λ r. ⌜ toldTake (r .answer) ≡ answered (takeAnswer h (now (bytes .entry)) (stateOf (now (matrix .entry)) (now (rights .entry)) t)) tt ⌝ }
+    ensures state { λ r. ⌜ stateOf (now (matrix .exit)) (now (rights .exit)) (r .tally) ≡ takeStep h (now (bytes .entry)) (stateOf (now (matrix .entry)) (now (rights .entry)) t) ⌝ }
+{
+    match take_state::judge_state(h, t, matrix, rights) {
+        Verdict::Sound => take_sound(h, t, matrix, rights, bytes),
+        Verdict::Refused(e) => Taken {
+            answer: TakeAnswer::Refused(e),
+            tally: t,
+        },
+    }
+}
+
+// 20 where the room for the answers is short, else what the state's judge says, else 1 where the run ends inside a record.
+fn judge_run(
+    h: Heading,
+    t: Tally,
+    matrix: &[i64],
+    rights: &[i64],
+    run: &[u8],
+    answers: usize,
+) -> Verdict
+    ensures { λ r. ⌜ toldVerdict r ≡ answered (runNumber h (now (run .entry)) answers (stateOf (now (matrix .entry)) (now (rights .entry)) t)) tt ⌝ }
+{
+    let size = 32 + 2 * num_whole::least(h.parameters, 50);
+    let n = run.len() / size;
+    if answers < n {
+        return Verdict::Refused(Refusal::Room);
+    }
+    match take_state::judge_state(h, t, matrix, rights) {
+        Verdict::Sound => {
+            if n * size == run.len() {
+                return Verdict::Sound;
+            }
+            Verdict::Refused(Refusal::Short)
+        }
+        Verdict::Refused(e) => Verdict::Refused(e),
+    }
+}
+
+// A run taken, the heading, the state and the run found sound.
+fn run_sound(
+    h: Heading,
+    t: Tally,
+    matrix: &mut [i64],
+    rights: &mut [i64],
+    run: &[u8],
+    out: &mut [u8],
+) -> Tally
+    requires { ⌜ runNumber h (now run) (length (now out)) (stateOf (now matrix) (now rights) t) ≡ 0 ⌝ }
+    ensures state { λ r. ⌜ stateOf (now (matrix .exit)) (now (rights .exit)) r ≡ runState h (now (run .entry)) (length (now (out .entry))) (stateOf (now (matrix .entry)) (now (rights .entry)) t) ⌝ }
+    ensures told { λ _. ⌜ now (out .exit) ≡ runAnswers h (now (run .entry)) (now (out .entry)) (stateOf (now (matrix .entry)) (now (rights .entry)) t) ⌝ }
+{
+    let p = h.parameters;
+    let n = h.stations;
+    let k = num_packed::triangle(p);
+    let numbers = numbers_of(h);
+    let corrections = corrections_of(h);
+    let mut room: [i16; 50] = [0; 50];
+    take_steps::take_all(
+        h.settings,
+        &numbers[..n],
+        &corrections[..n],
+        t,
+        &mut matrix[..k],
+        &mut rights[..p],
+        &mut room[..p],
+        run,
+        out,
+    )
+}
+
+// A run of whole records taken into a state, each with its answer written, one element a record: 0, or the number of its refusal.
+pub fn take_run(
+    h: Heading,
+    t: Tally,
+    matrix: &mut [i64],
+    rights: &mut [i64],
+    run: &[u8],
+    answers: &mut [u8],
+) -> Taken
+    ensures { λ r. ⌜ toldTake (r .answer) ≡ answered (runNumber h (now (run .entry)) (length (now (answers .entry))) (stateOf (now (matrix .entry)) (now (rights .entry)) t)) tt ⌝ }
+    ensures state { λ r. ⌜ stateOf (now (matrix .exit)) (now (rights .exit)) (r .tally) ≡ runState h (now (run .entry)) (length (now (answers .entry))) (stateOf (now (matrix .entry)) (now (rights .entry)) t) ⌝ }
+    ensures told { λ _. ⌜ now (answers .exit) ≡ runAnswers h (now (run .entry)) (now (answers .entry)) (stateOf (now (matrix .entry)) (now (rights .entry)) t) ⌝ }
+{
+    match judge_run(h, t, matrix, rights, run, answers.len()) {
+        Verdict::Sound => {
+            let tally = run_sound(h, t, matrix, rights, run, answers);
+            Taken {
+                answer: TakeAnswer::Accepted,
+                tally,
+            }
+        }
+        Verdict::Refused(e) => Taken {
+            answer: TakeAnswer::Refused(e),
+            tally: t,
+        },
+    }
+}

@@ -1,0 +1,138 @@
+-- Demand 2 for the arc: from the empty state, the sums, counts and last times are those of exactly the records answered accepted.
+-- Assumes nothing.
+use Prim.Native.Nat.{ℕ, _+_, _≤_, _<_}
+use mathlib.Core.Path.{_≡_, refl, sym, ap, _∙_, subst}
+use mathlib.Core.List.{List, [], _∷_, map}
+use native.Mathlib.Nat.{zero-add}
+use native.Mathlib.Omega.{arith}
+use lib.IntN.{ℤ, pos, _+ℤ_, _*ℤ_, +ℤ-idl}
+use lib.ListN.{length, getD, set, replicate, getD-replicate}
+use Rattle.num_whole.specs.Sums.{total, plus}
+use Rattle.num_whole.proofs.Adding.{total-ext}
+use Rattle.num_packed.specs.Triangle.{tri}
+use Rattle.num_packed.specs.Sound.{entry}
+use Rattle.num_packed.proofs.Places.{tri-within}
+use Rattle.arc_heading.specs.declared.Heading.{Heading}
+use Rattle.take_counts.specs.Counts.{sumOf}
+use Rattle.take_tally.specs.Tally.{noRow, countOf, lastTimes, rowWith, tallyWith, emptyTally, accepted}
+use Rattle.take_tally.specs.declared.Row.{Row}
+use Rattle.take_state.specs.State.{State, stateOf, cleared, roomNumber, started}
+use Rattle.take_laws.specs.Machine.{run}
+use Rattle.take_laws.specs.Taking.{Frame, frameOf, stationRow, stamp, typeColumn, scaled, weightIn, matrixTerms, rightTerms, squareTerm, recordAnswer, recordStep, book}
+use Rattle.num_whole.specs.Lists.{Each}
+use Rattle.take_laws.specs.Mix.{lastOr, only, pairs, taken}
+use Rattle.take_laws.specs.Arc.{endOf, acceptedIn}
+use Rattle.take_laws.specs.SumsOver.{partialOf, SumsOver}
+use Rattle.take_laws.proofs.Accepted.{accepted-in, matrix-at, right-at, square-at}
+use Rattle.take_laws.proofs.Kept.{Shaped, step-books, step-leaves, book-shaped, book-accepted, empty-entry, empty-side}
+use Rattle.take_laws.proofs.Guarded.{fine, held-heading, held-shaped, started-held, started-is, guarded-run, guarded-answers}
+use Rattle.take_laws.proofs.Booking.{booked, each-taken, run-part, getD-runs, total-runs, getD-changes, run-count, run-last}
+
+-- ---- what booking a list of records makes of each part of a state
+module _ (f : Frame) (l : List (List ℕ)) (s : State) (k : Shaped f s) where
+  matrix-after : (i j : ℕ) → i ≤ j → j < f .parameters
+      → entry (run (book f) s l .matrix) i j ≡ entry (s .matrix) i j +ℤ total (λ b. pos (weightIn b) *ℤ (partialOf f b i *ℤ partialOf f b j)) l
+  unfolding book
+  matrix-after i j h b =
+      ap (λ x. entry x i j) (run-part (book f) (λ u. u .matrix) (λ b x. plus x (matrixTerms f b)) (λ b u. refl) l s)
+      ∙ getD-runs (matrixTerms f) l (s .matrix) (tri j + i) (omega (arith, tri-within j (f .parameters) b, k .matrix))
+      ∙ ap (λ z. entry (s .matrix) i j +ℤ z) (total-ext _ _ (λ c. matrix-at f c i j h b) l)
+
+  rights-after : (i : ℕ) → i < f .parameters
+      → getD (run (book f) s l .rights) i (pos 0) ≡ getD (s .rights) i (pos 0) +ℤ total (λ b. pos (weightIn b) *ℤ (partialOf f b i *ℤ scaled b)) l
+  unfolding book
+  rights-after i b =
+      ap (λ x. getD x i (pos 0)) (run-part (book f) (λ u. u .rights) (λ b x. plus x (rightTerms f b)) (λ b u. refl) l s)
+      ∙ getD-runs (rightTerms f) l (s .rights) i (omega (arith, k .rights))
+      ∙ ap (λ z. getD (s .rights) i (pos 0) +ℤ z) (total-ext _ _ (λ c. right-at f c i) l)
+
+  square-after : pos (run (book f) s l .tally .square) ≡ pos (s .tally .square) +ℤ total (λ b. pos (weightIn b) *ℤ (scaled b *ℤ scaled b)) l
+  unfolding book tallyWith
+  square-after =
+      ap pos (run-part (book f) (λ u. u .tally .square) (λ b x. x + squareTerm b) (λ b u. refl) l s)
+      ∙ total-runs squareTerm l (s .tally .square)
+      ∙ ap (λ z. pos (s .tally .square) +ℤ z) (total-ext _ _ square-at l)
+
+  counts-after : (n : ℕ) → n < 16 → countOf (run (book f) s l .tally) n ≡ countOf (s .tally) n + length (only (stationRow f) n l)
+  unfolding book tallyWith
+  counts-after n h =
+      ap (λ x. getD x n 0) (run-part (book f) (λ u. u .tally .counts) (λ b x. set x (stationRow f b) (getD x (stationRow f b) 0 + 1)) (λ b u. refl) l s)
+      ∙ getD-changes (stationRow f) (λ b x. x + 1) 0 l (s .tally .counts) n (omega (arith, k .counts))
+      ∙ run-count (only (stationRow f) n l) (countOf (s .tally) n)
+
+  row-after : (n : ℕ) → n < 16
+      → lastTimes (run (book f) s l .tally) n ≡ run (λ b w. rowWith w (typeColumn b) (stamp f b)) (lastTimes (s .tally) n) (only (stationRow f) n l)
+  unfolding book tallyWith
+  row-after n h =
+      ap (λ x. getD x n noRow)
+      (run-part (book f) (λ u. u .tally .rows) (λ b x. set x (stationRow f b) (rowWith (getD x (stationRow f b) noRow) (typeColumn b) (stamp f b))) (λ b u. refl) l s)
+      ∙ getD-changes (stationRow f) (λ b w. rowWith w (typeColumn b) (stamp f b)) noRow l (s .tally .rows) n (omega (arith, k .rows))
+
+-- the times of a row, column by column
+times-after : (f : Frame) (l : List (List ℕ)) (w : Row) (c : ℕ) → c < length (w .times)
+    → getD (run (λ b v. rowWith v (typeColumn b) (stamp f b)) w l .times) c 0 ≡ lastOr (getD (w .times) c 0) (map (stamp f) (only typeColumn c l))
+times-after f l w c h =
+    ap (λ x. getD x c 0) (run-part (λ b v. rowWith v (typeColumn b) (stamp f b)) (λ v. v .times) (λ b x. set x (typeColumn b) (stamp f b)) (λ b v. refl) l w)
+    ∙ getD-changes typeColumn (λ b x. stamp f b) 0 l (w .times) c h
+    ∙ run-last (stamp f) (only typeColumn c l) (getD (w .times) c 0)
+
+-- n grows by one with each
+accepted-after : (f : Frame) (l : List (List ℕ)) (s : State) → Shaped f s → Each (λ b. stationRow f b < 16) l
+    → accepted (run (book f) s l .tally) ≡ accepted (s .tally) + length l
+unfolding run
+accepted-after f [] s k h = omega arith
+accepted-after f (b ∷ l) s k h =
+    accepted-after f l (book f b s) (book-shaped f b s k) (h .1) ∙ omega (arith, book-accepted f b s k (h .0))
+
+-- ---- from the empty state
+from-zero : {x y z : ℤ} → x ≡ y +ℤ z → y ≡ pos 0 → x ≡ z
+from-zero {x} {y} {z} a b = a ∙ ap (λ v. v +ℤ z) b ∙ +ℤ-idl z
+
+module _ (f : Frame) (m r : List ℤ) (l : List (List ℕ)) where
+  abbrev none : State
+  none = stateOf (cleared (tri (f .parameters)) m) (cleared (f .parameters) r) emptyTally
+
+  from-none : Shaped f none → Each (λ b. stationRow f b < 16) l → SumsOver f (run (book f) none l) l
+  unfolding sumOf
+  from-none k h = record {
+    matrix = λ i j a b. from-zero (matrix-after f l none k i j a b) (empty-entry (f .parameters) m r i j a b);
+    rights = λ i b. from-zero (rights-after f l none k i b) (empty-side (f .parameters) m r i b);
+    square = from-zero (square-after f l none k) refl;
+    counts = λ n b. counts-after f l none k n b ∙ omega (arith, getD-replicate {A = ℕ} 16 n 0 0 b);
+    accepted = accepted-after f l none k h ∙ zero-add (length l);
+    times = λ n c b d. ap (λ (w : Row). getD (w .times) c 0) (row-after f l none k n b)
+        ∙ ap (λ w. getD (run (λ b v. rowWith v (typeColumn b) (stamp f b)) w (only (stationRow f) n l) .times) c 0) (getD-replicate 16 n (record { times = replicate 10 0 }) noRow b)
+        ∙ times-after f (only (stationRow f) n l) (record { times = replicate 10 0 }) c d
+        ∙ ap (λ x. lastOr x (map (stamp f) (only typeColumn c (only (stationRow f) n l)))) (getD-replicate {A = ℕ} 10 c 0 0 d);
+  }
+
+-- Demand 2: for every heading that is accepted, with room for its sums, and for every list of records
+module _ (h : Heading) (m r : List ℤ) (e : roomNumber h m r ≡ 0) (bs : List (List ℕ)) where
+  -- the end is what booking exactly the accepted records makes
+  pub end-booked : endOf h m r bs ≡ run (book (frameOf h)) (started h m r) (acceptedIn h m r bs)
+  end-booked =
+      let f = frameOf h in
+      let s = started h m r in
+      let v = started-held h m r e in
+      guarded-run h bs s v ∙ booked (recordStep f) (book f) (recordAnswer f) (step-books f) (step-leaves f) bs s
+      ∙ ap (λ l. run (book f) s (taken (pairs bs l))) (sym (guarded-answers h bs s v))
+
+  -- what acceptance shows of a record holds of each that is accepted
+  pub each-accepted : (P : List ℕ → Type 0) → ((b : List ℕ) (s : State) → recordAnswer (frameOf h) b s ≡ 0 → P b) → Each P (acceptedIn h m r bs)
+  each-accepted P g =
+      let f = frameOf h in
+      let s = started h m r in
+      subst (λ l. Each P (taken (pairs bs l))) (sym (guarded-answers h bs s (started-held h m r e)))
+      (each-taken (recordStep f) (book f) (recordAnswer f) (step-books f) (step-leaves f) P g bs s)
+
+  pub sums-over : SumsOver (frameOf h) (endOf h m r bs) (acceptedIn h m r bs)
+  sums-over =
+      let f = frameOf h in
+      let s = started h m r in
+      let v = started-held h m r e in
+      let l = acceptedIn h m r bs in
+      let empty = started-is h m r e in
+      let seats : Each (λ b. stationRow f b < 16) l = each-accepted (λ b. stationRow f b < 16)
+      (λ b u a. let row = accepted-in f b u a .fits .row in omega (arith, fine h (held-heading h s v) .seats)) in
+      subst (λ u. SumsOver f u l) (sym (end-booked ∙ ap (λ u. run (book f) u l) empty))
+      (from-none f m r l (subst (Shaped f) empty (held-shaped h s v)) seats)

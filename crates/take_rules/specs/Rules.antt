@@ -1,0 +1,34 @@
+-- Document 01, 'Taking a record': the weight, the clock, the corrected time, the window and the edit test, one definition each.
+use Prim.Native.Nat.{ℕ, _+_, _*_, _/_}
+use mathlib.Core.Bool.{Bool, _&&_}
+use lib.IntN.{ℤ, pos, _+ℤ_, natAbs}
+use lib.Signed.{leZ, ltZ}
+use Rattle.num_whole.specs.Tests.{upTo, both, between}
+
+-- "s not 1 to 256": 12
+unfoldable pub sigmaOk : ℕ → Bool
+sigmaOk s = between 1 s 256
+
+-- "Weight w = 65,536 divided by s², rounded down"
+unfoldable pub weightOf : ℕ → ℕ
+weightOf s = 65536 / (s * s)
+
+-- "Each day has 86,400,000 ms."
+abbrev pub dayLength : ℕ
+dayLength = 86400000
+
+-- "day not 1 to 54,787, or ms not 0 to 86,399,999": 13
+unfoldable pub clockOk : ℕ → ℕ → Bool
+clockOk day ms = both (between 1 day 54787) (upTo ms 86399999)
+
+-- "Corrected time t = day·86,400,000 + ms + the station's correction"
+unfoldable pub timeOf : ℕ → ℕ → ℤ → ℤ
+timeOf day ms correction = pos (day * dayLength + ms) +ℤ correction
+
+-- "the window runs from the first day's start up to, not including, the end of the last": 14 outside
+unfoldable pub inWindow : ℕ → ℕ → ℤ → Bool
+inWindow first days t = leZ (pos (first * dayLength)) t && ltZ t (pos ((first + days) * dayLength))
+
+-- "It passes the edit where 10·|r| ≤ K·s·step": 18 otherwise
+unfoldable pub passesEdit : ℕ → ℕ → ℕ → ℤ → Bool
+passesEdit level s step r = upTo (10 * natAbs r) (level * s * step)

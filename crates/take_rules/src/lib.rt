@@ -1,0 +1,57 @@
+// Inner to `take`: the rules by which one record is judged, each behind one definition.
+ghost use mathlib.Core.Path.{_≡_};
+ghost use Prim.Native.Nat.{_≤_, _<_, _^_};
+ghost use lib.IntN.{natAbs};
+ghost use Rattle.take_rules.specs.Rules.{sigmaOk, weightOf, clockOk, timeOf, inWindow, passesEdit};
+
+pub fn sigma_ok(s: u16) -> bool
+    ensures { λ r. ⌜ r ≡ sigmaOk s ⌝ }
+{
+    num_whole::within(1, s as u64, 256)
+}
+
+pub fn weight(s: u16) -> u64
+    requires { ⌜ (1 ≤ s) × (s ≤ 256) ⌝ }
+    ensures { λ r. ⌜ (r ≡ weightOf s) × (r ≤ 65536) ⌝ }
+{
+    let n = s as u64;
+    65536 / (n * n)
+}
+
+pub fn clock_ok(day: u32, ms: u32) -> bool
+    ensures { λ r. ⌜ r ≡ clockOk day ms ⌝ }
+{
+    if num_whole::within(1, day as u64, 54787) {
+        ms <= 86399999
+    } else {
+        false
+    }
+}
+
+pub fn time(day: u32, ms: u32, correction: i32) -> i64
+    requires { ⌜ (day ≤ 54787) × (ms ≤ 86399999) ⌝ }
+    ensures { λ t. ⌜ t ≡ timeOf day ms correction ⌝ }
+{
+    let start = day as u64 * 86400000 + ms as u64;
+    start as i64 + correction as i64
+}
+
+pub fn in_window(first: u32, days: u16, t: i64) -> bool
+    requires { ⌜ (first ≤ 54788) × (days ≤ 30) ⌝ }
+    ensures { λ r. ⌜ r ≡ inWindow first days t ⌝ }
+{
+    let from = first as u64 * 86400000;
+    let end = (first as u64 + days as u64) * 86400000;
+    if from as i64 <= t {
+        t < end as i64
+    } else {
+        false
+    }
+}
+
+pub fn passes_edit(level: u16, s: u16, step: u64, r: i64) -> bool
+    requires { ⌜ (step ≤ 256) × (natAbs r ≤ 2 ^ 41) ⌝ }
+    ensures { λ t. ⌜ t ≡ passesEdit level s step r ⌝ }
+{
+    10 * num_signs::magnitude(r) <= level as u64 * s as u64 * step
+}

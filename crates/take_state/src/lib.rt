@@ -1,0 +1,194 @@
+// The state of an arc: its sums in lent room, its tally by value; the empty state, and the judging of one that is handed in.
+use arc_heading::Heading;
+use num_packed::Walked;
+use refusal::Refusal;
+use refusal::Verdict;
+use take_tally::Tally;
+ghost use mathlib.Core.Path.{_≡_};
+ghost use Prim.Native.Nat.{_+_, _*_, _^_, _≤_, _<_, min};
+ghost use lib.IntN.{pos};
+ghost use lib.ListN.{length};
+ghost use Rattle.num_whole.specs.Tests.{upTo, both};
+ghost use Rattle.num_packed.specs.Triangle.{tri};
+ghost use Rattle.refusal.specs.First.{answered};
+ghost use Rattle.refusal.specs.Told.{toldVerdict};
+ghost use Rattle.take_state.specs.State.{
+  stateOf,
+  cleared,
+  matrixTop,
+  rightTop,
+  matrixSound,
+  rightsSound,
+  soundState,
+  roomNumber,
+  stateNumber,
+  started,
+  seenIn,
+  sightOf,
+  toldSight,
+};
+
+// Whether a parameter is seen.
+pub enum Sight {
+    Seen,
+    Unseen,
+    Refused(Refusal),
+}
+
+pub struct Started {
+    pub answer: Verdict,
+    pub tally: Tally,
+}
+
+// ---- room
+
+// Whether so many parameters have room for their sums.
+fn is_roomy(parameters: usize, matrix: &[i64], rights: &[i64]) -> bool
+    ensures { λ r. ⌜ r ≡ both (upTo (tri (min parameters 50)) (length (now (matrix .entry)))) (upTo (min parameters 50) (length (now (rights .entry)))) ⌝ }
+{
+    let p = num_whole::least(parameters, 50);
+    if num_packed::place(0, p) <= matrix.len() {
+        p <= rights.len()
+    } else {
+        false
+    }
+}
+
+// 20, 2, 4, 5.
+fn judge_room(h: Heading, matrix: &[i64], rights: &[i64]) -> Verdict
+    ensures { λ r. ⌜ toldVerdict r ≡ answered (roomNumber h (now (matrix .entry)) (now (rights .entry))) tt ⌝ }
+{
+    if is_roomy(h.parameters, matrix, rights) {
+        arc_heading::judge(h)
+    } else {
+        Verdict::Refused(Refusal::Room)
+    }
+}
+
+// Makes the first n numbers 0.
+fn clear(room: &mut [i64], n: usize)
+    requires { ⌜ n ≤ length (now room) ⌝ }
+    ensures { λ _. ⌜ now (room .exit) ≡ cleared n (now (room .entry)) ⌝ }
+{
+    let mut i: usize = 0;
+    while i < n {
+        room[i] = 0;
+        i += 1;
+    }
+}
+
+// 20, 2, 4, 5, else the empty state.
+pub fn start(h: Heading, matrix: &mut [i64], rights: &mut [i64]) -> Started
+    ensures { λ r. ⌜ toldVerdict (r .answer) ≡ answered (roomNumber h (now (matrix .entry)) (now (rights .entry))) tt ⌝ }
+    ensures state { λ r. ⌜ stateOf (now (matrix .exit)) (now (rights .exit)) (r .tally) ≡ started h (now (matrix .entry)) (now (rights .entry)) ⌝ }
+{
+    match judge_room(h, matrix, rights) {
+        Verdict::Refused(refusal) => Started {
+            answer: Verdict::Refused(refusal),
+            tally: take_tally::no_tally(),
+        },
+        Verdict::Sound => {
+            let p = h.parameters;
+            clear(matrix, num_packed::place(0, p));
+            clear(rights, p);
+            Started {
+                answer: Verdict::Sound,
+                tally: take_tally::no_tally(),
+            }
+        }
+    }
+}
+
+// ---- the sums
+
+// What one record adds to a matrix sum and to a right side at the most: 2^46 and 2^43.
+const MATRIX_UNIT: u64 = 70368744177664;
+
+const RIGHT_UNIT: u64 = 8796093022208;
+
+// The bound of sums of n records, each within `unit`.
+fn bound_of(n: u64, unit: u64) -> i64
+    requires { ⌜ (n ≤ 4096) × (unit ≤ 2 ^ 46) ⌝ }
+    ensures { λ r. ⌜ r ≡ pos (n * unit) ⌝ }
+{
+    (n * unit) as i64
+}
+
+fn matrix_sound(p: usize, n: u64, matrix: &[i64]) -> bool
+    requires { ⌜ (p ≤ 50) × (tri p ≤ length (now matrix)) × (n ≤ 4096) ⌝ }
+    ensures { λ r. ⌜ r ≡ matrixSound p (matrixTop n) (now (matrix .entry)) ⌝ }
+{
+    match num_packed::first_unsound(matrix, p, bound_of(n, MATRIX_UNIT)) {
+        Walked::Sound => true,
+        Walked::Unsound(_) => false,
+    }
+}
+
+fn rights_sound(p: usize, n: u64, matrix: &[i64], rights: &[i64]) -> bool
+    requires { ⌜ (p ≤ 50) × (tri p ≤ length (now matrix)) × (p ≤ length (now rights)) × (n ≤ 4096) ⌝ }
+    ensures { λ r. ⌜ r ≡ rightsSound p (rightTop n) (now (matrix .entry)) (now (rights .entry)) ⌝ }
+{
+    match num_packed::first_broken_side(matrix, rights, p, bound_of(n, RIGHT_UNIT)) {
+        Walked::Sound => true,
+        Walked::Unsound(_) => false,
+    }
+}
+
+fn is_sound(h: Heading, t: Tally, matrix: &[i64], rights: &[i64]) -> bool
+    requires { ⌜ (h .parameters ≤ 50) × (tri (h .parameters) ≤ length (now matrix)) × (h .parameters ≤ length (now rights)) ⌝ }
+    ensures { λ r. ⌜ r ≡ soundState (h .stations) (h .parameters) (stateOf (now (matrix .entry)) (now (rights .entry)) t) ⌝ }
+{
+    if take_tally::tally_sound(h.stations, t) {
+        let counts = t.counts;
+        let n = take_counts::accepted(counts);
+        if matrix_sound(h.parameters, n, matrix) {
+            rights_sound(h.parameters, n, matrix, rights)
+        } else {
+            false
+        }
+    } else {
+        false
+    }
+}
+
+// 20, 2, 4, 5, 6, else sound.
+pub fn judge_state(h: Heading, t: Tally, matrix: &[i64], rights: &[i64]) -> Verdict
+    ensures { λ r. ⌜ toldVerdict r ≡ answered (stateNumber h (stateOf (now (matrix .entry)) (now (rights .entry)) t)) tt ⌝ }
+{
+    match judge_room(h, matrix, rights) {
+        Verdict::Refused(refusal) => Verdict::Refused(refusal),
+        Verdict::Sound => if is_sound(h, t, matrix, rights) {
+            Verdict::Sound
+        } else {
+            Verdict::Refused(Refusal::Unsound)
+        },
+    }
+}
+
+// ---- what is seen
+
+fn is_seen(matrix: &[i64], i: usize) -> bool
+    requires { ⌜ (i < 50) × (tri (i + 1) ≤ length (now matrix)) ⌝ }
+    ensures { λ r. ⌜ r ≡ seenIn (now (matrix .entry)) i ⌝ }
+{
+    let k = num_packed::place(i, i);
+    matrix[k] != 0
+}
+
+// 20, 2, 4, 5, 6 for the heading and its state, 4 where i is none of its parameters, else whether parameter i is seen.
+pub fn seen(h: Heading, t: Tally, matrix: &[i64], rights: &[i64], i: usize) -> Sight
+    ensures { λ r. ⌜ toldSight r ≡ sightOf h (stateOf (now (matrix .entry)) (now (rights .entry)) t) i ⌝ }
+{
+    match judge_state(h, t, matrix, rights) {
+        Verdict::Refused(refusal) => Sight::Refused(refusal),
+        Verdict::Sound => if i < h.parameters {
+            if is_seen(matrix, i) {
+                Sight::Seen
+            } else {
+                Sight::Unseen
+            }
+        } else {
+            Sight::Refused(Refusal::Limits)
+        },
+    }
+}

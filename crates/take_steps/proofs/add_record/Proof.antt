@@ -1,0 +1,60 @@
+-- `take_steps::add_record` meets its contract.
+-- Assumes nothing.
+use mathlib.Core.Path.{_≡_, ap, ap₂, _∙_}
+use native.Mathlib.Omega.{arith}
+use lib.IntN.{pos}
+use mir.Syntax.{w64}
+use mir.ValLaws.{toZ-ofZ}
+use lib.ListN.{length}
+use Rattle.num_whole.specs.Sums.{plus}
+use Rattle.num_packed.specs.Triangle.{times, triangleTerms}
+use Rattle.arc_record.specs.Record.{partialsIn}
+use Rattle.take_laws.proofs.Accepted.{length-partialsIn}
+use borrow.Author.Needs.{needs}
+use Rattle.take_steps.proofs.add_record.Statement.{statement}
+use Rattle.take_steps.proofs.add_record.Tie as tie
+
+-- the partials laid out
+laid : (c : tie.After-partials) → let a = c .before .before .before .args in c .partials .last .1 .0 ≡ partialsIn (length (a .rights .now)) (a .bytes .now)
+laid c = let s = c .before .before .before in c .partials .ensures ∙ ap (λ n. partialsIn n (s .args .bytes .now)) (s .pre .0 .2)
+
+partials-requires : tie.Need-partials-requires
+partials-requires c κs = search needs
+
+add-matrix-requires : tie.Need-add-matrix-requires
+add-matrix-requires c κs =
+    let s = c .before .before .before .before .before .before in
+    let n : length (c .before .before .before .partials .last .1 .0) ≡ length (s .args .rights .now) = ap length (laid (c .before .before .before)) ∙ length-partialsIn _ _ in
+    (rw n (rw (s .pre .0 .1) (omega arith)), ((s .pre .1 .0 .0, rw n (s .pre .0 .0)), s .pre .1 .1 .0))
+
+add-times-requires : tie.Need-add-times-requires
+add-times-requires c κs = search needs
+
+same-length : tie.Need-same-length
+same-length c = search needs
+
+same-length-2 : tie.Need-same-length-2
+same-length-2 c = search needs
+
+same-length-3 : tie.Need-same-length-3
+same-length-3 c = search needs
+
+returns : tie.Need-returns
+returns c =
+    let l = laid (c .before .before .before .before .before .before .before .before .before) in
+    let s = c .before .before .before .before .before .before .before .before .before .before .before .before in (
+      c .before .before .before .before .before .add-matrix .ensures ∙ ap (λ a. plus (s .args .matrix .now) (triangleTerms (pos (s .args .weight)) a)) l,
+      c .before .add-times .ensures ∙ ap₂ (λ f a. plus (s .args .rights .now) (times f a)) (toZ-ofZ w64 (s .args .side) (s .fits .side)) l,
+    )
+
+pub add-record-spec : {M : Type 1} → statement M
+add-record-spec =
+    tie.close
+    (tie.spec
+    partials-requires
+    add-matrix-requires
+    add-times-requires
+    same-length
+    same-length-2
+    same-length-3
+    returns)

@@ -1,0 +1,57 @@
+-- Document 01, 'Taking a record': "the square sum, a count for each station and a table of sixteen rows of ten last times, 0 for none." The
+-- tally of these, the empty one, and which tallies are sound (6).
+use Prim.Native.Nat.{ℕ, _+_, _*_, _^_}
+use mathlib.Core.List.{List, []}
+use mathlib.Core.Bool.{Bool}
+use lib.ListN.{getD, set, replicate}
+use Rattle.num_whole.specs.Tests.{less, upTo, same, both, either, below}
+use Rattle.num_whole.specs.Lists.{all}
+use Rattle.take_counts.specs.Counts.{sumOf, countsSound}
+use Rattle.take_tally.specs.declared.Row.{Row}
+use Rattle.take_tally.specs.declared.Tally.{Tally}
+
+-- what stands past the last row
+abbrev pub noRow : Row
+noRow = record { times = [] }
+
+abbrev pub countOf : Tally → ℕ → ℕ
+countOf t i = getD (t .counts) i 0
+
+abbrev pub lastTimes : Tally → ℕ → Row
+lastTimes t i = getD (t .rows) i noRow
+
+abbrev pub rowWith : Row → ℕ → ℕ → Row
+rowWith w k time = record { times = set (w .times) k time }
+
+-- one record more of row i and column k: its square term added, its count one more, its time kept
+unfoldable pub tallyWith : Tally → ℕ → ℕ → ℕ → ℕ → Tally
+tallyWith t i k time q =
+    record {
+      square = t .square + q;
+      counts = set (t .counts) i (countOf t i + 1);
+      rows = set (t .rows) i (rowWith (lastTimes t i) k time);
+    }
+
+-- the empty tally
+abbrev pub emptyTally : Tally
+emptyTally = record { square = 0; counts = replicate 16 0; rows = replicate 16 (record { times = replicate 10 0 }) }
+
+-- ---- sound tallies
+-- n of a tally
+abbrev pub accepted : Tally → ℕ
+accepted t = sumOf (t .counts)
+
+-- "no square sum n·2^39"
+abbrev pub squareUnit : ℕ
+squareUnit = 2 ^ 39
+
+abbrev pub squareTop : ℕ → ℕ
+squareTop n = n * squareUnit
+
+-- "anything but 0 in a slot past the parameters or stations": the table has slots past the stations (docs/DECISIONS.md D21)
+unfoldable pub rowsSound : ℕ → List Row → Bool
+rowsSound stations rows = below (λ i. either (less i stations) (all (λ t. same t 0) (getD rows i noRow .times))) 16
+
+unfoldable pub tallySound : ℕ → Tally → Bool
+tallySound stations t =
+    both (countsSound stations (t .counts)) (both (rowsSound stations (t .rows)) (upTo (t .square) (squareTop (accepted t))))
