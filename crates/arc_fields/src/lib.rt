@@ -2,9 +2,12 @@
 use arc_limits::Label;
 use arc_limits::Settings;
 use arc_limits::Station;
+use num_limits::PARTIAL_SIZE;
+use num_limits::RECORD_FIXED;
 ghost use mathlib.Core.Path.{_≡_};
 ghost use Prim.Native.Nat.{_+_, _/_, _≤_};
 ghost use lib.ListN.{length};
+ghost use Rattle.num_limits.specs.Capacities.{parametersMost, recordsMost, stationsMost};
 ghost use Rattle.byte_words.specs.Words.{lay};
 ghost use Rattle.arc_kinds.specs.Kinds.{settingsBytes, labelBytes, stationBytes, recordSize};
 ghost use Rattle.arc_fields.specs.Sizes.{neededFor};
@@ -12,15 +15,15 @@ ghost use Rattle.arc_fields.specs.Sizes.{neededFor};
 // ---- sizes
 
 pub fn record_size(parameters: usize) -> usize
-    requires { ⌜ parameters ≤ 50 ⌝ }
+    requires { ⌜ parameters ≤ parametersMost ⌝ }
     ensures { λ r. ⌜ r ≡ recordSize parameters ⌝ }
 {
-    32 + 2 * parameters
+    RECORD_FIXED + PARTIAL_SIZE * parameters
 }
 
 // How many whole records a run of so many bytes has.
 pub fn records_in(parameters: usize, bytes: usize) -> usize
-    requires { ⌜ parameters ≤ 50 ⌝ }
+    requires { ⌜ parameters ≤ parametersMost ⌝ }
     ensures { λ r. ⌜ r ≡ bytes / recordSize parameters ⌝ }
 {
     bytes / record_size(parameters)
@@ -28,7 +31,7 @@ pub fn records_in(parameters: usize, bytes: usize) -> usize
 
 // The length of the whole file, whose run has so many bytes.
 pub fn needed(parameters: usize, stations: usize, bytes: usize) -> usize
-    requires { ⌜ (parameters ≤ 50) × (stations ≤ 16) × (bytes / recordSize parameters ≤ 65535) ⌝ }
+    requires { ⌜ (parameters ≤ parametersMost) × (stations ≤ stationsMost) × (bytes / recordSize parameters ≤ recordsMost) ⌝ }
     ensures { λ r. ⌜ r ≡ neededFor parameters stations bytes ⌝ }
 {
     28 + 16 * parameters + 8 * stations + bytes

@@ -2,10 +2,13 @@
 use arc_limits::Label;
 use arc_limits::Settings;
 use arc_limits::Station;
+use num_limits::PARAMETERS_MOST;
+use num_limits::STATIONS_MOST;
 use refusal::Refusal;
 use refusal::Verdict;
 ghost use mathlib.Core.Path.{_≡_};
 ghost use Prim.Native.Nat.{_≤_, _<_};
+ghost use Rattle.num_limits.specs.Capacities.{parametersMost, stationsMost};
 ghost use Rattle.num_whole.specs.Lists.{all, ascend};
 ghost use Rattle.arc_limits.specs.Limits.{labelOk, labelKey, stationOk, stationKey};
 ghost use Rattle.arc_heading.specs.Judge.{labelsOf, stationsOf, fieldsOk, ordersOk, judged};
@@ -16,12 +19,12 @@ pub struct Heading {
     pub settings: Settings,
     pub parameters: usize,
     pub stations: usize,
-    pub labels: [Label; 50],
-    pub listed: [Station; 16],
+    pub labels: [Label; PARAMETERS_MOST],
+    pub listed: [Station; STATIONS_MOST],
 }
 
 fn labels_ok(h: Heading) -> bool
-    requires { ⌜ h .parameters ≤ 50 ⌝ }
+    requires { ⌜ h .parameters ≤ parametersMost ⌝ }
     ensures { λ r. ⌜ r ≡ all labelOk (labelsOf h) ⌝ }
 {
     let n = h.parameters;
@@ -38,7 +41,7 @@ fn labels_ok(h: Heading) -> bool
 }
 
 fn labels_ascend(h: Heading) -> bool
-    requires { ⌜ h .parameters ≤ 50 ⌝ }
+    requires { ⌜ h .parameters ≤ parametersMost ⌝ }
     ensures { λ r. ⌜ r ≡ ascend labelKey 0 (labelsOf h) ⌝ }
 {
     let n = h.parameters;
@@ -57,7 +60,7 @@ fn labels_ascend(h: Heading) -> bool
 }
 
 fn stations_ok(h: Heading) -> bool
-    requires { ⌜ h .stations ≤ 16 ⌝ }
+    requires { ⌜ h .stations ≤ stationsMost ⌝ }
     ensures { λ r. ⌜ r ≡ all stationOk (stationsOf h) ⌝ }
 {
     let n = h.stations;
@@ -74,7 +77,7 @@ fn stations_ok(h: Heading) -> bool
 }
 
 fn stations_ascend(h: Heading) -> bool
-    requires { ⌜ h .stations ≤ 16 ⌝ }
+    requires { ⌜ h .stations ≤ stationsMost ⌝ }
     ensures { λ r. ⌜ r ≡ ascend stationKey 0 (stationsOf h) ⌝ }
 {
     let n = h.stations;
@@ -93,7 +96,7 @@ fn stations_ascend(h: Heading) -> bool
 }
 
 fn fields_ok(h: Heading) -> bool
-    requires { ⌜ (h .parameters ≤ 50) × (h .stations ≤ 16) ⌝ }
+    requires { ⌜ (h .parameters ≤ parametersMost) × (h .stations ≤ stationsMost) ⌝ }
     ensures { λ r. ⌜ r ≡ fieldsOk h ⌝ }
 {
     let s = h.settings;
@@ -105,7 +108,7 @@ fn fields_ok(h: Heading) -> bool
 }
 
 fn orders_ok(h: Heading) -> bool
-    requires { ⌜ (h .parameters ≤ 50) × (h .stations ≤ 16) ⌝ }
+    requires { ⌜ (h .parameters ≤ parametersMost) × (h .stations ≤ stationsMost) ⌝ }
     ensures { λ r. ⌜ r ≡ ordersOk h ⌝ }
 {
     if labels_ascend(h) {

@@ -4,6 +4,7 @@ use mathlib.Core.List.{List, _++_}
 use mathlib.Core.Bool.{Bool, true}
 use lib.ListN.{take, drop}
 use mir.Syntax.{w32, w64}
+use Rattle.num_limits.specs.Capacities.{recordFixed, partialSize}
 use Rattle.num_whole.specs.Tests.{same, both}
 use Rattle.byte_words.specs.Words.{word, bytesOf, signedWord, signedBytes}
 use Rattle.byte_section.specs.Section.{Kind}
@@ -52,7 +53,7 @@ stationKind =
 
 -- "Records, each 32 + 2P bytes for P parameters"; "Contents of tracking records wait until taken": a record is its bytes
 abbrev pub recordSize : ℕ → ℕ
-recordSize p = 32 + 2 * p
+recordSize p = recordFixed + partialSize * p
 
 abbrev pub recordKind : ℕ → Kind (List ℕ)
 recordKind p =

@@ -4,6 +4,7 @@ use Prim.Native.Nat.{ℕ, _+_, _*_, _^_}
 use mathlib.Core.Bool.{Bool, false}
 use lib.IntN.{ℤ, pos, negℤ}
 use lib.Signed.{leZ}
+use Rattle.num_limits.specs.Capacities.{arcMost, dayAfterLast, parametersMost, stationsMost}
 use Rattle.num_whole.specs.Tests.{less, upTo, same, pick, both, between}
 use Rattle.cells.specs.Cells.{isParameter}
 use Rattle.arc_limits.specs.declared.Settings.{Settings}
@@ -13,10 +14,10 @@ use Rattle.arc_limits.specs.declared.Station.{Station}
 -- "arc u32 (1 to 999,999), first day u32, days u16 (1 to 30), edit level K u16 (10 to 100). First day plus days is at most 54,788; first
 -- day at least 1."
 unfoldable pub windowOk : ℕ → ℕ → Bool
-windowOk first days = both (between 1 days 30) (both (upTo 1 first) (upTo (first + days) 54788))
+windowOk first days = both (between 1 days 30) (both (upTo 1 first) (upTo (first + days) dayAfterLast))
 
 unfoldable pub settingsOk : Settings → Bool
-settingsOk s = both (between 1 (s .arc) 999999) (both (between 10 (s .level) 100) (windowOk (s .first) (s .days)))
+settingsOk s = both (between 1 (s .arc) arcMost) (both (between 10 (s .level) 100) (windowOk (s .first) (s .days)))
 
 -- "Kinds: 1 geopotential cell, 2 station coordinate (0 to 2,999), 3 state (0 to 5), 4 drag or solar constant (0 to 1)."
 unfoldable pub indexOk : ℕ → ℕ → Bool
@@ -51,7 +52,7 @@ stationKey t = t .number
 
 -- "Parameters, 1 to 50"; "Stations, 0 to 16"
 abbrev pub numbersOk : ℕ → ℕ → Bool
-numbersOk parameters stations = both (between 1 parameters 50) (upTo stations 16)
+numbersOk parameters stations = both (between 1 parameters parametersMost) (upTo stations stationsMost)
 
 -- ---- what a slot that holds nothing has
 abbrev pub noSettings : Settings

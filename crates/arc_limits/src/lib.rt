@@ -1,4 +1,8 @@
 // Settings, labels and stations of an arc, by value: the limits of their fields, and the order of labels.
+use num_limits::ARC_MOST;
+use num_limits::DAY_AFTER_LAST;
+use num_limits::PARAMETERS_U64;
+use num_limits::STATIONS_MOST;
 ghost use mathlib.Core.Path.{_≡_};
 ghost use Prim.Native.Nat.{_<_};
 ghost use Rattle.cells.specs.Cells.{isParameter};
@@ -40,7 +44,7 @@ fn window_ok(first: u32, days: u16) -> bool
         if first < 1 {
             false
         } else {
-            first as u64 + days as u64 <= 54788
+            first as u64 + days as u64 <= DAY_AFTER_LAST
         }
     } else {
         false
@@ -50,7 +54,7 @@ fn window_ok(first: u32, days: u16) -> bool
 pub fn settings_ok(s: Settings) -> bool
     ensures { λ r. ⌜ r ≡ settingsOk s ⌝ }
 {
-    if num_whole::within(1, s.arc as u64, 999999) {
+    if num_whole::within(1, s.arc as u64, ARC_MOST) {
         if num_whole::within(10, s.level as u64, 100) {
             window_ok(s.first, s.days)
         } else {
@@ -128,8 +132,8 @@ pub fn station_key(t: Station) -> u64
 pub fn numbers_ok(parameters: usize, stations: usize) -> bool
     ensures { λ r. ⌜ r ≡ numbersOk parameters stations ⌝ }
 {
-    if num_whole::within(1, parameters as u64, 50) {
-        stations <= 16
+    if num_whole::within(1, parameters as u64, PARAMETERS_U64) {
+        stations <= STATIONS_MOST
     } else {
         false
     }

@@ -3,6 +3,7 @@ use Prim.Native.Nat.{ℕ, _+_, _/_, _≤_}
 use mathlib.Core.List.{List, _++_}
 use mathlib.Core.Bool.{Bool}
 use lib.ListN.{length}
+use Rattle.num_limits.specs.Capacities.{parametersMost, recordsMost, stationsMost}
 use Rattle.num_whole.specs.Tests.{upTo, both}
 use Rattle.byte_words.specs.Words.{bytesOf}
 use Rattle.byte_section.specs.Section.{encoded}
@@ -17,7 +18,7 @@ recordCount h run = length run / recordSize (h .parameters)
 
 -- the numbers of a file: the heading's counts, and "Records, 0 to 65,535"
 unfoldable pub allowed : Heading → List ℕ → Bool
-allowed h run = both (countsOk h) (upTo (recordCount h run) 65535)
+allowed h run = both (countsOk h) (upTo (recordCount h run) recordsMost)
 
 -- the bytes of the file: four sections, each after its count
 unfoldable pub arcBytes : Heading → List ℕ → List ℕ
@@ -33,7 +34,7 @@ arcBytes h run =
 
 -- the counts are within their limits, and the file within the room
 pub record Writable (h : Heading) (run : List ℕ) (room : ℕ) : Type 0 where
-  pub few : h .parameters ≤ 50
-  pub seats : h .stations ≤ 16
-  pub records : length run / recordSize (h .parameters) ≤ 65535
+  pub few : h .parameters ≤ parametersMost
+  pub seats : h .stations ≤ stationsMost
+  pub records : length run / recordSize (h .parameters) ≤ recordsMost
   pub fits : neededFor (h .parameters) (h .stations) (length run) ≤ room

@@ -1,8 +1,10 @@
 // The numbers of an arc file that is written, judged, and the bytes of its sections, put into lent room.
 use arc_heading::Heading;
+use num_limits::RECORDS_MOST;
 ghost use mathlib.Core.Path.{_≡_};
 ghost use Prim.Native.Nat.{_+_, _≤_};
 ghost use lib.ListN.{length};
+ghost use Rattle.num_limits.specs.Capacities.{parametersMost, stationsMost};
 ghost use Rattle.byte_words.specs.Words.{lay};
 ghost use Rattle.byte_section.specs.Section.{encoded};
 ghost use Rattle.arc_heading.specs.Judge.{labelsOf, stationsOf};
@@ -14,7 +16,7 @@ pub fn is_allowed(h: Heading, run: &[u8]) -> bool
     ensures { λ r. ⌜ r ≡ allowed h (now (run .entry)) ⌝ }
 {
     if arc_limits::numbers_ok(h.parameters, h.stations) {
-        arc_fields::records_in(h.parameters, run.len()) <= 65535
+        arc_fields::records_in(h.parameters, run.len()) <= RECORDS_MOST
     } else {
         false
     }
@@ -22,7 +24,7 @@ pub fn is_allowed(h: Heading, run: &[u8]) -> bool
 
 // The labels that count, one after the other.
 pub fn put_labels(h: Heading, out: &mut [u8], start: usize)
-    requires { ⌜ (h .parameters ≤ 50) × (start ≤ 1000) ⌝ }
+    requires { ⌜ (h .parameters ≤ parametersMost) × (start ≤ 1000) ⌝ }
     ensures { λ _. ⌜ now (out .exit) ≡ lay (now (out .entry)) start (encoded labelBytes (labelsOf h)) ⌝ }
 {
     let n = h.parameters;
@@ -38,7 +40,7 @@ pub fn put_labels(h: Heading, out: &mut [u8], start: usize)
 
 // The stations that count, one after the other.
 pub fn put_stations(h: Heading, out: &mut [u8], start: usize)
-    requires { ⌜ (h .stations ≤ 16) × (start ≤ 1000) ⌝ }
+    requires { ⌜ (h .stations ≤ stationsMost) × (start ≤ 1000) ⌝ }
     ensures { λ _. ⌜ now (out .exit) ≡ lay (now (out .entry)) start (encoded stationBytes (stationsOf h)) ⌝ }
 {
     let n = h.stations;

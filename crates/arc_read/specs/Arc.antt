@@ -2,6 +2,7 @@
 use Prim.Native.Nat.{ℕ, _+_}
 use mathlib.Core.List.{List}
 use lib.ListN.{length, getD, replicate}
+use Rattle.num_limits.specs.Capacities.{parametersMost, recordsMost, stationsMost}
 use Rattle.arc_limits.specs.Limits.{noSettings, noLabel, noStation}
 use Rattle.num_whole.specs.Answer.{Judged, good, bad}
 use Rattle.byte_section.specs.Section.{andThen, sectionAt, closed}
@@ -17,10 +18,10 @@ use Rattle.arc_read.specs.declared.ArcRead.{ArcRead}
 -- a heading of what was read; slots past the counts are 0
 unfoldable pub headingOf : Settings → List Label → List Station → Heading
 headingOf a ls ts =
-    record { settings = a; parameters = length ls; stations = length ts; labels = padded 50 noLabel ls; listed = padded 16 noStation ts }
+    record { settings = a; parameters = length ls; stations = length ts; labels = padded parametersMost noLabel ls; listed = padded stationsMost noStation ts }
 
 abbrev pub blankHeading : Heading
-blankHeading = record { settings = noSettings; parameters = 0; stations = 0; labels = replicate 50 noLabel; listed = replicate 16 noStation }
+blankHeading = record { settings = noSettings; parameters = 0; stations = 0; labels = replicate parametersMost noLabel; listed = replicate stationsMost noStation }
 
 -- what an arc file holds: its heading, how many records, and where the first of them stands
 pub record Arc : Type 0 where
@@ -32,9 +33,9 @@ pub record Arc : Type 0 where
 unfoldable pub readArc : List ℕ → Judged Arc
 readArc s =
     andThen (sectionAt settingsKind s 1 1 0) λ a.
-    andThen (sectionAt labelKind s 1 50 (a .next)) λ b.
-    andThen (sectionAt stationKind s 0 16 (b .next)) λ c.
-    andThen (sectionAt (recordKind (length (b .items))) s 0 65535 (c .next)) λ d.
+    andThen (sectionAt labelKind s 1 parametersMost (a .next)) λ b.
+    andThen (sectionAt stationKind s 0 stationsMost (b .next)) λ c.
+    andThen (sectionAt (recordKind (length (b .items))) s 0 recordsMost (c .next)) λ d.
     closed s (d .next)
     (record {
       heading = headingOf (getD (a .items) 0 noSettings) (b .items) (c .items);

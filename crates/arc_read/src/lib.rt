@@ -7,6 +7,7 @@ use byte_section::SectionAnswer;
 use refusal::Refusal;
 ghost use mathlib.Core.Path.{_≡_};
 ghost use Prim.Native.Nat.{_≤_};
+ghost use Rattle.num_limits.specs.Capacities.{parametersMost};
 ghost use Rattle.refusal.specs.Number.{numberOf};
 ghost use Rattle.num_whole.specs.Answer.{bad};
 ghost use Rattle.arc_read.specs.Arc.{blankHeading, readArc, shownArc, toldArcRead};
@@ -45,7 +46,7 @@ fn blank() -> Heading
 }
 
 fn heading_refused(r: Refusal, place: usize) -> HeadingRead
-    ensures { λ h. ⌜ (toldHeading h ≡ bad (numberOf r) place) × (h .heading .parameters ≤ 50) ⌝ }
+    ensures { λ h. ⌜ (toldHeading h ≡ bad (numberOf r) place) × (h .heading .parameters ≤ parametersMost) ⌝ }
 {
     HeadingRead {
         answer: ReadAnswer::Refused(r, place),
@@ -56,7 +57,7 @@ fn heading_refused(r: Refusal, place: usize) -> HeadingRead
 
 // The settings, the parameters and the stations, one after the other.
 fn read_heading(s: &[u8]) -> HeadingRead
-    ensures { λ r. ⌜ (toldHeading r ≡ headingPart (now (s .entry))) × (r .heading .parameters ≤ 50) ⌝ }
+    ensures { λ r. ⌜ (toldHeading r ≡ headingPart (now (s .entry))) × (r .heading .parameters ≤ parametersMost) ⌝ }
 {
     match arc_kinds::read_settings(s) {
         SettingsAnswer::Got(settings) => {
@@ -103,7 +104,7 @@ fn refused(r: Refusal, place: usize) -> ArcRead
 
 // What follows a heading: its records, and then no byte more.
 fn read_rest(s: &[u8], at: usize, heading: Heading) -> ArcRead
-    requires { ⌜ heading .parameters ≤ 50 ⌝ }
+    requires { ⌜ heading .parameters ≤ parametersMost ⌝ }
     ensures { λ r. ⌜ toldArcRead r ≡ shownArc (arcFrom (now (s .entry)) at heading) ⌝ }
 {
     match arc_sections::read_records(s, at, heading.parameters) {

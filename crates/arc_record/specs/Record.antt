@@ -6,6 +6,7 @@ use lib.ListN.{length, take, drop}
 use lib.IntN.{ℤ}
 use lib.Ieee.{binary64, ofBits}
 use mir.Syntax.{w16}
+use Rattle.num_limits.specs.Capacities.{parametersMost}
 use Rattle.num_whole.specs.Tests.{upTo, pick, both}
 use Rattle.byte_words.specs.Words.{word, signedWord}
 use Rattle.arc_kinds.specs.Kinds.{recordSize}
@@ -14,7 +15,7 @@ use Rattle.arc_record.specs.declared.Record.{Record}
 -- record i of those that begin at a place, or nothing where the bytes have no such whole record
 unfoldable pub recordPart : List ℕ → ℕ → ℕ → ℕ → List ℕ
 recordPart s start p i =
-    pick (both (upTo p 50) (upTo (start + suc i * recordSize p) (length s)))
+    pick (both (upTo p parametersMost) (upTo (start + suc i * recordSize p) (length s)))
     (take (recordSize p) (drop (start + i * recordSize p) s)) []
 
 -- the record of some bytes; its doubles are those of their patterns

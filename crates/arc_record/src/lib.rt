@@ -1,4 +1,7 @@
 // A tracking record: its bytes in a file, its fields by value, and its partials.
+use num_limits::PARAMETERS_MOST;
+use num_limits::PARTIAL_SIZE;
+use num_limits::RECORD_FIXED;
 ghost use mathlib.Core.Path.{_≡_};
 ghost use Prim.Native.Nat.{_+_, _*_, _≤_};
 ghost use lib.ListN.{length};
@@ -21,10 +24,10 @@ pub fn record_at(file: &[u8], start: usize, parameters: usize, i: usize) -> &[u8
     ensures { λ r. ⌜ now r ≡ recordPart (now (file .entry)) start parameters i ⌝ }
 {
     let none: usize = 0;
-    if 50 < parameters {
+    if PARAMETERS_MOST < parameters {
         return &file[none..none];
     }
-    let size = 32 + 2 * parameters;
+    let size = RECORD_FIXED + PARTIAL_SIZE * parameters;
     if i < byte_words::left(file.len(), start) / size {
         let a = start + i * size;
         let e = a + size;
@@ -91,7 +94,7 @@ fn read_partials(bytes: &[u8], out: &mut [i16])
 pub fn partials(bytes: &[u8], out: &mut [i16])
     ensures { λ _. ⌜ now (out .exit) ≡ partialsIn (length (now (out .entry))) (now (bytes .entry)) ⌝ }
 {
-    if 32 + 2 * out.len() <= bytes.len() {
+    if RECORD_FIXED + PARTIAL_SIZE * out.len() <= bytes.len() {
         copy_partials(bytes, out);
     } else {
         read_partials(bytes, out);

@@ -3,6 +3,7 @@
 use Prim.Native.Nat.{ℕ, _+_}
 use mathlib.Core.List.{List}
 use lib.ListN.{length}
+use Rattle.num_limits.specs.Capacities.{parametersMost, recordsMost, stationsMost}
 use Rattle.arc_limits.specs.Limits.{noLabel, noStation}
 use Rattle.num_whole.specs.Answer.{Judged, good}
 use Rattle.num_whole.specs.Lists.{padded}
@@ -26,19 +27,19 @@ abbrev pub slotted : {A : Type 0} → ℕ → A → Run A → Slots A
 slotted n d r = record { count = length (r .items); items = padded n d (r .items); next = r .next }
 
 unfoldable pub labelsFrom : List ℕ → ℕ → ℕ → Judged (Slots Label)
-labelsFrom s start n = andThen (records labelKind s n start 0) (λ r. good (slotted 50 noLabel r))
+labelsFrom s start n = andThen (records labelKind s n start 0) (λ r. good (slotted parametersMost noLabel r))
 
 unfoldable pub labelsPart : List ℕ → ℕ → Judged (Slots Label)
-labelsPart s at = andThen (countAt s at 1 50) (λ n. labelsFrom s (at + 4) n)
+labelsPart s at = andThen (countAt s at 1 parametersMost) (λ n. labelsFrom s (at + 4) n)
 
 unfoldable pub stationsFrom : List ℕ → ℕ → ℕ → Judged (Slots Station)
-stationsFrom s start n = andThen (records stationKind s n start 0) (λ r. good (slotted 16 noStation r))
+stationsFrom s start n = andThen (records stationKind s n start 0) (λ r. good (slotted stationsMost noStation r))
 
 unfoldable pub stationsPart : List ℕ → ℕ → Judged (Slots Station)
-stationsPart s at = andThen (countAt s at 0 16) (λ n. stationsFrom s (at + 4) n)
+stationsPart s at = andThen (countAt s at 0 stationsMost) (λ n. stationsFrom s (at + 4) n)
 
 unfoldable pub recordsPart : List ℕ → ℕ → ℕ → Judged Span
-recordsPart s at p = spanOf (sectionAt (recordKind p) s 0 65535 at)
+recordsPart s at p = spanOf (sectionAt (recordKind p) s 0 recordsMost at)
 
 -- ---- what the answers say
 -- a section with its array

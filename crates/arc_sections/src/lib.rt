@@ -5,10 +5,18 @@ use arc_limits::Label;
 use arc_limits::Station;
 use byte_section::CountAnswer;
 use byte_section::SectionAnswer;
+use num_limits::PARAMETERS_MOST;
+use num_limits::PARAMETERS_U32;
+use num_limits::PARTIAL_SIZE;
+use num_limits::RECORD_FIXED;
+use num_limits::RECORDS_U32;
+use num_limits::STATIONS_MOST;
+use num_limits::STATIONS_U32;
 use refusal::Refusal;
 ghost use mathlib.Core.Path.{_≡_};
 ghost use Prim.Native.Nat.{_≤_};
 ghost use lib.ListN.{length, replicate};
+ghost use Rattle.num_limits.specs.Capacities.{parametersMost, stationsMost};
 ghost use Rattle.arc_limits.specs.Limits.{noLabel, noStation};
 ghost use Rattle.byte_section.specs.Told.{toldSection};
 ghost use Rattle.arc_sections.specs.Sections.{
@@ -24,30 +32,30 @@ ghost use Rattle.arc_sections.specs.Sections.{
 // The answer, with the records that were read; slots past the count are 0.
 pub struct Labels {
     pub answer: SectionAnswer,
-    pub labels: [Label; 50],
+    pub labels: [Label; PARAMETERS_MOST],
 }
 
 pub struct Stations {
     pub answer: SectionAnswer,
-    pub listed: [Station; 16],
+    pub listed: [Station; STATIONS_MOST],
 }
 
 // ---- labels
 
-pub fn no_labels() -> [Label; 50]
-    ensures { λ r. ⌜ r ≡ replicate 50 noLabel ⌝ }
+pub fn no_labels() -> [Label; PARAMETERS_MOST]
+    ensures { λ r. ⌜ r ≡ replicate parametersMost noLabel ⌝ }
 {
     [Label {
         kind: 0,
         index: 0,
         weight: 0,
         estimate: 0,
-    }; 50]
+    }; PARAMETERS_MOST]
 }
 
 // The `count` records of the parameters section, from `start` on.
 fn fill_labels(s: &[u8], start: usize, count: usize) -> Labels
-    requires { ⌜ (start ≤ length (now s)) × (count ≤ 50) ⌝ }
+    requires { ⌜ (start ≤ length (now s)) × (count ≤ parametersMost) ⌝ }
     ensures { λ r. ⌜ toldLabels r ≡ labelsFrom (now (s .entry)) start count ⌝ }
 {
     let mut labels = no_labels();
@@ -80,7 +88,7 @@ fn fill_labels(s: &[u8], start: usize, count: usize) -> Labels
 pub fn read_labels(s: &[u8], at: usize) -> Labels
     ensures { λ r. ⌜ toldLabels r ≡ labelsPart (now (s .entry)) at ⌝ }
 {
-    match byte_section::read_count(s, at, 1, 50) {
+    match byte_section::read_count(s, at, 1, PARAMETERS_U32) {
         CountAnswer::Is(n) => fill_labels(s, at + 4, n),
         CountAnswer::Refused(r, place) => Labels {
             answer: SectionAnswer::Refused(r, place),
@@ -91,18 +99,18 @@ pub fn read_labels(s: &[u8], at: usize) -> Labels
 
 // ---- stations
 
-pub fn no_stations() -> [Station; 16]
-    ensures { λ r. ⌜ r ≡ replicate 16 noStation ⌝ }
+pub fn no_stations() -> [Station; STATIONS_MOST]
+    ensures { λ r. ⌜ r ≡ replicate stationsMost noStation ⌝ }
 {
     [Station {
         number: 0,
         correction: 0,
-    }; 16]
+    }; STATIONS_MOST]
 }
 
 // The `count` records of the stations section, from `start` on.
 fn fill_stations(s: &[u8], start: usize, count: usize) -> Stations
-    requires { ⌜ (start ≤ length (now s)) × (count ≤ 16) ⌝ }
+    requires { ⌜ (start ≤ length (now s)) × (count ≤ stationsMost) ⌝ }
     ensures { λ r. ⌜ toldStations r ≡ stationsFrom (now (s .entry)) start count ⌝ }
 {
     let mut listed = no_stations();
@@ -135,7 +143,7 @@ fn fill_stations(s: &[u8], start: usize, count: usize) -> Stations
 pub fn read_stations(s: &[u8], at: usize) -> Stations
     ensures { λ r. ⌜ toldStations r ≡ stationsPart (now (s .entry)) at ⌝ }
 {
-    match byte_section::read_count(s, at, 0, 16) {
+    match byte_section::read_count(s, at, 0, STATIONS_U32) {
         CountAnswer::Is(n) => fill_stations(s, at + 4, n),
         CountAnswer::Refused(r, place) => Stations {
             answer: SectionAnswer::Refused(r, place),
@@ -148,13 +156,13 @@ pub fn read_stations(s: &[u8], at: usize) -> Stations
 
 // The records section: its count, from 0 to 65,535, then its records, which are judged by their length alone.
 pub fn read_records(s: &[u8], at: usize, parameters: usize) -> SectionAnswer
-    requires { ⌜ parameters ≤ 50 ⌝ }
+    requires { ⌜ parameters ≤ parametersMost ⌝ }
     ensures { λ r. ⌜ toldSection r ≡ recordsPart (now (s .entry)) at parameters ⌝ }
 {
-    match byte_section::read_count(s, at, 0, 65535) {
+    match byte_section::read_count(s, at, 0, RECORDS_U32) {
         CountAnswer::Is(n) => {
             let start = at + 4;
-            let needed = n * (32 + 2 * parameters);
+            let needed = n * (RECORD_FIXED + PARTIAL_SIZE * parameters);
             if s.len() - start < needed {
                 SectionAnswer::Refused(Refusal::Short, s.len())
             } else {

@@ -6,6 +6,7 @@ use refusal::Verdict;
 ghost use mathlib.Core.Path.{_≡_};
 ghost use Prim.Native.Nat.{_/_, _≤_};
 ghost use lib.ListN.{length};
+ghost use Rattle.num_limits.specs.Capacities.{parametersMost, recordsMost, stationsMost};
 ghost use Rattle.arc_kinds.specs.Kinds.{recordSize};
 ghost use Rattle.arc_write.specs.Write.{writeArc, arcLeftIn};
 ghost use Rattle.byte_section.specs.Told.{toldWrite};
@@ -13,7 +14,7 @@ ghost use Rattle.arc_write.specs.Room.{roomAnswer};
 
 // The tests after the heading's: 1 for a run that ends inside a record, 20 for too little room.
 fn judge_room(parameters: usize, stations: usize, bytes: usize, room: usize) -> WriteAnswer
-    requires { ⌜ (parameters ≤ 50) × (stations ≤ 16) × (bytes / recordSize parameters ≤ 65535) ⌝ }
+    requires { ⌜ (parameters ≤ parametersMost) × (stations ≤ stationsMost) × (bytes / recordSize parameters ≤ recordsMost) ⌝ }
     ensures { λ r. ⌜ toldWrite r ≡ roomAnswer parameters stations bytes room ⌝ }
 {
     if bytes % arc_fields::record_size(parameters) == 0 {

@@ -3,6 +3,7 @@
 use arc_heading::Heading;
 use byte_section::ReadAnswer;
 use merge::MergeAnswer;
+use num_limits::STATIONS_MOST;
 use refusal::Refusal;
 use take_one::TakeAnswer;
 use take_tally::Tally;
@@ -19,11 +20,11 @@ fn put_square(square: u64, out: &mut [u64])
 }
 
 // Lays out the counts of a tally after the square sum's place.
-fn put_counts(counts: [u32; 16], out: &mut [u64])
+fn put_counts(counts: [u32; STATIONS_MOST], out: &mut [u64])
     requires { ⌜ 17 ≤ length (now out) ⌝ }
 {
     let mut i: usize = 0;
-    while i < 16 {
+    while i < STATIONS_MOST {
         out[i + 1] = counts[i] as u64;
         i += 1;
     }

@@ -10,6 +10,7 @@ use take_state::Sight;
 ghost use mathlib.Core.Path.{_≡_};
 ghost use Prim.Native.Nat.{_≤_};
 ghost use lib.ListN.{length};
+ghost use Rattle.num_limits.specs.Capacities.{parametersMost, stationsMost};
 ghost use Rattle.byte_words.specs.Words.{lay};
 ghost use Rattle.refusal.specs.First.{numberIn};
 ghost use Rattle.byte_section.specs.Told.{toldAnswer, toldWrite, onDone};
@@ -48,7 +49,7 @@ pub fn read_place(answer: ReadAnswer) -> u64
 
 // Whether there is room for a heading and for two numbers.
 fn is_roomy(parameters: usize, stations: usize, room: usize, out: usize) -> bool
-    requires { ⌜ (parameters ≤ 50) × (stations ≤ 16) ⌝ }
+    requires { ⌜ (parameters ≤ parametersMost) × (stations ≤ stationsMost) ⌝ }
     ensures { λ r. ⌜ r ≡ readRoomy parameters stations room out ⌝ }
 {
     if 16 + 16 * parameters + 8 * stations <= room {
@@ -60,7 +61,7 @@ fn is_roomy(parameters: usize, stations: usize, room: usize, out: usize) -> bool
 
 // An arc file's heading in one room; the number of its records and the first one's place in another.
 pub fn give_arc(r: ArcRead, heading: &mut [u8], out: &mut [u64]) -> u32
-    requires { ⌜ (r .heading .parameters ≤ 50) × (r .heading .stations ≤ 16) ⌝ }
+    requires { ⌜ (r .heading .parameters ≤ parametersMost) × (r .heading .stations ≤ stationsMost) ⌝ }
     ensures { λ k. ⌜ k ≡ readNumber (arcOf (toldArcRead r)) (length (now (heading .entry))) (length (now (out .entry))) ⌝ }
     ensures heading { λ _. ⌜ now (heading .exit) ≡ headingLeft (arcOf (toldArcRead r)) (now (heading .entry)) (length (now (out .entry))) ⌝ }
     ensures places { λ _. ⌜ now (out .exit) ≡ placesLeft (arcOf (toldArcRead r)) (length (now (heading .entry))) (now (out .entry)) ⌝ }

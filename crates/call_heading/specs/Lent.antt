@@ -5,6 +5,7 @@ use Prim.Native.Nat.{ℕ, _+_, _*_, min}
 use mathlib.Core.List.{List, [], _∷_, _++_}
 use mathlib.Core.Bool.{Bool}
 use lib.ListN.{length}
+use Rattle.num_limits.specs.Capacities.{parametersMost, stationsMost}
 use Rattle.num_whole.specs.Tests.{upTo, both}
 use Rattle.refusal.specs.First.{unless, first}
 use Rattle.byte_words.specs.Words.{word, bytesOf}
@@ -20,10 +21,10 @@ use Rattle.call_tally.specs.Tally.{hasTally}
 -- ---- a heading: the settings' 12 bytes as in an arc file, the numbers of parameters and of stations, two bytes each, then the labels and the
 -- stations as in an arc file
 abbrev pub labelsHeld : List ℕ → ℕ
-labelsHeld b = min (word 2 b 12) 50
+labelsHeld b = min (word 2 b 12) parametersMost
 
 abbrev pub stationsHeld : List ℕ → ℕ
-stationsHeld b = min (word 2 b 14) 16
+stationsHeld b = min (word 2 b 14) stationsMost
 
 -- 16 bytes, 16 a label, 8 a station
 abbrev pub headingLong : ℕ → ℕ → ℕ
@@ -35,8 +36,8 @@ headingIn b =
       settings = settingsAt b 0;
       parameters = word 2 b 12;
       stations = word 2 b 14;
-      labels = padded 50 noLabel (stands (labelAt b) 16 (labelsHeld b) 16);
-      listed = padded 16 noStation (stands (stationAt b) 8 (stationsHeld b) (16 + 16 * labelsHeld b));
+      labels = padded parametersMost noLabel (stands (labelAt b) 16 (labelsHeld b) 16);
+      listed = padded stationsMost noStation (stands (stationAt b) 8 (stationsHeld b) (16 + 16 * labelsHeld b));
     }
 
 unfoldable pub headingBytes : Heading → List ℕ

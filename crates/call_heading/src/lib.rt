@@ -2,8 +2,11 @@
 use arc_heading::Heading;
 use arc_limits::Label;
 use arc_limits::Station;
+use num_limits::PARAMETERS_MOST;
+use num_limits::STATIONS_MOST;
 ghost use mathlib.Core.Path.{_≡_};
 ghost use Prim.Native.Nat.{_≤_, min};
+ghost use Rattle.num_limits.specs.Capacities.{parametersMost, stationsMost};
 ghost use Rattle.byte_words.specs.Words.{word, lay};
 ghost use Rattle.arc_limits.specs.Limits.{noLabel, noStation};
 ghost use Rattle.arc_kinds.specs.Kinds.{labelAt, stationAt};
@@ -24,20 +27,20 @@ fn held(b: &[u8], at: usize, most: usize) -> usize
 pub fn has_heading(b: &[u8]) -> bool
     ensures { λ r. ⌜ r ≡ hasHeading (now (b .entry)) ⌝ }
 {
-    16 + 16 * held(b, 12, 50) + 8 * held(b, 14, 16) <= b.len()
+    16 + 16 * held(b, 12, PARAMETERS_MOST) + 8 * held(b, 14, STATIONS_MOST) <= b.len()
 }
 
 // The first n labels; slots past them are 0.
-fn labels_in(b: &[u8], n: usize) -> [Label; 50]
-    requires { ⌜ n ≤ 50 ⌝ }
-    ensures { λ r. ⌜ r ≡ padded 50 noLabel (stands (labelAt (now (b .entry))) 16 n 16) ⌝ }
+fn labels_in(b: &[u8], n: usize) -> [Label; PARAMETERS_MOST]
+    requires { ⌜ n ≤ parametersMost ⌝ }
+    ensures { λ r. ⌜ r ≡ padded parametersMost noLabel (stands (labelAt (now (b .entry))) 16 n 16) ⌝ }
 {
     let mut labels = [Label {
         kind: 0,
         index: 0,
         weight: 0,
         estimate: 0,
-    }; 50];
+    }; PARAMETERS_MOST];
     let mut at: usize = 16;
     let mut i: usize = 0;
     while i < n {
@@ -49,14 +52,14 @@ fn labels_in(b: &[u8], n: usize) -> [Label; 50]
 }
 
 // The first n stations, from a place on; slots past them are 0.
-fn stations_in(b: &[u8], start: usize, n: usize) -> [Station; 16]
-    requires { ⌜ (start ≤ 816) × (n ≤ 16) ⌝ }
-    ensures { λ r. ⌜ r ≡ padded 16 noStation (stands (stationAt (now (b .entry))) 8 n start) ⌝ }
+fn stations_in(b: &[u8], start: usize, n: usize) -> [Station; STATIONS_MOST]
+    requires { ⌜ (start ≤ 816) × (n ≤ stationsMost) ⌝ }
+    ensures { λ r. ⌜ r ≡ padded stationsMost noStation (stands (stationAt (now (b .entry))) 8 n start) ⌝ }
 {
     let mut listed = [Station {
         number: 0,
         correction: 0,
-    }; 16];
+    }; STATIONS_MOST];
     let mut at = start;
     let mut i: usize = 0;
     while i < n {
@@ -71,8 +74,8 @@ fn stations_in(b: &[u8], start: usize, n: usize) -> [Station; 16]
 pub fn heading_in(b: &[u8]) -> Heading
     ensures { λ r. ⌜ r ≡ headingIn (now (b .entry)) ⌝ }
 {
-    let n = held(b, 12, 50);
-    let m = held(b, 14, 16);
+    let n = held(b, 12, PARAMETERS_MOST);
+    let m = held(b, 14, STATIONS_MOST);
     let labels = labels_in(b, n);
     let listed = stations_in(b, 16 + 16 * n, m);
     Heading {
@@ -88,7 +91,7 @@ pub fn heading_in(b: &[u8]) -> Heading
 
 // A heading's bytes at the front of a room; a byte for which there is no room is dropped.
 pub fn put_heading(h: Heading, out: &mut [u8])
-    requires { ⌜ (h .parameters ≤ 50) × (h .stations ≤ 16) ⌝ }
+    requires { ⌜ (h .parameters ≤ parametersMost) × (h .stations ≤ stationsMost) ⌝ }
     ensures { λ _. ⌜ now (out .exit) ≡ lay (now (out .entry)) 0 (headingBytes h) ⌝ }
 {
     let s = h.settings;

@@ -4,6 +4,7 @@ use Prim.Native.Nat.{ℕ}
 use mathlib.Core.List.{List, _++_}
 use mathlib.Core.Bool.{Bool}
 use lib.ListN.{length}
+use Rattle.num_limits.specs.Capacities.{stationsMost}
 use Rattle.num_whole.specs.Tests.{upTo}
 use Rattle.byte_words.specs.Words.{word, bytesOf}
 use Rattle.byte_words.specs.Stands.{stands}
@@ -16,7 +17,7 @@ unfoldable pub timesRowAt : List ℕ → ℕ → Row
 timesRowAt b at = record { times = stands (word 8 b) 8 10 at }
 
 unfoldable pub tallyIn : List ℕ → Tally
-tallyIn b = record { square = word 8 b 0; counts = stands (word 4 b) 4 16 8; rows = stands (timesRowAt b) 80 16 72 }
+tallyIn b = record { square = word 8 b 0; counts = stands (word 4 b) 4 stationsMost 8; rows = stands (timesRowAt b) 80 stationsMost 72 }
 
 unfoldable pub rowBytes : Row → List ℕ
 rowBytes w = encoded (bytesOf 8) (w .times)

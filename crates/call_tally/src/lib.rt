@@ -1,9 +1,12 @@
 // Inner to `call_heading` and `wheloruka`: a tally in lent bytes, read and written.
+use num_limits::STATIONS_MOST;
+use num_limits::TYPES;
 use take_tally::Row;
 use take_tally::Tally;
 ghost use mathlib.Core.Path.{_≡_};
 ghost use Prim.Native.Nat.{_≤_};
 ghost use lib.ListN.{length};
+ghost use Rattle.num_limits.specs.Capacities.{stationsMost};
 ghost use Rattle.byte_words.specs.Words.{word, bytesOf, lay};
 ghost use Rattle.byte_words.specs.Stands.{stands};
 ghost use Rattle.byte_section.specs.Section.{encoded};
@@ -17,13 +20,13 @@ pub fn has_tally(b: &[u8]) -> bool
     1352 <= b.len()
 }
 
-fn counts_in(b: &[u8]) -> [u32; 16]
-    ensures { λ r. ⌜ r ≡ stands (word 4 (now (b .entry))) 4 16 8 ⌝ }
+fn counts_in(b: &[u8]) -> [u32; STATIONS_MOST]
+    ensures { λ r. ⌜ r ≡ stands (word 4 (now (b .entry))) 4 stationsMost 8 ⌝ }
 {
-    let mut counts = [0u32; 16];
+    let mut counts = [0u32; STATIONS_MOST];
     let mut at: usize = 8;
     let mut i: usize = 0;
-    while i < 16 {
+    while i < STATIONS_MOST {
         counts[i] = byte_read::read_u32(b, at);
         at += 4;
         i += 1;
@@ -36,7 +39,7 @@ fn row_in(b: &[u8], start: usize) -> Row
     requires { ⌜ start ≤ 2000 ⌝ }
     ensures { λ r. ⌜ r ≡ timesRowAt (now (b .entry)) start ⌝ }
 {
-    let mut times = [0u64; 10];
+    let mut times = [0u64; TYPES];
     let mut at = start;
     let mut i: usize = 0;
     while i < 10 {
@@ -47,13 +50,15 @@ fn row_in(b: &[u8], start: usize) -> Row
     Row { times }
 }
 
-fn rows_in(b: &[u8]) -> [Row; 16]
-    ensures { λ r. ⌜ r ≡ stands (timesRowAt (now (b .entry))) 80 16 72 ⌝ }
+fn rows_in(b: &[u8]) -> [Row; STATIONS_MOST]
+    ensures { λ r. ⌜ r ≡ stands (timesRowAt (now (b .entry))) 80 stationsMost 72 ⌝ }
 {
-    let mut rows = [Row { times: [0u64; 10] }; 16];
+    let mut rows = [Row {
+        times: [0u64; TYPES],
+    }; STATIONS_MOST];
     let mut at: usize = 72;
     let mut i: usize = 0;
-    while i < 16 {
+    while i < STATIONS_MOST {
         rows[i] = row_in(b, at);
         at += 80;
         i += 1;
@@ -76,12 +81,12 @@ pub fn tally_in(b: &[u8]) -> Tally
 
 // ---- writing
 
-fn put_counts(counts: [u32; 16], out: &mut [u8])
+fn put_counts(counts: [u32; STATIONS_MOST], out: &mut [u8])
     ensures { λ _. ⌜ now (out .exit) ≡ lay (now (out .entry)) 8 (encoded (bytesOf 4) counts) ⌝ }
 {
     let mut at: usize = 8;
     let mut i: usize = 0;
-    while i < 16 {
+    while i < STATIONS_MOST {
         byte_write::write_u32(out, at, counts[i]);
         at += 4;
         i += 1;
@@ -106,7 +111,7 @@ fn put_rows(t: Tally, out: &mut [u8])
 {
     let mut at: usize = 72;
     let mut i: usize = 0;
-    while i < 16 {
+    while i < STATIONS_MOST {
         let w = t.rows[i];
         put_row(w, out, at);
         at += 80;

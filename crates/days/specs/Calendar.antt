@@ -2,6 +2,7 @@
 -- outside. Both directions are public." Outside is refusal 4, "a calendar field is out of its limits".
 use Prim.Native.Nat.{ℕ, zero, suc, _+_, _-_, _%_}
 use mathlib.Core.Bool.{Bool, not}
+use Rattle.num_limits.specs.Capacities.{lastDay}
 use Rattle.num_whole.specs.Tests.{less, same, pick, both, either, between}
 use Rattle.num_whole.specs.Answer.{Answered, given, refused}
 use Rattle.refusal.specs.Number.{numberOf}
@@ -62,7 +63,7 @@ dateAfter zero = dateOf 1950 1 1
 dateAfter (suc n) = tomorrow (dateAfter n)
 
 unfoldable pub dateOfDay : ℕ → Answered Date
-dateOfDay n = pick (between 1 n 54787) (given (dateAfter (n - 1))) (refused 4)
+dateOfDay n = pick (between 1 n lastDay) (given (dateAfter (n - 1))) (refused 4)
 
 -- ---- what the answers say
 abbrev pub toldDay : DayAnswer → Answered ℕ

@@ -1,8 +1,10 @@
 // Calendar days: from a date to its day number and back, for every input.
+use num_limits::LAST_DAY;
 use refusal::Refusal;
 ghost use mathlib.Core.Path.{_≡_};
 ghost use mathlib.Core.Bool.{true};
 ghost use Prim.Native.Nat.{_+_, _-_, _≤_};
+ghost use Rattle.num_limits.specs.Capacities.{lastDay};
 ghost use Rattle.days.specs.Calendar.{
   leap,
   monthLength,
@@ -102,7 +104,7 @@ fn is_date(date: Date) -> bool
 
 // The year in which a day number lies: four years have 1,461 days.
 fn year_of(number: u32) -> u32
-    requires { ⌜ (1 ≤ number) × (number ≤ 54787) ⌝ }
+    requires { ⌜ (1 ≤ number) × (number ≤ lastDay) ⌝ }
     ensures { λ r. ⌜ InYear number r ⌝ }
 {
     1950 + (4 * number - 2) / 1461
@@ -143,7 +145,7 @@ pub fn day_of_date(date: Date) -> DayAnswer
 pub fn date_of_day(number: u32) -> DateAnswer
     ensures { λ r. ⌜ toldDate r ≡ dateOfDay number ⌝ }
 {
-    if num_whole::within(1, number as u64, 54787) {
+    if num_whole::within(1, number as u64, LAST_DAY) {
         let year = year_of(number);
         let before = years_days(year - 1950);
         DateAnswer::Is(date_in_year(year, number - before))

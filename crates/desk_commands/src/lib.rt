@@ -8,11 +8,15 @@ use byte_section::ReadAnswer;
 use byte_section::WriteAnswer;
 use merge::MergeAnswer;
 use norm_read::NormalRead;
+use num_limits::ARC_SUMS_MOST;
+use num_limits::PARAMETERS_MOST;
+use num_limits::RECORDS_MOST;
 use refusal::Verdict;
 use take_one::TakeAnswer;
 use take_tally::Tally;
 ghost use mathlib.Core.Path.{_≡_};
 ghost use lib.ListN.{length};
+ghost use Rattle.num_limits.specs.Capacities.{arcSumsMost, recordsMost};
 ghost use Rattle.io.specs.Counts.{Counts};
 
 // ---- files in and out
@@ -95,17 +99,17 @@ fn records_of(file: &[u8], start: usize) -> &[u8] {
     }
 }
 
-fn matrix_room() -> [i64; 1275]
-    ensures { λ r. ⌜ 1275 ≡ length r ⌝ }
+fn matrix_room() -> [i64; ARC_SUMS_MOST]
+    ensures { λ r. ⌜ arcSumsMost ≡ length r ⌝ }
 {
-    [0; 1275]
+    [0; ARC_SUMS_MOST]
 }
 
 // For the answers of the most records that a file has.
-fn answers_room() -> [u8; 65535]
-    ensures { λ r. ⌜ 65535 ≡ length r ⌝ }
+fn answers_room() -> [u8; RECORDS_MOST]
+    ensures { λ r. ⌜ recordsMost ≡ length r ⌝ }
 {
-    [0; 65535]
+    [0; RECORDS_MOST]
 }
 
 // For the longest normal file of one arc.
@@ -166,7 +170,7 @@ fn take_records(
 fn normal_of_arc(path: &[u8], file: &[u8], r: ArcRead, to: &[u8]) {
     let h = r.heading;
     let mut matrix = matrix_room();
-    let mut rights: [i64; 50] = [0; 50];
+    let mut rights: [i64; PARAMETERS_MOST] = [0; PARAMETERS_MOST];
     let mut answers = answers_room();
     let s = take_state::start(h, &mut matrix, &mut rights);
     let t = s.tally;

@@ -2,10 +2,12 @@
 // arc's records came to.
 use arc_heading::Heading;
 use arc_limits::Label;
+use num_limits::PARAMETERS_MOST;
 use refusal::Refusal;
 ghost use mathlib.Core.Path.{_≡_};
 ghost use Prim.Native.Nat.{_+_, _<_, _≤_};
 ghost use lib.ListN.{length};
+ghost use Rattle.num_limits.specs.Capacities.{parametersMost};
 
 // The sentence of the paper's table for a refusal.
 fn put_sentence(r: Refusal) {
@@ -106,7 +108,7 @@ pub fn tell_records(answers: &[u8]) {
 
 // Whether parameter i of an arc is unseen: its diagonal sum is 0.
 fn is_unseen(matrix: &[i64], i: usize) -> bool
-    requires { ⌜ i < 50 ⌝ }
+    requires { ⌜ i < parametersMost ⌝ }
 {
     let k = num_packed::place(i, i);
     if k < matrix.len() {
@@ -129,7 +131,7 @@ fn tell_label(before: usize, kind: u16, index: u16) {
 
 // Tells parameter i of an arc with so many, so many told before it, where it is unseen: how many are told then.
 fn tell_silent(parameters: usize, matrix: &[i64], i: usize, before: usize, l: Label) -> usize
-    requires { ⌜ (i < 50) × (before < 50) ⌝ }
+    requires { ⌜ (i < parametersMost) × (before < parametersMost) ⌝ }
     ensures { λ r. ⌜ r ≤ before + 1 ⌝ }
 {
     if i < parameters {
@@ -147,7 +149,7 @@ pub fn tell_unseen(h: Heading, matrix: &[i64]) {
     desk_lines::put(b"unseen parameters:");
     let mut n: usize = 0;
     let mut i: usize = 0;
-    while i < 50 {
+    while i < PARAMETERS_MOST {
         let l = h.labels[i];
         n = tell_silent(p, matrix, i, n, l);
         i += 1;

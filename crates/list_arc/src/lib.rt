@@ -3,6 +3,7 @@ use arc_heading::Heading;
 ghost use mathlib.Core.Path.{_≡_};
 ghost use Prim.Native.Nat.{_≤_};
 ghost use lib.ListN.{length};
+ghost use Rattle.num_limits.specs.Capacities.{parametersMost};
 ghost use Rattle.decimal.specs.Laid.{laid};
 ghost use Rattle.num_packed.specs.Triangle.{tri};
 ghost use Rattle.list_lines.specs.Lines.{arcLines};
@@ -17,7 +18,7 @@ pub fn put_arc(
     rights: &[i64],
     square: u64,
 ) -> usize
-    requires { ⌜ (h .parameters ≤ 50) × (tri (h .parameters) ≤ length (now matrix)) × (h .parameters ≤ length (now rights)) ⌝ }
+    requires { ⌜ (h .parameters ≤ parametersMost) × (tri (h .parameters) ≤ length (now matrix)) × (h .parameters ≤ length (now rights)) ⌝ }
     ensures { λ r. ⌜ (now (room .exit), r) ≡ laid (now (room .entry)) 0 (arcLines h count (now (told .entry)) (now (matrix .entry)) (now (rights .entry)) square) ⌝ }
 {
     let settings = h.settings;

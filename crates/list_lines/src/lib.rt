@@ -6,6 +6,7 @@ ghost use mathlib.Core.Path.{_≡_};
 ghost use mathlib.Core.Bool.{not};
 ghost use Prim.Native.Nat.{_≤_};
 ghost use lib.ListN.{length};
+ghost use Rattle.num_limits.specs.Capacities.{parametersMost};
 ghost use Rattle.num_whole.specs.Tests.{pick};
 ghost use Rattle.decimal.specs.Laid.{laid};
 ghost use Rattle.arc_heading.specs.Judge.{labelsOf};
@@ -83,7 +84,7 @@ pub fn put_parameters(
     matrix: &[i64],
     rights: &[i64],
 ) -> usize
-    requires { ⌜ (h .parameters ≤ 50) × (tri (h .parameters) ≤ length (now matrix)) × (h .parameters ≤ length (now rights)) ⌝ }
+    requires { ⌜ (h .parameters ≤ parametersMost) × (tri (h .parameters) ≤ length (now matrix)) × (h .parameters ≤ length (now rights)) ⌝ }
     ensures { λ r. ⌜ (now (room .exit), r) ≡ laid (now (room .entry)) start (parameterLines (now (matrix .entry)) (now (rights .entry)) 0 (labelsOf h)) ⌝ }
 {
     let n = h.parameters;

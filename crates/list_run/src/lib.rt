@@ -1,8 +1,12 @@
 // Inner to `list`: the lines of an arc, its records taken from the empty state, with room for what they come to.
 use arc_heading::Heading;
+use num_limits::ARC_SUMS_MOST;
+use num_limits::PARAMETERS_MOST;
+use num_limits::RECORDS_MOST;
 ghost use mathlib.Core.Path.{_≡_};
 ghost use Prim.Native.Nat.{_*_, _≤_};
 ghost use lib.ListN.{length};
+ghost use Rattle.num_limits.specs.Capacities.{arcSumsMost, parametersMost, recordsMost};
 ghost use Rattle.num_whole.specs.Answer.{given};
 ghost use Rattle.decimal.specs.Laid.{laid};
 ghost use Rattle.arc_heading.specs.Judge.{judged};
@@ -13,24 +17,24 @@ ghost use Rattle.list_run.specs.Runs.{runLines};
 // ---- room
 
 // For the matrix sums of fifty parameters.
-fn sums_room() -> [i64; 1275]
-    ensures { λ r. ⌜ 1275 ≡ length r ⌝ }
+fn sums_room() -> [i64; ARC_SUMS_MOST]
+    ensures { λ r. ⌜ arcSumsMost ≡ length r ⌝ }
 {
-    [0; 1275]
+    [0; ARC_SUMS_MOST]
 }
 
 // For their right sides.
-fn sides_room() -> [i64; 50]
-    ensures { λ r. ⌜ 50 ≡ length r ⌝ }
+fn sides_room() -> [i64; PARAMETERS_MOST]
+    ensures { λ r. ⌜ parametersMost ≡ length r ⌝ }
 {
-    [0; 50]
+    [0; PARAMETERS_MOST]
 }
 
 // For the answers of the most records that a file has.
-fn answers_room() -> [u8; 65535]
-    ensures { λ r. ⌜ 65535 ≡ length r ⌝ }
+fn answers_room() -> [u8; RECORDS_MOST]
+    ensures { λ r. ⌜ recordsMost ≡ length r ⌝ }
 {
-    [0; 65535]
+    [0; RECORDS_MOST]
 }
 
 // ---- the lines
@@ -66,8 +70,8 @@ fn put_in(
     rights: &mut [i64],
     told: &mut [u8],
 ) -> usize
-    requires { ⌜ (judged h ≡ given tt) × (length (now run) ≡ count * recordSize (h .parameters)) × (count ≤ 65535) ⌝ }
-    requires { ⌜ (length (now matrix) ≡ 1275) × (length (now rights) ≡ 50) × (length (now told) ≡ 65535) ⌝ }
+    requires { ⌜ (judged h ≡ given tt) × (length (now run) ≡ count * recordSize (h .parameters)) × (count ≤ recordsMost) ⌝ }
+    requires { ⌜ (length (now matrix) ≡ arcSumsMost) × (length (now rights) ≡ parametersMost) × (length (now told) ≡ recordsMost) ⌝ }
     ensures { λ r. ⌜ (now (room .exit), r) ≡ laid (now (room .entry)) 0 (runLines h (now (run .entry)) count) ⌝ }
 {
     let p = h.parameters;
@@ -85,7 +89,7 @@ fn put_in(
 
 // The same with room of its own.
 pub fn put_arc(room: &mut [u8], h: Heading, count: usize, run: &[u8]) -> usize
-    requires { ⌜ (judged h ≡ given tt) × (length (now run) ≡ count * recordSize (h .parameters)) × (count ≤ 65535) ⌝ }
+    requires { ⌜ (judged h ≡ given tt) × (length (now run) ≡ count * recordSize (h .parameters)) × (count ≤ recordsMost) ⌝ }
     ensures { λ r. ⌜ (now (room .exit), r) ≡ laid (now (room .entry)) 0 (runLines h (now (run .entry)) count) ⌝ }
 {
     let mut matrix = sums_room();

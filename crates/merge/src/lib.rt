@@ -1,10 +1,13 @@
 // Two normal files merged: the merged file's bytes into lent room, or the first refusal, which changes nothing.
 use byte_section::ReadAnswer;
 use norm_read::NormalRead;
+use num_limits::ARCS_MOST;
+use num_limits::LABELS_MOST;
 use refusal::Refusal;
 ghost use mathlib.Core.Path.{_≡_};
 ghost use Prim.Native.Nat.{_≤_};
 ghost use lib.ListN.{length};
+ghost use Rattle.num_limits.specs.Capacities.{labelsMost};
 ghost use Rattle.merge_laws.specs.Merge.{mergeNumber};
 ghost use Rattle.merge_put.specs.Parts.{systemInFile, Taken, Joined, ArcsFit};
 ghost use Rattle.merge.specs.Files.{mergeAnswer, mergeLeft, toldMerge};
@@ -32,7 +35,7 @@ fn merge_room(
 ) -> MergeAnswer
     requires { ⌜ Taken (now a) x × Taken (now b) y ⌝ }
     requires { ⌜ ArcsFit (now a) (now b) m × Joined (now a) (now b) n (now left) (now right) ⌝ }
-    requires { ⌜ (mergeNumber (systemInFile (now a)) (systemInFile (now b)) ≡ 0) × (n ≤ 500) ⌝ }
+    requires { ⌜ (mergeNumber (systemInFile (now a)) (systemInFile (now b)) ≡ 0) × (n ≤ labelsMost) ⌝ }
     ensures { λ r. ⌜ Merges r (systemInFile (now (a .entry))) (systemInFile (now (b .entry))) (now (out .entry)) (now (out .exit)) ⌝ }
 {
     let length = norm_room::needed(m, n);
@@ -57,7 +60,7 @@ fn merge_agreed(
 ) -> MergeAnswer
     requires { ⌜ Taken (now a) x × Taken (now b) y ⌝ }
     requires { ⌜ ArcsFit (now a) (now b) m × Joined (now a) (now b) n (now left) (now right) ⌝ }
-    requires { ⌜ n ≤ 500 ⌝ }
+    requires { ⌜ n ≤ labelsMost ⌝ }
     ensures { λ r. ⌜ Merges r (systemInFile (now (a .entry))) (systemInFile (now (b .entry))) (now (out .entry)) (now (out .exit)) ⌝ }
 {
     let begin = 8 + 4 * x.arcs;
@@ -94,7 +97,7 @@ fn merge_labels(
     let mut left: [usize; 1000] = [0; 1000];
     let mut right: [usize; 1000] = [0; 1000];
     let n = merge_put::join_labels(a, x, b, y, &mut left, &mut right);
-    if 500 < n {
+    if LABELS_MOST < n {
         return MergeAnswer::Refused(Refusal::ManyParameters);
     }
     merge_agreed(a, x, b, y, m, &left, &right, n, out)
@@ -109,7 +112,7 @@ fn merge_read(a: &[u8], x: NormalRead, b: &[u8], y: NormalRead, out: &mut [u8]) 
     if m < x.arcs + y.arcs {
         return MergeAnswer::Refused(Refusal::SharedArc);
     }
-    if 16 < m {
+    if ARCS_MOST < m {
         return MergeAnswer::Refused(Refusal::ManyArcs);
     }
     merge_labels(a, x, b, y, m, out)

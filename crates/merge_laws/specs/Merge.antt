@@ -5,6 +5,7 @@ use mathlib.Core.Bool.{Bool, not}
 use Prim.Native.Nat.{ℕ, _+_}
 use lib.IntN.{ℤ, pos}
 use lib.ListN.{length, getD, replicate}
+use Rattle.num_limits.specs.Capacities.{arcsMost, labelsMost}
 use Rattle.num_whole.specs.Tests.{less, pick, both, either}
 use Rattle.num_whole.specs.Lists.{all}
 use Rattle.num_whole.specs.Sums.{plus}
@@ -88,7 +89,7 @@ unfoldable pub mergeNumber : System → System → ℕ
 mergeNumber x y =
     first
     (when 21 (share (x .arcs) (y .arcs))
-    ∷ when 22 (less 16 (length (union (x .arcs) (y .arcs))))
-    ∷ when 23 (less 500 (length (union (keysOf x) (keysOf y))))
+    ∷ when 22 (less arcsMost (length (union (x .arcs) (y .arcs))))
+    ∷ when 23 (less labelsMost (length (union (keysOf x) (keysOf y))))
     ∷ unless 24 (all (agree x y) (union (keysOf x) (keysOf y)))
     ∷ [])

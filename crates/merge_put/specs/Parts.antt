@@ -5,6 +5,7 @@ use mathlib.Core.List.{List, [], _∷_}
 use mathlib.Core.Bool.{false}
 use Prim.Native.Nat.{ℕ, _≤_}
 use lib.ListN.{length}
+use Rattle.num_limits.specs.Capacities.{arcsMost}
 use Rattle.num_whole.specs.Answer.{Judged, good, bad}
 use Rattle.norm_system.specs.System.{System}
 use Rattle.norm_kinds.specs.Kinds.{arcNumberBytes, normalLabelBytes, sumBytes, totalsBytes}
@@ -56,7 +57,7 @@ pub record Joined (a b : List ℕ) (n : ℕ) (left right : List ℕ) : Type 0 wh
 pub record ArcsFit (a b : List ℕ) (m : ℕ) : Type 0 where
   pub none-shared : share (systemInFile a .arcs) (systemInFile b .arcs) ≡ false
   pub count : m ≡ length (union (systemInFile a .arcs) (systemInFile b .arcs))
-  pub few : m ≤ 16
+  pub few : m ≤ arcsMost
 
 -- ---- the merged file in three parts
 unfoldable pub headBytes : System → List ℕ

@@ -1,9 +1,12 @@
 // Inner to `merge`: the arcs and labels of two normal files that were read, joined, and the merged file written into lent bytes.
 use merge_sums::Column;
 use norm_read::NormalRead;
+use num_limits::ARCS_MOST;
+use num_limits::LABELS_MOST;
 ghost use mathlib.Core.Path.{_≡_};
 ghost use Prim.Native.Nat.{_+_, _*_, _≤_};
 ghost use lib.ListN.{length};
+ghost use Rattle.num_limits.specs.Capacities.{labelsMost};
 ghost use Rattle.byte_words.specs.Words.{lay};
 ghost use Rattle.byte_section.specs.Section.{encoded};
 ghost use Rattle.num_packed.specs.Triangle.{tri};
@@ -20,8 +23,8 @@ pub fn count_arcs(a: &[u8], x: NormalRead, b: &[u8], y: NormalRead) -> usize
     requires { ⌜ Taken (now a) x × Taken (now b) y ⌝ }
     ensures { λ r. ⌜ r ≡ length (union (systemInFile (now (a .entry)) .arcs) (systemInFile (now (b .entry)) .arcs)) ⌝ }
 {
-    let mut us: [u64; 16] = [0; 16];
-    let mut vs: [u64; 16] = [0; 16];
+    let mut us: [u64; ARCS_MOST] = [0; ARCS_MOST];
+    let mut vs: [u64; ARCS_MOST] = [0; ARCS_MOST];
     let mut left: [usize; 32] = [0; 32];
     let mut right: [usize; 32] = [0; 32];
     let m = x.arcs;
@@ -37,8 +40,8 @@ fn put_arcs(out: &mut [u8], at: usize, a: &[u8], x: NormalRead, b: &[u8], y: Nor
     requires { ⌜ at + 4 * length (union (systemInFile (now a) .arcs) (systemInFile (now b) .arcs)) ≤ length (now out) ⌝ }
     ensures { λ _. ⌜ now (out .exit) ≡ lay (now (out .entry)) at (encoded arcNumberBytes (union (systemInFile (now (a .entry)) .arcs) (systemInFile (now (b .entry)) .arcs))) ⌝ }
 {
-    let mut us: [u64; 16] = [0; 16];
-    let mut vs: [u64; 16] = [0; 16];
+    let mut us: [u64; ARCS_MOST] = [0; ARCS_MOST];
+    let mut vs: [u64; ARCS_MOST] = [0; ARCS_MOST];
     let mut left: [usize; 32] = [0; 32];
     let mut right: [usize; 32] = [0; 32];
     let m = x.arcs;
@@ -62,8 +65,8 @@ pub fn join_labels(
     requires { ⌜ (1000 ≤ length (now left)) × (1000 ≤ length (now right)) ⌝ }
     ensures { λ r. ⌜ Joined (now (a .entry)) (now (b .entry)) r (now (left .exit)) (now (right .exit)) ⌝ }
 {
-    let mut ka: [u64; 500] = [0; 500];
-    let mut kb: [u64; 500] = [0; 500];
+    let mut ka: [u64; LABELS_MOST] = [0; LABELS_MOST];
+    let mut kb: [u64; LABELS_MOST] = [0; LABELS_MOST];
     let p = x.parameters;
     let q = y.parameters;
     merge_read::load_keys(a, 8 + 4 * x.arcs, p, &mut ka);
@@ -87,7 +90,7 @@ fn put_heads(
 )
     requires { ⌜ Taken (now a) x × Taken (now b) y ⌝ }
     requires { ⌜ ArcsFit (now a) (now b) m × Joined (now a) (now b) n (now left) (now right) ⌝ }
-    requires { ⌜ (n ≤ 500) × (8 + 4 * m + 24 * n ≤ length (now out)) ⌝ }
+    requires { ⌜ (n ≤ labelsMost) × (8 + 4 * m + 24 * n ≤ length (now out)) ⌝ }
     ensures { λ _. ⌜ now (out .exit) ≡ lay (now (out .entry)) 0 (headBytes (mergedOf (systemInFile (now (a .entry))) (systemInFile (now (b .entry))))) ⌝ }
 {
     byte_write::write_u32(out, 0, m as u32);
@@ -181,7 +184,7 @@ pub fn put_file(
 )
     requires { ⌜ Taken (now a) x × Taken (now b) y ⌝ }
     requires { ⌜ ArcsFit (now a) (now b) m × Joined (now a) (now b) n (now left) (now right) ⌝ }
-    requires { ⌜ (mergeNumber (systemInFile (now a)) (systemInFile (now b)) ≡ 0) × (n ≤ 500) × (36 + 4 * m + 32 * n + 8 * tri n ≤ length (now out)) ⌝ }
+    requires { ⌜ (mergeNumber (systemInFile (now a)) (systemInFile (now b)) ≡ 0) × (n ≤ labelsMost) × (36 + 4 * m + 32 * n + 8 * tri n ≤ length (now out)) ⌝ }
     ensures { λ _. ⌜ now (out .exit) ≡ lay (now (out .entry)) 0 (normalBytes (mergedOf (systemInFile (now (a .entry))) (systemInFile (now (b .entry))))) ⌝ }
 {
     put_heads(out, a, x, b, y, m, left, right, n);

@@ -4,6 +4,7 @@ ghost use Prim.Native.Nat.{_+_, _*_, _^_, _≤_, _<_};
 ghost use lib.IntN.{_+ℤ_, natAbs};
 ghost use lib.ListN.{length};
 ghost use mir.Syntax.{w64};
+ghost use Rattle.num_limits.specs.Capacities.{labelsMost};
 ghost use Rattle.byte_words.specs.Words.{lay, signedBytes};
 ghost use Rattle.byte_section.specs.Section.{encoded};
 ghost use Rattle.num_packed.specs.Triangle.{tri};
@@ -29,7 +30,7 @@ fn sum_at(s: &[u8], c: Column, i: usize) -> i64
 
 // Column j of the n that begin at a place.
 fn column_at(start: usize, n: usize, j: usize) -> Column
-    requires { ⌜ (n ≤ 500) × (start + 8 * tri n < 2 ^ 63) ⌝ }
+    requires { ⌜ (n ≤ labelsMost) × (start + 8 * tri n < 2 ^ 63) ⌝ }
     ensures { λ r. ⌜ r ≡ columnAt start n j ⌝ }
 {
     if j < n {
@@ -102,8 +103,8 @@ fn put_column(
     m: usize,
     right: &[usize],
 )
-    requires { ⌜ (n ≤ 500) × (start + 8 * tri n ≤ length (now a)) × SmallAll (now a) start n ⌝ }
-    requires { ⌜ (m ≤ 500) × (begin + 8 * tri m ≤ length (now b)) × SmallAll (now b) begin m ⌝ }
+    requires { ⌜ (n ≤ labelsMost) × (start + 8 * tri n ≤ length (now a)) × SmallAll (now a) start n ⌝ }
+    requires { ⌜ (m ≤ labelsMost) × (begin + 8 * tri m ≤ length (now b)) × SmallAll (now b) begin m ⌝ }
     requires { ⌜ (j < length (now left)) × (j < length (now right)) × (at + 8 * (j + 1) ≤ length (now out)) ⌝ }
     ensures { λ _. ⌜ now (out .exit) ≡ lay (now (out .entry)) at (encoded (signedBytes w64) (rowsOf (λ i. crossAt (now (a .entry)) start n (now (left .entry)) (now (b .entry)) begin m (now (right .entry)) i j) 0 (j + 1))) ⌝ }
 {
@@ -126,8 +127,8 @@ pub fn put_columns(
     m: usize,
     right: &[usize],
 )
-    requires { ⌜ (n ≤ 500) × (start + 8 * tri n ≤ length (now a)) × SmallAll (now a) start n ⌝ }
-    requires { ⌜ (m ≤ 500) × (begin + 8 * tri m ≤ length (now b)) × SmallAll (now b) begin m ⌝ }
+    requires { ⌜ (n ≤ labelsMost) × (start + 8 * tri n ≤ length (now a)) × SmallAll (now a) start n ⌝ }
+    requires { ⌜ (m ≤ labelsMost) × (begin + 8 * tri m ≤ length (now b)) × SmallAll (now b) begin m ⌝ }
     requires { ⌜ (count ≤ length (now left)) × (count ≤ length (now right)) × (at + 8 * tri count ≤ length (now out)) ⌝ }
     ensures { λ _. ⌜ now (out .exit) ≡ lay (now (out .entry)) at (encoded (signedBytes w64) (columnsOf (crossAt (now (a .entry)) start n (now (left .entry)) (now (b .entry)) begin m (now (right .entry))) 0 count)) ⌝ }
 {

@@ -1,9 +1,13 @@
 // Inner to `norm_judge`: the arcs and labels of a system that stands in lent room, of any values, judged: 2, 4, 5.
 use norm_system::NormalLabel;
+use num_limits::ARCS_MOST;
+use num_limits::ARCS_U64;
+use num_limits::LABELS_U64;
 ghost use mathlib.Core.Path.{_≡_};
 ghost use mathlib.Core.Bool.{true};
 ghost use Prim.Native.Nat.{_+_, _*_, _≤_};
 ghost use lib.ListN.{length, take};
+ghost use Rattle.num_limits.specs.Capacities.{arcsMost, labelsMost};
 ghost use Rattle.num_whole.specs.Lists.{all, ascend};
 ghost use Rattle.norm_system.specs.System.{arcOk, normalLabelOk, keyOf};
 ghost use Rattle.byte_words.specs.Stands.{stands};
@@ -15,8 +19,8 @@ ghost use Rattle.norm_fields.specs.Fields.{bareLabel, isSmall, SmallFiel
 pub fn counts_fit(arcs: usize, parameters: usize) -> bool
     ensures { λ r. ⌜ r ≡ countsFit arcs parameters ⌝ }
 {
-    if num_whole::within(1, arcs as u64, 16) {
-        num_whole::within(1, parameters as u64, 500)
+    if num_whole::within(1, arcs as u64, ARCS_U64) {
+        num_whole::within(1, parameters as u64, LABELS_U64)
     } else {
         false
     }
@@ -51,11 +55,11 @@ fn arcs_fit(heads: &[u64], n: usize) -> bool
 }
 
 // The n arcs as words of four bytes; slots past them are 0.
-fn arcs_of(heads: &[u64], n: usize) -> [u32; 16]
-    requires { ⌜ (n ≤ 16) × (n ≤ length (now heads)) × (all arcOk (take n (now heads)) ≡ true) ⌝ }
-    ensures { λ r. ⌜ (take n r ≡ take n (now (heads .entry))) × (16 ≡ length r) ⌝ }
+fn arcs_of(heads: &[u64], n: usize) -> [u32; ARCS_MOST]
+    requires { ⌜ (n ≤ arcsMost) × (n ≤ length (now heads)) × (all arcOk (take n (now heads)) ≡ true) ⌝ }
+    ensures { λ r. ⌜ (take n r ≡ take n (now (heads .entry))) × (arcsMost ≡ length r) ⌝ }
 {
-    let mut arcs: [u32; 16] = [0; 16];
+    let mut arcs: [u32; ARCS_MOST] = [0; ARCS_MOST];
     let mut i: usize = 0;
     while i < n {
         arcs[i] = heads[i] as u32;
@@ -107,7 +111,7 @@ fn label_fits(heads: &[u64], k: usize, arcs: &[u32]) -> bool
 
 // The n labels, of which the first stands at `from`, in a file that lists these arcs.
 fn labels_fit(heads: &[u64], from: usize, n: usize, arcs: &[u32]) -> bool
-    requires { ⌜ (n ≤ 500) × (from + 5 * n ≤ length (now heads)) × (all arcOk (now arcs) ≡ true) ⌝ }
+    requires { ⌜ (n ≤ labelsMost) × (from + 5 * n ≤ length (now heads)) × (all arcOk (now arcs) ≡ true) ⌝ }
     ensures { λ r. ⌜ r ≡ all (normalLabelOk (now (arcs .entry))) (stands (labelInHeads (now (heads .entry))) 5 n from) ⌝ }
 {
     let mut k = from;
@@ -124,7 +128,7 @@ fn labels_fit(heads: &[u64], from: usize, n: usize, arcs: &[u32]) -> bool
 }
 
 pub fn fields_fit(arcs: usize, parameters: usize, heads: &[u64]) -> bool
-    requires { ⌜ (arcs ≤ 16) × (parameters ≤ 500) × (headsLong arcs parameters ≤ length (now heads)) ⌝ }
+    requires { ⌜ (arcs ≤ arcsMost) × (parameters ≤ labelsMost) × (headsLong arcs parameters ≤ length (now heads)) ⌝ }
     ensures { λ r. ⌜ r ≡ fieldsFit (bareSystem arcs parameters (now (heads .entry))) ⌝ }
 {
     if arcs_fit(heads, arcs) {
@@ -156,7 +160,7 @@ fn arcs_ascend(heads: &[u64], n: usize) -> bool
 }
 
 fn labels_ascend(arcs: usize, n: usize, heads: &[u64]) -> bool
-    requires { ⌜ (arcs ≤ 16) × (n ≤ 500) × (headsLong arcs n ≤ length (now heads)) × (fieldsFit (bareSystem arcs n (now heads)) ≡ true) ⌝ }
+    requires { ⌜ (arcs ≤ arcsMost) × (n ≤ labelsMost) × (headsLong arcs n ≤ length (now heads)) × (fieldsFit (bareSystem arcs n (now heads)) ≡ true) ⌝ }
     ensures { λ r. ⌜ r ≡ ascend keyOf 0 (stands (labelInHeads (now (heads .entry))) 5 n arcs) ⌝ }
 {
     let mut floor: u64 = 0;
@@ -176,7 +180,7 @@ fn labels_ascend(arcs: usize, n: usize, heads: &[u64]) -> bool
 }
 
 pub fn orders_fit(arcs: usize, parameters: usize, heads: &[u64]) -> bool
-    requires { ⌜ (arcs ≤ 16) × (parameters ≤ 500) × (headsLong arcs parameters ≤ length (now heads)) × (fieldsFit (bareSystem arcs parameters (now heads)) ≡ true) ⌝ }
+    requires { ⌜ (arcs ≤ arcsMost) × (parameters ≤ labelsMost) × (headsLong arcs parameters ≤ length (now heads)) × (fieldsFit (bareSystem arcs parameters (now heads)) ≡ true) ⌝ }
     ensures { λ r. ⌜ r ≡ ordersFit (bareSystem arcs parameters (now (heads .entry))) ⌝ }
 {
     if arcs_ascend(heads, arcs) {

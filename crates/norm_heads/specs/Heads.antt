@@ -3,6 +3,7 @@
 use Prim.Native.Nat.{ℕ}
 use mathlib.Core.List.{List}
 use lib.ListN.{length}
+use Rattle.num_limits.specs.Capacities.{arcsMost, labelsMost}
 use Rattle.num_whole.specs.Answer.{Judged, good, bad}
 use Rattle.byte_words.specs.Words.{word}
 use Rattle.refusal.specs.Number.{numberOf}
@@ -20,8 +21,8 @@ pub record Heads : Type 0 where
 
 unfoldable pub headsPart : List ℕ → Judged Heads
 headsPart s =
-    andThen (sectionAt arcKind s 1 16 0) λ a.
-    andThen (sectionAt (normalLabelKind (a .items)) s 1 500 (a .next)) λ b.
+    andThen (sectionAt arcKind s 1 arcsMost 0) λ a.
+    andThen (sectionAt (normalLabelKind (a .items)) s 1 labelsMost (a .next)) λ b.
     good (record { arcs = a; labels = b })
 
 -- how many of each, and the place after them

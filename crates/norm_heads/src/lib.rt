@@ -2,10 +2,14 @@
 use byte_section::CountAnswer;
 use byte_section::SectionAnswer;
 use norm_kinds::FloorAnswer;
+use num_limits::ARCS_MOST;
+use num_limits::ARCS_U32;
+use num_limits::LABELS_U32;
 use refusal::Refusal;
 ghost use mathlib.Core.Path.{_≡_};
 ghost use Prim.Native.Nat.{_+_, _*_, _≤_};
 ghost use lib.ListN.{length, take};
+ghost use Rattle.num_limits.specs.Capacities.{arcsMost, labelsMost};
 ghost use Rattle.byte_words.specs.Words.{lay};
 ghost use Rattle.byte_section.specs.Section.{records, sectionAt};
 ghost use Rattle.norm_kinds.specs.Kinds.{arcKind, normalLabelKind};
@@ -20,7 +24,7 @@ pub enum HeadsAnswer {
 
 // The `count` records of the arcs section, from `start` on.
 fn walk_arcs(s: &[u8], start: usize, count: usize) -> SectionAnswer
-    requires { ⌜ (start ≤ length (now s)) × (count ≤ 16) ⌝ }
+    requires { ⌜ (start ≤ length (now s)) × (count ≤ arcsMost) ⌝ }
     ensures { λ r. ⌜ toldSection r ≡ spanOf (records arcKind (now (s .entry)) count start 0) ⌝ }
 {
     let mut at = start;
@@ -43,20 +47,20 @@ fn walk_arcs(s: &[u8], start: usize, count: usize) -> SectionAnswer
 
 // The arcs section, the first of the file: its count, from 1 to 16, then its records.
 fn read_arcs(s: &[u8]) -> SectionAnswer
-    ensures { λ r. ⌜ toldSection r ≡ spanOf (sectionAt arcKind (now (s .entry)) 1 16 0) ⌝ }
+    ensures { λ r. ⌜ toldSection r ≡ spanOf (sectionAt arcKind (now (s .entry)) 1 arcsMost 0) ⌝ }
 {
-    match byte_section::read_count(s, 0, 1, 16) {
+    match byte_section::read_count(s, 0, 1, ARCS_U32) {
         CountAnswer::Is(n) => walk_arcs(s, 4, n),
         CountAnswer::Refused(r, place) => SectionAnswer::Refused(r, place),
     }
 }
 
 // The n arcs of a file; slots past them are 0.
-fn arcs_of(s: &[u8], n: usize) -> [u32; 16]
-    requires { ⌜ n ≤ 16 ⌝ }
-    ensures { λ r. ⌜ (take n r ≡ arcsAt (now (s .entry)) n) × (16 ≡ length r) ⌝ }
+fn arcs_of(s: &[u8], n: usize) -> [u32; ARCS_MOST]
+    requires { ⌜ n ≤ arcsMost ⌝ }
+    ensures { λ r. ⌜ (take n r ≡ arcsAt (now (s .entry)) n) × (arcsMost ≡ length r) ⌝ }
 {
-    let mut arcs: [u32; 16] = [0; 16];
+    let mut arcs: [u32; ARCS_MOST] = [0; ARCS_MOST];
     let mut i: usize = 0;
     while i < n {
         arcs[i] = byte_read::read_u32(s, 4 + 4 * i);
@@ -82,7 +86,7 @@ pub fn load_arcs(s: &[u8], n: usize, arcs: &mut [u64])
 
 // The `count` records of the parameters section, from `start` on.
 fn walk_labels(s: &[u8], start: usize, count: usize, arcs: &[u32]) -> SectionAnswer
-    requires { ⌜ (start ≤ length (now s)) × (count ≤ 500) ⌝ }
+    requires { ⌜ (start ≤ length (now s)) × (count ≤ labelsMost) ⌝ }
     ensures { λ r. ⌜ toldSection r ≡ spanOf (records (normalLabelKind (now (arcs .entry))) (now (s .entry)) count start 0) ⌝ }
 {
     let mut at = start;
@@ -105,9 +109,9 @@ fn walk_labels(s: &[u8], start: usize, count: usize, arcs: &[u32]) -> SectionAns
 
 // The parameters section: its count, from 1 to 500, then its records.
 fn read_labels(s: &[u8], at: usize, arcs: &[u32]) -> SectionAnswer
-    ensures { λ r. ⌜ toldSection r ≡ spanOf (sectionAt (normalLabelKind (now (arcs .entry))) (now (s .entry)) 1 500 at) ⌝ }
+    ensures { λ r. ⌜ toldSection r ≡ spanOf (sectionAt (normalLabelKind (now (arcs .entry))) (now (s .entry)) 1 labelsMost at) ⌝ }
 {
-    match byte_section::read_count(s, at, 1, 500) {
+    match byte_section::read_count(s, at, 1, LABELS_U32) {
         CountAnswer::Is(n) => walk_labels(s, at + 4, n, arcs),
         CountAnswer::Refused(r, place) => SectionAnswer::Refused(r, place),
     }
@@ -115,8 +119,8 @@ fn read_labels(s: &[u8], at: usize, arcs: &[u32]) -> SectionAnswer
 
 // The parameters section of a file of n arcs.
 fn read_parameters(s: &[u8], at: usize, n: usize) -> SectionAnswer
-    requires { ⌜ n ≤ 16 ⌝ }
-    ensures { λ r. ⌜ toldSection r ≡ spanOf (sectionAt (normalLabelKind (arcsAt (now (s .entry)) n)) (now (s .entry)) 1 500 at) ⌝ }
+    requires { ⌜ n ≤ arcsMost ⌝ }
+    ensures { λ r. ⌜ toldSection r ≡ spanOf (sectionAt (normalLabelKind (arcsAt (now (s .entry)) n)) (now (s .entry)) 1 labelsMost at) ⌝ }
 {
     let arcs = arcs_of(s, n);
     read_labels(s, at, &arcs[..n])

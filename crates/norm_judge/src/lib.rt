@@ -8,6 +8,7 @@ ghost use mathlib.Core.Bool.{true};
 ghost use Prim.Native.Nat.{_+_, _*_, _≤_, _^_};
 ghost use lib.IntN.{pos};
 ghost use lib.ListN.{length};
+ghost use Rattle.num_limits.specs.Capacities.{arcsMost, labelsMost};
 ghost use Rattle.refusal.specs.First.{answered};
 ghost use Rattle.refusal.specs.Told.{toldVerdict};
 ghost use Rattle.num_packed.specs.Triangle.{tri};
@@ -19,14 +20,14 @@ ghost use Rattle.norm_judge.specs.Judge.{sumsNumber, valuesNumber, Heade
 
 // A bound for so many arcs, 0 where nothing was accepted.
 fn bound_of(arcs: usize, accepted: u64, unit: u64) -> i64
-    requires { ⌜ (arcs ≤ 16) × (unit ≤ 2 ^ 58) ⌝ }
+    requires { ⌜ (arcs ≤ arcsMost) × (unit ≤ 2 ^ 58) ⌝ }
     ensures { λ r. ⌜ r ≡ pos (boundOf arcs accepted unit) ⌝ }
 {
     norm_totals::bound_of(arcs, accepted, unit) as i64
 }
 
 fn totals_sound(arcs: usize, accepted: u64, square: u64) -> bool
-    requires { ⌜ arcs ≤ 16 ⌝ }
+    requires { ⌜ arcs ≤ arcsMost ⌝ }
     ensures { λ r. ⌜ r ≡ isNowhere (totalsWhere arcs accepted square) ⌝ }
 {
     match norm_totals::judge_totals(arcs, accepted, square) {
@@ -47,7 +48,7 @@ fn sides_sound(
     accepted: u64,
     square: u64,
 ) -> bool
-    requires { ⌜ (arcs ≤ 16) × (p ≤ 500) × (tri p ≤ length (now matrix)) × (p ≤ length (now rights)) ⌝ }
+    requires { ⌜ (arcs ≤ arcsMost) × (p ≤ labelsMost) × (tri p ≤ length (now matrix)) × (p ≤ length (now rights)) ⌝ }
     ensures { λ r. ⌜ r ≡ isNowhere (sidesWhere arcs p (now (matrix .entry)) (now (rights .entry)) accepted square) ⌝ }
 {
     let bound = bound_of(arcs, accepted, norm_totals::FILE_RIGHT_UNIT);
@@ -65,7 +66,7 @@ fn sums_sound(
     accepted: u64,
     square: u64,
 ) -> bool
-    requires { ⌜ (arcs ≤ 16) × (p ≤ 500) × (tri p ≤ length (now matrix)) × (p ≤ length (now rights)) ⌝ }
+    requires { ⌜ (arcs ≤ arcsMost) × (p ≤ labelsMost) × (tri p ≤ length (now matrix)) × (p ≤ length (now rights)) ⌝ }
     ensures { λ r. ⌜ r ≡ isNowhere (sumsWhere arcs p (now (matrix .entry)) (now (rights .entry)) accepted square) ⌝ }
 {
     let bound = bound_of(arcs, accepted, norm_totals::FILE_MATRIX_UNIT);

@@ -3,6 +3,7 @@ ghost use mathlib.Core.Path.{_≡_};
 ghost use Prim.Native.Nat.{_+_, _*_, _%_, _≤_};
 ghost use mathlib.Core.List.{[], _++_};
 ghost use lib.ListN.{length, take};
+ghost use Rattle.num_limits.specs.Capacities.{arcsMost, labelsMost, sumsMost};
 ghost use Rattle.byte_words.specs.Words.{bytesOf, lay};
 ghost use Rattle.byte_words.specs.Stands.{stands};
 ghost use Rattle.num_packed.specs.Triangle.{tri};
@@ -49,7 +50,7 @@ fn put_label(heads: &[u64], k: usize, out: &mut [u8], at: usize)
 
 // The parameters section: its count and n labels, of which the first stands at `from` of the heads.
 fn put_labels(heads: &[u64], from: usize, n: usize, out: &mut [u8], start: usize)
-    requires { ⌜ (n ≤ 500) × (from + 5 * n ≤ length (now heads)) × (start + 4 + 24 * n ≤ length (now out)) ⌝ }
+    requires { ⌜ (n ≤ labelsMost) × (from + 5 * n ≤ length (now heads)) × (start + 4 + 24 * n ≤ length (now out)) ⌝ }
     ensures { λ _. ⌜ now (out .exit) ≡ lay (now (out .entry)) start (sectioned normalLabelBytes (stands (labelInHeads (now (heads .entry))) 5 n from) []) ⌝ }
 {
     byte_write::write_u32(out, start, n as u32);
@@ -68,7 +69,7 @@ fn put_labels(heads: &[u64], from: usize, n: usize, out: &mut [u8], start: usize
 
 // The arcs section, the first of the file: its count and the first n of the heads.
 fn put_arcs(heads: &[u64], n: usize, out: &mut [u8])
-    requires { ⌜ (n ≤ 16) × (n ≤ length (now heads)) × (4 + 4 * n ≤ length (now out)) ⌝ }
+    requires { ⌜ (n ≤ arcsMost) × (n ≤ length (now heads)) × (4 + 4 * n ≤ length (now out)) ⌝ }
     ensures { λ _. ⌜ now (out .exit) ≡ lay (now (out .entry)) 0 (sectioned arcNumberBytes (take n (now (heads .entry))) []) ⌝ }
 {
     byte_write::write_u32(out, 0, n as u32);
@@ -85,7 +86,7 @@ fn put_arcs(heads: &[u64], n: usize, out: &mut [u8])
 
 // A section of n sums: its count and the first n of a room.
 fn put_sums(sums: &[i64], n: usize, out: &mut [u8], start: usize)
-    requires { ⌜ (n ≤ 125250) × (n ≤ length (now sums)) × (start + 4 + 8 * n ≤ length (now out)) ⌝ }
+    requires { ⌜ (n ≤ sumsMost) × (n ≤ length (now sums)) × (start + 4 + 8 * n ≤ length (now out)) ⌝ }
     ensures { λ _. ⌜ now (out .exit) ≡ lay (now (out .entry)) start (sectioned sumBytes (take n (now (sums .entry))) []) ⌝ }
 {
     byte_write::write_u32(out, start, n as u32);
@@ -118,7 +119,7 @@ pub fn put_tail(
     out: &mut [u8],
     at: usize,
 )
-    requires { ⌜ (p ≤ 500) × (tri p ≤ length (now matrix)) × (p ≤ length (now rights)) ⌝ }
+    requires { ⌜ (p ≤ labelsMost) × (tri p ≤ length (now matrix)) × (p ≤ length (now rights)) ⌝ }
     requires { ⌜ at + 28 + 8 * tri p + 8 * p ≤ length (now out) ⌝ }
     ensures { λ _. ⌜ now (out .exit) ≡ lay (now (out .entry)) at (tailBytes (take (tri p) (now (matrix .entry))) (take p (now (rights .entry))) accepted square) ⌝ }
 {
@@ -140,7 +141,7 @@ pub fn put(
     rights: &[i64],
     out: &mut [u8],
 )
-    requires { ⌜ (arcs ≤ 16) × (parameters ≤ 500) ⌝ }
+    requires { ⌜ (arcs ≤ arcsMost) × (parameters ≤ labelsMost) ⌝ }
     requires { ⌜ (headsLong arcs parameters ≤ length (now heads)) × (tri parameters ≤ length (now matrix)) × (parameters ≤ length (now rights)) ⌝ }
     requires { ⌜ fileLong arcs parameters ≤ length (now out) ⌝ }
     ensures { λ _. ⌜ now (out .exit) ≡ lay (now (out .entry)) 0 (normalBytes (systemInRooms arcs parameters (now (heads .entry)) (now (matrix .entry)) (now (rights .entry)))) ⌝ }

@@ -4,6 +4,7 @@ use Prim.Native.Nat.{ℕ, _+_, _*_}
 use mathlib.Core.List.{List}
 use lib.IntN.{ℤ}
 use lib.ListN.{length, getD}
+use Rattle.num_limits.specs.Capacities.{arcsMost, labelsMost}
 use Rattle.num_whole.specs.Answer.{Judged, good, bad}
 use Rattle.byte_section.specs.Section.{Kind, Run, andThen, sectionAt, closed}
 use Rattle.num_packed.specs.Triangle.{tri}
@@ -42,8 +43,8 @@ soundly x = atWhere x (unsoundIn (x .holds))
 -- "arcs (1 to 16); parameters (1 to 500); matrix sums (P(P+1)/2); right sides (P); totals (1)"; then 3; then 6
 unfoldable pub readNormal : List ℕ → Judged Normal
 readNormal s =
-    andThen (sectionAt arcKind s 1 16 0) λ a.
-    andThen (sectionAt (normalLabelKind (a .items)) s 1 500 (a .next)) λ b.
+    andThen (sectionAt arcKind s 1 arcsMost 0) λ a.
+    andThen (sectionAt (normalLabelKind (a .items)) s 1 labelsMost (a .next)) λ b.
     andThen (exactly sumKind s (tri (length (b .items))) (b .next)) λ m.
     andThen (exactly sumKind s (length (b .items)) (m .next)) λ r.
     andThen (exactly totalsKind s 1 (r .next)) λ t.

@@ -8,6 +8,7 @@ use refusal::Refusal;
 ghost use mathlib.Core.Path.{_≡_};
 ghost use Prim.Native.Nat.{_+_, _≤_};
 ghost use lib.ListN.{length};
+ghost use Rattle.num_limits.specs.Capacities.{arcsMost, labelsMost};
 ghost use Rattle.refusal.specs.Number.{numberOf};
 ghost use Rattle.norm_read.specs.Normal.{readNormal, shownNormal, toldNormalRead};
 ghost use Rattle.norm_sections.specs.Sums.{sumsPart, Room};
@@ -46,7 +47,7 @@ fn judge_sums(
     rights: usize,
     totals: usize,
 ) -> NormalRead
-    requires { ⌜ (arcs ≤ 16) × (parameters ≤ 500) ⌝ }
+    requires { ⌜ (arcs ≤ arcsMost) × (parameters ≤ labelsMost) ⌝ }
     requires { ⌜ Room (length (now s)) parameters (record { matrix = matrix; rights = rights; totals = totals }) ⌝ }
     ensures { λ r. ⌜ toldNormalRead r ≡ shownSums (now (s .entry)) arcs parameters (record { matrix = matrix; rights = rights; totals = totals }) ⌝ }
 {
@@ -68,7 +69,7 @@ fn judge_sums(
 
 // What follows the labels: the sums, and their judgement.
 fn read_rest(s: &[u8], arcs: usize, parameters: usize, at: usize) -> NormalRead
-    requires { ⌜ (arcs ≤ 16) × (parameters ≤ 500) ⌝ }
+    requires { ⌜ (arcs ≤ arcsMost) × (parameters ≤ labelsMost) ⌝ }
     ensures { λ r. ⌜ toldNormalRead r ≡ shownRest (now (s .entry)) arcs parameters (sumsPart (now (s .entry)) parameters at) ⌝ }
 {
     match norm_sections::read_sums(s, at, parameters) {

@@ -8,6 +8,7 @@ use lib.IntN.{ℤ}
 use mir.Val.{toZ, ofZ}
 use lib.ListN.{length, getD, take}
 use mir.Syntax.{w64}
+use Rattle.num_limits.specs.Capacities.{arcsMost, labelsMost}
 use Rattle.num_whole.specs.Tests.{upTo, both, between}
 use Rattle.num_whole.specs.Lists.{all, ascend}
 use Rattle.byte_section.specs.Section.{encoded}
@@ -73,7 +74,7 @@ roomyFor a p heads matrix rights = both (headsRoomy a p heads) (sumsRoomy p matr
 
 -- 2: "arcs (1 to 16 ..); parameters (1 to 500 ..)"
 unfoldable pub countsFit : ℕ → ℕ → Bool
-countsFit a p = both (between 1 a 16) (between 1 p 500)
+countsFit a p = both (between 1 a arcsMost) (between 1 p labelsMost)
 
 -- 4: each arc and each label within its limits
 unfoldable pub fieldsFit : System → Bool

@@ -3,6 +3,7 @@ use byte_section::CountAnswer;
 use refusal::Refusal;
 ghost use mathlib.Core.Path.{_≡_};
 ghost use Prim.Native.Nat.{_≤_};
+ghost use Rattle.num_limits.specs.Capacities.{labelsMost, sumsMost};
 ghost use Rattle.num_packed.specs.Triangle.{tri};
 ghost use Rattle.norm_sections.specs.Sums.{plainPart, totalsPart, sumsPart, toldPlace, toldSums};
 
@@ -20,7 +21,7 @@ pub enum SumsAnswer {
 
 // A section whose count can only be n, of records that are judged by their length alone.
 fn read_plain(s: &[u8], at: usize, n: u32, size: usize) -> PlaceAnswer
-    requires { ⌜ (n ≤ 125250) × (size ≤ 16) ⌝ }
+    requires { ⌜ (n ≤ sumsMost) × (size ≤ 16) ⌝ }
     ensures { λ r. ⌜ toldPlace r ≡ plainPart (now (s .entry)) at n size ⌝ }
 {
     match byte_section::read_count(s, at, n, n) {
@@ -39,8 +40,8 @@ fn read_plain(s: &[u8], at: usize, n: u32, size: usize) -> PlaceAnswer
 
 // How many matrix sums p parameters have.
 fn triangle(p: usize) -> u32
-    requires { ⌜ p ≤ 500 ⌝ }
-    ensures { λ r. ⌜ (r ≡ tri p) × (r ≤ 125250) ⌝ }
+    requires { ⌜ p ≤ labelsMost ⌝ }
+    ensures { λ r. ⌜ (r ≡ tri p) × (r ≤ sumsMost) ⌝ }
 {
     num_packed::triangle(p) as u32
 }
@@ -63,7 +64,7 @@ fn read_totals(s: &[u8], at: usize, matrix: usize, rights: usize) -> SumsAnswer
 
 // The matrix sums, the right sides and the totals of p parameters, and then no byte more.
 pub fn read_sums(s: &[u8], at: usize, p: usize) -> SumsAnswer
-    requires { ⌜ p ≤ 500 ⌝ }
+    requires { ⌜ p ≤ labelsMost ⌝ }
     ensures { λ r. ⌜ toldSums r ≡ sumsPart (now (s .entry)) p at ⌝ }
 {
     match read_plain(s, at, triangle(p), 8) {

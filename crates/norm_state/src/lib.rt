@@ -9,6 +9,7 @@ ghost use mathlib.Core.Path.{_≡_};
 ghost use mathlib.Core.List.{[], map};
 ghost use Prim.Native.Nat.{_+_, _*_, _≤_};
 ghost use lib.ListN.{length};
+ghost use Rattle.num_limits.specs.Capacities.{parametersMost};
 ghost use Rattle.byte_words.specs.Words.{lay};
 ghost use Rattle.refusal.specs.First.{answered};
 ghost use Rattle.arc_heading.specs.Judge.{labelsOf};
@@ -46,7 +47,7 @@ fn put_label(out: &mut [u8], at: usize, arc: u32, l: Label)
 
 // The parameters section: its count and the labels that count.
 fn put_labels(h: Heading, out: &mut [u8], start: usize)
-    requires { ⌜ (h .parameters ≤ 50) × (start + 4 + 24 * h .parameters ≤ length (now out)) ⌝ }
+    requires { ⌜ (h .parameters ≤ parametersMost) × (start + 4 + 24 * h .parameters ≤ length (now out)) ⌝ }
     ensures { λ _. ⌜ now (out .exit) ≡ lay (now (out .entry)) start (sectioned normalLabelBytes (map (labelOfArc (h .settings .arc)) (labelsOf h)) []) ⌝ }
 {
     let n = h.parameters;
@@ -64,7 +65,7 @@ fn put_labels(h: Heading, out: &mut [u8], start: usize)
 
 // The five sections, each after its count.
 fn put_file(h: Heading, t: Tally, matrix: &[i64], rights: &[i64], out: &mut [u8])
-    requires { ⌜ (h .parameters ≤ 50) × (tri (h .parameters) ≤ length (now matrix)) × (h .parameters ≤ length (now rights)) ⌝ }
+    requires { ⌜ (h .parameters ≤ parametersMost) × (tri (h .parameters) ≤ length (now matrix)) × (h .parameters ≤ length (now rights)) ⌝ }
     requires { ⌜ fileLong 1 (h .parameters) ≤ length (now out) ⌝ }
     ensures { λ _. ⌜ now (out .exit) ≡ lay (now (out .entry)) 0 (stateBytes h (stateOf (now (matrix .entry)) (now (rights .entry)) t)) ⌝ }
 {

@@ -5,6 +5,7 @@ ghost use lib.IntN.{pos};
 ghost use lib.Signed.{ltZ};
 ghost use lib.ListN.{length, getD};
 ghost use mir.Syntax.{w64};
+ghost use Rattle.num_limits.specs.Capacities.{labelsMost};
 ghost use Rattle.byte_words.specs.Words.{signedWord};
 ghost use Rattle.num_packed.specs.Triangle.{tri};
 ghost use Rattle.num_packed.specs.Sound.{isZero, breaks, breaksSide};
@@ -56,7 +57,7 @@ fn is_negative(x: i64) -> bool
 
 // Whether the entry of row i and column j is one that sums cannot have. A diagonal is looked up only for an entry that is not 0.
 pub fn is_broken(s: &[u8], start: usize, i: usize, j: usize, bound: u64) -> bool
-    requires { ⌜ (i ≤ j) × (j < 500) ⌝ }
+    requires { ⌜ (i ≤ j) × (j < labelsMost) ⌝ }
     requires { ⌜ start + 8 * tri (j + 1) ≤ length (now s) ⌝ }
     requires { ⌜ bound ≤ 2 ^ 62 ⌝ }
     ensures { λ r. ⌜ ((n : ℕ) → tri (j + 1) ≤ n → r ≡ breaks (pos bound) (sumsAt (now (s .entry)) start n) i j) ⌝ }
@@ -81,7 +82,7 @@ pub fn is_broken(s: &[u8], start: usize, i: usize, j: usize, bound: u64) -> bool
 
 // Whether the right side of parameter i is one that sums cannot have.
 pub fn is_broken_side(s: &[u8], matrix: usize, rights: usize, i: usize, bound: u64) -> bool
-    requires { ⌜ i < 500 ⌝ }
+    requires { ⌜ i < labelsMost ⌝ }
     requires { ⌜ (matrix + 8 * tri (i + 1) ≤ length (now s)) × (rights + 8 * i + 8 ≤ length (now s)) ⌝ }
     requires { ⌜ bound ≤ 2 ^ 62 ⌝ }
     ensures { λ r. ⌜ ((n k : ℕ) → tri (i + 1) ≤ n → i < k → r ≡ breaksSide (pos bound) (sumsAt (now (s .entry)) matrix n) (sumsAt (now (s .entry)) rights k) i) ⌝ }

@@ -4,6 +4,7 @@ use mathlib.Core.List.{List, [], _∷_}
 use mathlib.Core.Bool.{Bool, false}
 use lib.IntN.{ℤ, pos}
 use lib.ListN.{length}
+use Rattle.num_limits.specs.Capacities.{acceptedMost, arcMost}
 use Rattle.num_whole.specs.Tests.{less, upTo, same, pick, both, either, between}
 use Rattle.arc_limits.specs.Limits.{indexOk, weightMost}
 use Rattle.num_packed.specs.Sound.{breaks, breaksSide}
@@ -22,7 +23,7 @@ pub record System : Type 0 where
 -- ---- arcs and labels
 -- "arcs (.., strictly ascending, 1 to 999,999)"
 unfoldable pub arcOk : ℕ → Bool
-arcOk a = between 1 a 999999
+arcOk a = between 1 a arcMost
 
 -- whether a number is one of a list
 unfoldable pub has : ℕ → List ℕ → Bool
@@ -53,7 +54,7 @@ abbrev pub fileSquareUnit : ℕ
 fileSquareUnit = 2 ^ 51
 
 abbrev pub fileAccepted : ℕ
-fileAccepted = 4096
+fileAccepted = acceptedMost
 
 unfoldable pub boundOf : ℕ → ℕ → ℕ → ℕ
 boundOf arcs accepted unit = pick (same accepted 0) 0 (arcs * unit)

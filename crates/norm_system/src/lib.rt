@@ -1,4 +1,5 @@
 // A label of a normal file by value: its limits and its key; and the limits of an arc.
+use num_limits::ARC_MOST;
 ghost use mathlib.Core.Path.{_≡_};
 ghost use Prim.Native.Nat.{_+_, _*_, _<_, _^_};
 ghost use Rattle.norm_system.specs.System.{arcOk, has, arcListed, normalLabelOk, keyOf};
@@ -15,7 +16,7 @@ pub struct NormalLabel {
 pub fn arc_ok(a: u32) -> bool
     ensures { λ r. ⌜ r ≡ arcOk a ⌝ }
 {
-    num_whole::within(1, a as u64, 999999)
+    num_whole::within(1, a as u64, ARC_MOST)
 }
 
 // Whether an arc is one of those listed.

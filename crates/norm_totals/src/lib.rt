@@ -1,6 +1,7 @@
 // Inner to the readers and writers of normal files: the bound of a sum for so many arcs, and the two totals judged.
 ghost use mathlib.Core.Path.{_≡_};
 ghost use Prim.Native.Nat.{_≤_, _^_};
+ghost use Rattle.num_limits.specs.Capacities.{arcsMost};
 ghost use Rattle.norm_system.specs.System.{boundOf, totalsWhere};
 ghost use Rattle.norm_totals.specs.Told.{toldWhere};
 
@@ -24,7 +25,7 @@ pub enum Unsound {
 
 // A bound for so many arcs, 0 where nothing was accepted.
 pub fn bound_of(arcs: usize, accepted: u64, unit: u64) -> u64
-    requires { ⌜ (arcs ≤ 16) × (unit ≤ 2 ^ 58) ⌝ }
+    requires { ⌜ (arcs ≤ arcsMost) × (unit ≤ 2 ^ 58) ⌝ }
     ensures { λ r. ⌜ (r ≡ boundOf arcs accepted unit) × (r ≤ 2 ^ 62) ⌝ }
 {
     if accepted == 0 {
@@ -34,7 +35,7 @@ pub fn bound_of(arcs: usize, accepted: u64, unit: u64) -> u64
 }
 
 pub fn judge_totals(arcs: usize, accepted: u64, square: u64) -> Unsound
-    requires { ⌜ arcs ≤ 16 ⌝ }
+    requires { ⌜ arcs ≤ arcsMost ⌝ }
     ensures { λ r. ⌜ toldWhere r ≡ totalsWhere arcs accepted square ⌝ }
 {
     if arcs as u64 * FILE_ACCEPTED < accepted {

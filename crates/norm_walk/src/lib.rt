@@ -5,6 +5,7 @@ ghost use mathlib.Core.Path.{_≡_};
 ghost use Prim.Native.Nat.{_+_, _*_, _≤_, _<_, _^_};
 ghost use lib.IntN.{pos};
 ghost use lib.ListN.{length};
+ghost use Rattle.num_limits.specs.Capacities.{arcsMost, labelsMost};
 ghost use Rattle.num_packed.specs.Triangle.{tri};
 ghost use Rattle.num_packed.specs.Sound.{breaks, breaksSide};
 ghost use Rattle.num_packed.specs.Found.{firstFrom, columnsFrom, toldWalked};
@@ -15,7 +16,7 @@ ghost use Rattle.norm_totals.specs.Told.{toldWhere};
 
 // The first unsound entry of the p columns that begin at a place.
 fn first_entry(s: &[u8], start: usize, p: usize, bound: u64) -> Walked
-    requires { ⌜ p ≤ 500 ⌝ }
+    requires { ⌜ p ≤ labelsMost ⌝ }
     requires { ⌜ start + 8 * tri p ≤ length (now s) ⌝ }
     requires { ⌜ bound ≤ 2 ^ 62 ⌝ }
     ensures { λ r. ⌜ toldWalked r ≡ columnsFrom (breaks (pos bound) (sumsAt (now (s .entry)) start (tri p))) 0 p ⌝ }
@@ -38,7 +39,7 @@ fn first_entry(s: &[u8], start: usize, p: usize, bound: u64) -> Walked
 
 // The first unsound one of p right sides.
 fn first_side(s: &[u8], matrix: usize, rights: usize, p: usize, bound: u64) -> Walked
-    requires { ⌜ p ≤ 500 ⌝ }
+    requires { ⌜ p ≤ labelsMost ⌝ }
     requires { ⌜ (matrix + 8 * tri p ≤ length (now s)) × (rights + 8 * p ≤ length (now s)) ⌝ }
     requires { ⌜ bound ≤ 2 ^ 62 ⌝ }
     ensures { λ r. ⌜ toldWalked r ≡ firstFrom (breaksSide (pos bound) (sumsAt (now (s .entry)) matrix (tri p)) (sumsAt (now (s .entry)) rights p)) 0 p ⌝ }
@@ -63,7 +64,7 @@ fn first_beyond(
     accepted: u64,
     square: u64,
 ) -> Unsound
-    requires { ⌜ (arcs ≤ 16) × (p ≤ 500) ⌝ }
+    requires { ⌜ (arcs ≤ arcsMost) × (p ≤ labelsMost) ⌝ }
     requires { ⌜ (matrix + 8 * tri p ≤ length (now s)) × (rights + 8 * p ≤ length (now s)) ⌝ }
     ensures { λ r. ⌜ toldWhere r ≡ sidesWhere arcs p (sumsAt (now (s .entry)) matrix (tri p)) (sumsAt (now (s .entry)) rights p) accepted square ⌝ }
 {
@@ -83,7 +84,7 @@ pub fn first_unsound(
     rights: usize,
     totals: usize,
 ) -> Unsound
-    requires { ⌜ (arcs ≤ 16) × (p ≤ 500) ⌝ }
+    requires { ⌜ (arcs ≤ arcsMost) × (p ≤ labelsMost) ⌝ }
     requires { ⌜ (matrix + 8 * tri p ≤ length (now s)) × (rights + 8 * p ≤ length (now s)) × (totals + 16 ≤ length (now s)) ⌝ }
     ensures { λ r. ⌜ toldWhere r ≡ unsoundAt (now (s .entry)) arcs p matrix rights totals ⌝ }
 {

@@ -5,21 +5,22 @@ ghost use lib.IntN.{pos};
 ghost use lib.ListN.{length};
 ghost use mathlib.Core.Bool.{true, false};
 ghost use lib.Signed.{_≤ℤ_};
+ghost use Rattle.num_limits.specs.Capacities.{labelsMost, sumsMost};
 ghost use Rattle.num_packed.specs.Sound.{breaks, breaksSide};
 ghost use Rattle.num_packed.specs.Found.{firstFrom, columnsFrom, toldWalked};
 ghost use Rattle.num_packed.specs.Triangle.{triangleTerms, tri};
 
 // How many matrix sums p parameters have.
 pub fn triangle(p: usize) -> usize
-    requires { ⌜ p ≤ 500 ⌝ }
-    ensures { λ r. ⌜ (r ≡ tri p) × (r ≤ 125250) ⌝ }
+    requires { ⌜ p ≤ labelsMost ⌝ }
+    ensures { λ r. ⌜ (r ≡ tri p) × (r ≤ sumsMost) ⌝ }
 {
     p * (p + 1) / 2
 }
 
 // The place of row i and column j in the packed triangle.
 pub fn place(i: usize, j: usize) -> usize
-    requires { ⌜ (i ≤ j) × (j ≤ 500) ⌝ }
+    requires { ⌜ (i ≤ j) × (j ≤ labelsMost) ⌝ }
     ensures { λ r. ⌜ r ≡ tri j + i ⌝ }
 {
     triangle(j) + i
@@ -27,7 +28,7 @@ pub fn place(i: usize, j: usize) -> usize
 
 // Whether the entry of row i and column j is one that sums cannot have.
 fn is_broken(s: &[i64], i: usize, j: usize, bound: i64) -> bool
-    requires { ⌜ (i ≤ j) × (j < 500) ⌝ }
+    requires { ⌜ (i ≤ j) × (j < labelsMost) ⌝ }
     requires { ⌜ tri (j + 1) ≤ length (now s) ⌝ }
     requires { ⌜ pos 0 ≤ℤ bound ⌝ }
     ensures { λ r. ⌜ r ≡ breaks bound (now (s .entry)) i j ⌝ }
@@ -61,7 +62,7 @@ pub enum Walked {
 
 // The first entry that sums of p columns cannot have, where there is one.
 pub fn first_unsound(s: &[i64], p: usize, bound: i64) -> Walked
-    requires { ⌜ (p ≤ 500) × (tri p ≤ length (now s)) ⌝ }
+    requires { ⌜ (p ≤ labelsMost) × (tri p ≤ length (now s)) ⌝ }
     requires { ⌜ pos 0 ≤ℤ bound ⌝ }
     ensures { λ r. ⌜ toldWalked r ≡ columnsFrom (breaks bound (now (s .entry))) 0 p ⌝ }
 {
@@ -83,7 +84,7 @@ pub fn first_unsound(s: &[i64], p: usize, bound: i64) -> Walked
 
 // Whether the right side of parameter i is one that sums cannot have.
 fn is_broken_side(s: &[i64], r: &[i64], i: usize, bound: i64) -> bool
-    requires { ⌜ i < 500 ⌝ }
+    requires { ⌜ i < labelsMost ⌝ }
     requires { ⌜ (tri (i + 1) ≤ length (now s)) × (i < length (now r)) ⌝ }
     requires { ⌜ pos 0 ≤ℤ bound ⌝ }
     ensures { λ b. ⌜ b ≡ breaksSide bound (now (s .entry)) (now (r .entry)) i ⌝ }
@@ -104,7 +105,7 @@ fn is_broken_side(s: &[i64], r: &[i64], i: usize, bound: i64) -> bool
 
 // The first right side that sums of p parameters cannot have, where there is one.
 pub fn first_broken_side(s: &[i64], r: &[i64], p: usize, bound: i64) -> Walked
-    requires { ⌜ (p ≤ 500) × (tri p ≤ length (now s)) × (p ≤ length (now r)) ⌝ }
+    requires { ⌜ (p ≤ labelsMost) × (tri p ≤ length (now s)) × (p ≤ length (now r)) ⌝ }
     requires { ⌜ pos 0 ≤ℤ bound ⌝ }
     ensures { λ w. ⌜ toldWalked w ≡ firstFrom (breaksSide bound (now (s .entry)) (now (r .entry))) 0 p ⌝ }
 {

@@ -1,5 +1,9 @@
 // Taking records: one record, or a run of them, into the state of an arc.
 use arc_heading::Heading;
+use num_limits::PARAMETERS_MOST;
+use num_limits::PARTIAL_SIZE;
+use num_limits::RECORD_FIXED;
+use num_limits::STATIONS_MOST;
 use refusal::Refusal;
 use refusal::Verdict;
 use take_one::TakeAnswer;
@@ -16,12 +20,12 @@ ghost use Rattle.take_laws.specs.Taking.{frameOf, correctionsOf, recordAnswer, 
 ghost use Rattle.take_one.specs.Told.{toldTake};
 
 // The numbers of the listed stations, in the order of the heading.
-fn numbers_of(h: Heading) -> [u16; 16]
+fn numbers_of(h: Heading) -> [u16; STATIONS_MOST]
     ensures { λ r. ⌜ r ≡ numbersOf (h .listed) ⌝ }
 {
-    let mut a: [u16; 16] = [0; 16];
+    let mut a: [u16; STATIONS_MOST] = [0; STATIONS_MOST];
     let mut i: usize = 0;
-    while i < 16 {
+    while i < STATIONS_MOST {
         let t = h.listed[i];
         a[i] = t.number;
         i += 1;
@@ -30,12 +34,12 @@ fn numbers_of(h: Heading) -> [u16; 16]
 }
 
 // Their corrections.
-fn corrections_of(h: Heading) -> [i32; 16]
+fn corrections_of(h: Heading) -> [i32; STATIONS_MOST]
     ensures { λ r. ⌜ r ≡ correctionsOf (h .listed) ⌝ }
 {
-    let mut a: [i32; 16] = [0; 16];
+    let mut a: [i32; STATIONS_MOST] = [0; STATIONS_MOST];
     let mut i: usize = 0;
-    while i < 16 {
+    while i < STATIONS_MOST {
         let t = h.listed[i];
         let c = t.correction;
         a[i] = c;
@@ -55,7 +59,7 @@ fn take_sound(h: Heading, t: Tally, matrix: &mut [i64], rights: &mut [i64], byte
     let k = num_packed::triangle(p);
     let numbers = numbers_of(h);
     let corrections = corrections_of(h);
-    let mut room: [i16; 50] = [0; 50];
+    let mut room: [i16; PARAMETERS_MOST] = [0; PARAMETERS_MOST];
     take_one::take_record(
         h.settings,
         &numbers[..n],
@@ -93,7 +97,7 @@ fn judge_run(
 ) -> Verdict
     ensures { λ r. ⌜ toldVerdict r ≡ answered (runNumber h (now (run .entry)) answers (stateOf (now (matrix .entry)) (now (rights .entry)) t)) tt ⌝ }
 {
-    let size = 32 + 2 * num_whole::least(h.parameters, 50);
+    let size = RECORD_FIXED + PARTIAL_SIZE * num_whole::least(h.parameters, PARAMETERS_MOST);
     let n = run.len() / size;
     if answers < n {
         return Verdict::Refused(Refusal::Room);
@@ -127,7 +131,7 @@ fn run_sound(
     let k = num_packed::triangle(p);
     let numbers = numbers_of(h);
     let corrections = corrections_of(h);
-    let mut room: [i16; 50] = [0; 50];
+    let mut room: [i16; PARAMETERS_MOST] = [0; PARAMETERS_MOST];
     take_steps::take_all(
         h.settings,
         &numbers[..n],

@@ -3,6 +3,7 @@ ghost use mathlib.Core.Path.{_≡_};
 ghost use Prim.Native.Nat.{_≤_, _<_, _^_};
 ghost use lib.IntN.{pos, _+ℤ_, _*ℤ_, natAbs};
 ghost use lib.ListN.{length, getD, set};
+ghost use Rattle.num_limits.specs.Capacities.{parametersMost, weightTop};
 ghost use Rattle.num_whole.specs.Sums.{plus, Within};
 ghost use Rattle.num_packed.specs.Triangle.{times, triangleTerms, tri};
 
@@ -14,7 +15,7 @@ fn mac(s: i64, f: i64, x: i16) -> i64
 }
 
 fn scale(w: u32, x: i16) -> i64
-    requires { ⌜ w ≤ 65536 ⌝ }
+    requires { ⌜ w ≤ weightTop ⌝ }
     ensures { λ r. ⌜ (r ≡ pos w *ℤ x) × (natAbs r ≤ 2 ^ 31) ⌝ }
 {
     (w as i64) * (x as i64)
@@ -55,7 +56,7 @@ pub fn add_times(part: &mut [i64], f: i64, a: &[i16])
 // Adds w times the products of a's numbers to the packed triangle, column by column.
 pub fn add_matrix(sums: &mut [i64], a: &[i16], w: u32)
     requires { ⌜ tri (length (now a)) ≤ length (now sums) ⌝ }
-    requires { ⌜ (w ≤ 65536) × (length (now a) ≤ 50) ⌝ }
+    requires { ⌜ (w ≤ weightTop) × (length (now a) ≤ parametersMost) ⌝ }
     requires { ⌜ Within (2 ^ 62) (now sums) ⌝ }
     ensures { λ _. ⌜ now (sums .exit) ≡ plus (now (sums .entry)) (triangleTerms (pos w) (now (a .entry))) ⌝ }
 {

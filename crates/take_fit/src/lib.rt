@@ -1,6 +1,8 @@
 // Inner to `take`: one record fitted to its heading, by numbers alone: 1, 3, 10 to 16, or what is kept of it.
 use arc_limits::Settings;
 use arc_record::Record;
+use num_limits::PARTIAL_SIZE;
+use num_limits::RECORD_FIXED;
 use refusal::Refusal;
 use unit_convert::UnitAnswer;
 use unit_measure::MeasurementAnswer;
@@ -9,6 +11,7 @@ ghost use mathlib.Core.Path.{_≡_};
 ghost use mathlib.Core.Bool.{true};
 ghost use Prim.Native.Nat.{_*_, _≤_, _<_};
 ghost use lib.ListN.{length};
+ghost use Rattle.num_limits.specs.Capacities.{parametersMost};
 ghost use Rattle.num_whole.specs.Answer.{refused};
 ghost use Rattle.num_whole.specs.Tests.{pick};
 ghost use Rattle.arc_limits.specs.Limits.{settingsOk};
@@ -140,11 +143,11 @@ pub fn fits(
     corrections: &[i32],
     bytes: &[u8],
 ) -> Fitted
-    requires { ⌜ (settingsOk settings ≡ true) × (parameters ≤ 50) ⌝ }
+    requires { ⌜ (settingsOk settings ≡ true) × (parameters ≤ parametersMost) ⌝ }
     requires { ⌜ length (now numbers) ≤ length (now corrections) ⌝ }
     ensures { λ a. ⌜ toldFit a ≡ fitted (frame settings parameters (now (numbers .entry)) (now (corrections .entry))) (now (bytes .entry)) ⌝ }
 {
-    let size = 32 + 2 * parameters;
+    let size = RECORD_FIXED + PARTIAL_SIZE * parameters;
     if bytes.len() < size {
         return Fitted::Refused(Refusal::Short);
     }

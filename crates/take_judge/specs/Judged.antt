@@ -3,6 +3,7 @@
 use Prim.Native.Nat.{ℕ, _*_}
 use mathlib.Core.List.{[], _∷_}
 use lib.IntN.{ℤ, pos, _*ℤ_, natAbs}
+use Rattle.num_limits.specs.Capacities.{countMost}
 use Rattle.num_whole.specs.Answer.{Answered, given, refused}
 use Rattle.num_whole.specs.Tests.{less}
 use Rattle.refusal.specs.Number.{numberOf}
@@ -30,7 +31,7 @@ judgedLate level x last count =
     (first
     (unless 17 (less last (x .time))
     ∷ unless 18 (passesEdit level (x .sigma) (x .step) (x .residual))
-    ∷ unless 19 (less count 256)
+    ∷ unless 19 (less count countMost)
     ∷ []))
     (termsBy (x .sigma) (x .residual) (x .factor))
 

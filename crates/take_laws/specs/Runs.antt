@@ -7,6 +7,7 @@ use mathlib.Core.List.{List, map}
 use mathlib.Core.Logic.{_↔_}
 use lib.IntN.{ℤ, pos}
 use lib.ListN.{length}
+use Rattle.num_limits.specs.Capacities.{stationsMost}
 use Rattle.arc_heading.specs.declared.Heading.{Heading}
 use Rattle.take_state.specs.State.{State, started, seenIn, stateNumber}
 use Rattle.take_laws.specs.Taking.{frameOf, recordsIn, runNumber, runState, runAnswers}
@@ -37,14 +38,14 @@ pub record Runs (h : Heading) (m r : List ℤ) : Type 0 where
       → (seenIn (runEnd h m r l out .matrix) i ≡ false) ↔ Each (λ b. partialOf (frameOf h) b i ≡ pos 0) (taken (runTold h m r l out))
   -- demand 3: each station's records are told what they are told with the stations taken one after another, and the end is the same; a record of
   -- no station is told what it alone fixes
-  pub one-by-one : (l out : List ℕ) → Unrefused h m r l out → (k : ℕ) → k < 16
-      → toldTo (whose (frameOf h)) k (runTold h m r l out) ≡ toldTo (whose (frameOf h)) k (toldIn h m r (inOrder (whose (frameOf h)) 16 (recordsIn h l)))
+  pub one-by-one : (l out : List ℕ) → Unrefused h m r l out → (k : ℕ) → k < stationsMost
+      → toldTo (whose (frameOf h)) k (runTold h m r l out) ≡ toldTo (whose (frameOf h)) k (toldIn h m r (inOrder (whose (frameOf h)) stationsMost (recordsIn h l)))
   pub strays : (l out : List ℕ) → Unrefused h m r l out
-      → keep (λ x. upTo 16 (whose (frameOf h) (x .0))) (runTold h m r l out)
-      ≡ map (λ b. (b, strayAnswer (frameOf h) b)) (keep (λ b. upTo 16 (whose (frameOf h) b)) (recordsIn h l))
-  pub ends : (l out : List ℕ) → Unrefused h m r l out → runEnd h m r l out ≡ endOf h m r (inOrder (whose (frameOf h)) 16 (recordsIn h l))
+      → keep (λ x. upTo stationsMost (whose (frameOf h) (x .0))) (runTold h m r l out)
+      ≡ map (λ b. (b, strayAnswer (frameOf h) b)) (keep (λ b. upTo stationsMost (whose (frameOf h) b)) (recordsIn h l))
+  pub ends : (l out : List ℕ) → Unrefused h m r l out → runEnd h m r l out ≡ endOf h m r (inOrder (whose (frameOf h)) stationsMost (recordsIn h l))
   pub same-answers : (l out l₁ out₁ : List ℕ) → Unrefused h m r l out → Unrefused h m r l₁ out₁ → Mixes (frameOf h) (recordsIn h l) (recordsIn h l₁)
-      → (k : ℕ) → k < 16 → toldTo (whose (frameOf h)) k (runTold h m r l out) ≡ toldTo (whose (frameOf h)) k (runTold h m r l₁ out₁)
+      → (k : ℕ) → k < stationsMost → toldTo (whose (frameOf h)) k (runTold h m r l out) ≡ toldTo (whose (frameOf h)) k (runTold h m r l₁ out₁)
   pub same-end : (l out l₁ out₁ : List ℕ) → Unrefused h m r l out → Unrefused h m r l₁ out₁ → Mixes (frameOf h) (recordsIn h l) (recordsIn h l₁)
       → runEnd h m r l out ≡ runEnd h m r l₁ out₁
   pub sound : (l out : List ℕ) → Unrefused h m r l out → stateNumber h (runEnd h m r l out) ≡ 0

@@ -7,6 +7,7 @@ use mathlib.Core.Path.{_≡_}
 use mathlib.Core.List.{List, map}
 use lib.IntN.{ℤ, pos, _*ℤ_}
 use lib.ListN.{length, getD}
+use Rattle.num_limits.specs.Capacities.{stationsMost, typesMost}
 use Rattle.num_whole.specs.Sums.{total}
 use Rattle.num_packed.specs.Sound.{entry}
 use Rattle.arc_record.specs.Record.{partialsIn}
@@ -25,7 +26,7 @@ pub record SumsOver (f : Frame) (s : State) (bs : List (List ℕ)) : Type 0 wher
   pub rights : (i : ℕ) → i < f .parameters → getD (s .rights) i (pos 0) ≡ total (λ b. pos (weightIn b) *ℤ (partialOf f b i *ℤ scaled b)) bs
   pub square : pos (s .tally .square) ≡ total (λ b. pos (weightIn b) *ℤ (scaled b *ℤ scaled b)) bs
   -- the count of the station in row k, and n, their total
-  pub counts : (k : ℕ) → k < 16 → countOf (s .tally) k ≡ length (only (stationRow f) k bs)
+  pub counts : (k : ℕ) → k < stationsMost → countOf (s .tally) k ≡ length (only (stationRow f) k bs)
   pub accepted : accepted (s .tally) ≡ length bs
   -- the last time of the station in row k and of type c + 1; 0 for none
-  pub times : (k c : ℕ) → k < 16 → c < 10 → getD (lastTimes (s .tally) k .times) c 0 ≡ lastOr 0 (map (stamp f) (only typeColumn c (only (stationRow f) k bs)))
+  pub times : (k c : ℕ) → k < stationsMost → c < typesMost → getD (lastTimes (s .tally) k .times) c 0 ≡ lastOr 0 (map (stamp f) (only typeColumn c (only (stationRow f) k bs)))

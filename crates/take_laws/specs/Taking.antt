@@ -4,6 +4,7 @@ use mathlib.Core.List.{List, [], _∷_, map}
 use mathlib.Core.Bool.{Bool}
 use lib.IntN.{ℤ, pos, _*ℤ_, natAbs}
 use lib.ListN.{length, getD, take, drop}
+use Rattle.num_limits.specs.Capacities.{countMost, stationsMost}
 use Rattle.num_whole.specs.Tests.{less, upTo, same, pick}
 use Rattle.num_whole.specs.Sums.{plus}
 use Rattle.num_whole.specs.Answer.{Answered}
@@ -50,7 +51,7 @@ module _ (f : Frame) (b : List ℕ) where
 
   -- its row in the state; 16, past the last, where its station is not listed
   unfoldable pub stationRow : ℕ
-  stationRow = valueOr 16 stationIn
+  stationRow = valueOr stationsMost stationIn
 
   -- its corrected time t, and t as the state holds it: in the window no time is below 0
   unfoldable pub momentOf : ℤ
@@ -99,7 +100,7 @@ unfoldable pub stationTests : Frame → List ℕ → ℕ → ℕ → List ℕ
 stationTests f b last count =
     unless 17 (less last (stamp f b))
     ∷ unless 18 (passesEdit (f .settings .level) (recordIn b .sigma) (rowOfType (recordIn b .kind) .step) (residual b))
-    ∷ unless 19 (less count 256)
+    ∷ unless 19 (less count countMost)
     ∷ []
 
 -- "1, 3, then 10 to 19"; 0 where the record is accepted. Of the tally only the station's own count and last time are heard.

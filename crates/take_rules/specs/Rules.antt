@@ -3,23 +3,28 @@ use Prim.Native.Nat.{ℕ, _+_, _*_, _/_}
 use mathlib.Core.Bool.{Bool, _&&_}
 use lib.IntN.{ℤ, pos, _+ℤ_, natAbs}
 use lib.Signed.{leZ, ltZ}
+use Rattle.num_limits.specs.Capacities.{sigmaMost, weightTop, lastDay}
 use Rattle.num_whole.specs.Tests.{upTo, both, between}
 
 -- "s not 1 to 256": 12
 unfoldable pub sigmaOk : ℕ → Bool
-sigmaOk s = between 1 s 256
+sigmaOk s = between 1 s sigmaMost
 
 -- "Weight w = 65,536 divided by s², rounded down"
 unfoldable pub weightOf : ℕ → ℕ
-weightOf s = 65536 / (s * s)
+weightOf s = weightTop / (s * s)
 
 -- "Each day has 86,400,000 ms."
 abbrev pub dayLength : ℕ
 dayLength = 86400000
 
+-- "ms not 0 to 86,399,999": the last of a day
+abbrev pub lastMs : ℕ
+lastMs = 86399999
+
 -- "day not 1 to 54,787, or ms not 0 to 86,399,999": 13
 unfoldable pub clockOk : ℕ → ℕ → Bool
-clockOk day ms = both (between 1 day 54787) (upTo ms 86399999)
+clockOk day ms = both (between 1 day lastDay) (upTo ms lastMs)
 
 -- "Corrected time t = day·86,400,000 + ms + the station's correction"
 unfoldable pub timeOf : ℕ → ℕ → ℤ → ℤ

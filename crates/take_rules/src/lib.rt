@@ -1,47 +1,56 @@
 // Inner to `take`: the rules by which one record is judged, each behind one definition.
+use num_limits::LAST_DAY;
+use num_limits::SIGMA_MOST;
+use num_limits::WEIGHT_TOP;
 ghost use mathlib.Core.Path.{_≡_};
 ghost use Prim.Native.Nat.{_≤_, _<_, _^_};
 ghost use lib.IntN.{natAbs};
-ghost use Rattle.take_rules.specs.Rules.{sigmaOk, weightOf, clockOk, timeOf, inWindow, passesEdit};
+ghost use Rattle.num_limits.specs.Capacities.{sigmaMost, weightTop, lastDay, dayAfterLast};
+ghost use Rattle.take_rules.specs.Rules.{sigmaOk, weightOf, lastMs, clockOk, timeOf, inWindow, passesEdit};
+
+// "Each day has 86,400,000 ms.", and its last one.
+const DAY_LENGTH: u64 = 86400000;
+
+const LAST_MS: u32 = 86399999;
 
 pub fn sigma_ok(s: u16) -> bool
     ensures { λ r. ⌜ r ≡ sigmaOk s ⌝ }
 {
-    num_whole::within(1, s as u64, 256)
+    num_whole::within(1, s as u64, SIGMA_MOST)
 }
 
 pub fn weight(s: u16) -> u64
-    requires { ⌜ (1 ≤ s) × (s ≤ 256) ⌝ }
-    ensures { λ r. ⌜ (r ≡ weightOf s) × (r ≤ 65536) ⌝ }
+    requires { ⌜ (1 ≤ s) × (s ≤ sigmaMost) ⌝ }
+    ensures { λ r. ⌜ (r ≡ weightOf s) × (r ≤ weightTop) ⌝ }
 {
     let n = s as u64;
-    65536 / (n * n)
+    WEIGHT_TOP / (n * n)
 }
 
 pub fn clock_ok(day: u32, ms: u32) -> bool
     ensures { λ r. ⌜ r ≡ clockOk day ms ⌝ }
 {
-    if num_whole::within(1, day as u64, 54787) {
-        ms <= 86399999
+    if num_whole::within(1, day as u64, LAST_DAY) {
+        ms <= LAST_MS
     } else {
         false
     }
 }
 
 pub fn time(day: u32, ms: u32, correction: i32) -> i64
-    requires { ⌜ (day ≤ 54787) × (ms ≤ 86399999) ⌝ }
+    requires { ⌜ (day ≤ lastDay) × (ms ≤ lastMs) ⌝ }
     ensures { λ t. ⌜ t ≡ timeOf day ms correction ⌝ }
 {
-    let start = day as u64 * 86400000 + ms as u64;
+    let start = day as u64 * DAY_LENGTH + ms as u64;
     start as i64 + correction as i64
 }
 
 pub fn in_window(first: u32, days: u16, t: i64) -> bool
-    requires { ⌜ (first ≤ 54788) × (days ≤ 30) ⌝ }
+    requires { ⌜ (first ≤ dayAfterLast) × (days ≤ 30) ⌝ }
     ensures { λ r. ⌜ r ≡ inWindow first days t ⌝ }
 {
-    let from = first as u64 * 86400000;
-    let end = (first as u64 + days as u64) * 86400000;
+    let from = first as u64 * DAY_LENGTH;
+    let end = (first as u64 + days as u64) * DAY_LENGTH;
     if from as i64 <= t {
         t < end as i64
     } else {

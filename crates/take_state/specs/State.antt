@@ -5,6 +5,7 @@ use mathlib.Core.List.{List, [], _∷_, _++_}
 use mathlib.Core.Bool.{Bool, true, false, not}
 use lib.IntN.{ℤ, pos}
 use lib.ListN.{length, drop, replicate}
+use Rattle.num_limits.specs.Capacities.{parametersMost}
 use Rattle.num_whole.specs.Tests.{less, upTo, same, pick, both, below}
 use Rattle.num_whole.specs.Answer.{Answered, given, refused}
 use Rattle.refusal.specs.Number.{numberOf}
@@ -62,7 +63,7 @@ soundState stations p s =
 -- ---- what is lent
 -- "a number past its capacity standing as the capacity"
 abbrev pub capped : Heading → ℕ
-capped h = min (h .parameters) 50
+capped h = min (h .parameters) parametersMost
 
 -- "a lent buffer shorter than needed": one element for each matrix sum, and one for each right side
 unfoldable pub roomy : Heading → List ℤ → List ℤ → Bool

@@ -1,5 +1,6 @@
 // The state of an arc: its sums in lent room, its tally by value; the empty state, and the judging of one that is handed in.
 use arc_heading::Heading;
+use num_limits::PARAMETERS_MOST;
 use num_packed::Walked;
 use refusal::Refusal;
 use refusal::Verdict;
@@ -8,6 +9,7 @@ ghost use mathlib.Core.Path.{_≡_};
 ghost use Prim.Native.Nat.{_+_, _*_, _^_, _≤_, _<_, min};
 ghost use lib.IntN.{pos};
 ghost use lib.ListN.{length};
+ghost use Rattle.num_limits.specs.Capacities.{acceptedMost, parametersMost};
 ghost use Rattle.num_whole.specs.Tests.{upTo, both};
 ghost use Rattle.num_packed.specs.Triangle.{tri};
 ghost use Rattle.refusal.specs.First.{answered};
@@ -44,9 +46,9 @@ pub struct Started {
 
 // Whether so many parameters have room for their sums.
 fn is_roomy(parameters: usize, matrix: &[i64], rights: &[i64]) -> bool
-    ensures { λ r. ⌜ r ≡ both (upTo (tri (min parameters 50)) (length (now (matrix .entry)))) (upTo (min parameters 50) (length (now (rights .entry)))) ⌝ }
+    ensures { λ r. ⌜ r ≡ both (upTo (tri (min parameters parametersMost)) (length (now (matrix .entry)))) (upTo (min parameters parametersMost) (length (now (rights .entry)))) ⌝ }
 {
-    let p = num_whole::least(parameters, 50);
+    let p = num_whole::least(parameters, PARAMETERS_MOST);
     if num_packed::place(0, p) <= matrix.len() {
         p <= rights.len()
     } else {
@@ -108,14 +110,14 @@ const RIGHT_UNIT: u64 = 8796093022208;
 
 // The bound of sums of n records, each within `unit`.
 fn bound_of(n: u64, unit: u64) -> i64
-    requires { ⌜ (n ≤ 4096) × (unit ≤ 2 ^ 46) ⌝ }
+    requires { ⌜ (n ≤ acceptedMost) × (unit ≤ 2 ^ 46) ⌝ }
     ensures { λ r. ⌜ r ≡ pos (n * unit) ⌝ }
 {
     (n * unit) as i64
 }
 
 fn matrix_sound(p: usize, n: u64, matrix: &[i64]) -> bool
-    requires { ⌜ (p ≤ 50) × (tri p ≤ length (now matrix)) × (n ≤ 4096) ⌝ }
+    requires { ⌜ (p ≤ parametersMost) × (tri p ≤ length (now matrix)) × (n ≤ acceptedMost) ⌝ }
     ensures { λ r. ⌜ r ≡ matrixSound p (matrixTop n) (now (matrix .entry)) ⌝ }
 {
     match num_packed::first_unsound(matrix, p, bound_of(n, MATRIX_UNIT)) {
@@ -125,7 +127,7 @@ fn matrix_sound(p: usize, n: u64, matrix: &[i64]) -> bool
 }
 
 fn rights_sound(p: usize, n: u64, matrix: &[i64], rights: &[i64]) -> bool
-    requires { ⌜ (p ≤ 50) × (tri p ≤ length (now matrix)) × (p ≤ length (now rights)) × (n ≤ 4096) ⌝ }
+    requires { ⌜ (p ≤ parametersMost) × (tri p ≤ length (now matrix)) × (p ≤ length (now rights)) × (n ≤ acceptedMost) ⌝ }
     ensures { λ r. ⌜ r ≡ rightsSound p (rightTop n) (now (matrix .entry)) (now (rights .entry)) ⌝ }
 {
     match num_packed::first_broken_side(matrix, rights, p, bound_of(n, RIGHT_UNIT)) {
@@ -135,7 +137,7 @@ fn rights_sound(p: usize, n: u64, matrix: &[i64], rights: &[i64]) -> bool
 }
 
 fn is_sound(h: Heading, t: Tally, matrix: &[i64], rights: &[i64]) -> bool
-    requires { ⌜ (h .parameters ≤ 50) × (tri (h .parameters) ≤ length (now matrix)) × (h .parameters ≤ length (now rights)) ⌝ }
+    requires { ⌜ (h .parameters ≤ parametersMost) × (tri (h .parameters) ≤ length (now matrix)) × (h .parameters ≤ length (now rights)) ⌝ }
     ensures { λ r. ⌜ r ≡ soundState (h .stations) (h .parameters) (stateOf (now (matrix .entry)) (now (rights .entry)) t) ⌝ }
 {
     if take_tally::tally_sound(h.stations, t) {
@@ -168,7 +170,7 @@ pub fn judge_state(h: Heading, t: Tally, matrix: &[i64], rights: &[i64]) -> Verd
 // ---- what is seen
 
 fn is_seen(matrix: &[i64], i: usize) -> bool
-    requires { ⌜ (i < 50) × (tri (i + 1) ≤ length (now matrix)) ⌝ }
+    requires { ⌜ (i < parametersMost) × (tri (i + 1) ≤ length (now matrix)) ⌝ }
     ensures { λ r. ⌜ r ≡ seenIn (now (matrix .entry)) i ⌝ }
 {
     let k = num_packed::place(i, i);

@@ -6,6 +6,7 @@ use mathlib.Core.Bool.{true}
 use mathlib.Core.List.{List}
 use lib.IntN.{ℤ}
 use lib.ListN.{length}
+use Rattle.num_limits.specs.Capacities.{parametersMost, stationsMost}
 use Rattle.arc_limits.specs.Limits.{settingsOk}
 use Rattle.arc_limits.specs.declared.Settings.{Settings}
 use Rattle.num_packed.specs.Triangle.{tri}
@@ -17,12 +18,12 @@ use Rattle.take_laws.specs.Taking.{Frame, recordAnswer, recordStep, cut}
 -- what the parts of the taking ask of each other: a heading's rules and a state of just its parameters that is sound
 pub record Prepared (a : Settings) (ns : List ℕ) (cs : List ℤ) (s : State) : Type 0 where
   pub settings : settingsOk a ≡ true
-  pub seats : length ns ≤ 16
+  pub seats : length ns ≤ stationsMost
   pub corrected : length ns ≤ length cs
-  pub few : length (s .rights) ≤ 50
+  pub few : length (s .rights) ≤ parametersMost
   pub matrix : length (s .matrix) ≡ tri (length (s .rights))
-  pub counts : length (s .tally .counts) ≡ 16
-  pub rows : length (s .tally .rows) ≡ 16
+  pub counts : length (s .tally .counts) ≡ stationsMost
+  pub rows : length (s .tally .rows) ≡ stationsMost
   pub sound : soundState (length ns) (length (s .rights)) s ≡ true
 
 -- the records of a run that a frame's parameters give, taken one after another: the end, and the answers

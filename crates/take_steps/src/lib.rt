@@ -1,5 +1,7 @@
 // A run of records taken, the heading and the state found sound: each judged, its terms added, its answer written.
 use arc_limits::Settings;
+use num_limits::PARTIAL_SIZE;
+use num_limits::RECORD_FIXED;
 use refusal::Refusal;
 use take_fit::Fitted;
 use take_judge::Judgement;
@@ -9,6 +11,7 @@ ghost use mathlib.Core.Path.{_≡_};
 ghost use Prim.Native.Nat.{_*_, _/_, _≤_, _<_, _^_};
 ghost use lib.IntN.{pos, natAbs};
 ghost use lib.ListN.{length, getD};
+ghost use Rattle.num_limits.specs.Capacities.{parametersMost, weightTop};
 ghost use Rattle.num_whole.specs.Sums.{plus, Within};
 ghost use Rattle.refusal.specs.Number.{numberOf};
 ghost use Rattle.byte_words.specs.Words.{lay};
@@ -54,8 +57,8 @@ pub fn add_record(
     weight: u32,
     side: i64,
 )
-    requires { ⌜ (length (now rights) ≤ 50) × (length (now matrix) ≡ tri (length (now rights))) × (length (now room) ≡ length (now rights)) ⌝ }
-    requires { ⌜ (weight ≤ 65536) × (natAbs side ≤ 2 ^ 31) ⌝ }
+    requires { ⌜ (length (now rights) ≤ parametersMost) × (length (now matrix) ≡ tri (length (now rights))) × (length (now room) ≡ length (now rights)) ⌝ }
+    requires { ⌜ (weight ≤ weightTop) × (natAbs side ≤ 2 ^ 31) ⌝ }
     requires { ⌜ Within (2 ^ 62) (now matrix) × Within (2 ^ 62) (now rights) ⌝ }
     ensures matrix { λ _. ⌜ now (matrix .exit) ≡ plus (now (matrix .entry)) (triangleTerms (pos weight) (partialsIn (length (now (rights .entry))) (now (bytes .entry)))) ⌝ }
     ensures rights { λ _. ⌜ now (rights .exit) ≡ plus (now (rights .entry)) (times side (partialsIn (length (now (rights .entry))) (now (bytes .entry)))) ⌝ }
@@ -83,7 +86,7 @@ pub fn take_all(
     ensures told { λ _. ⌜ now (out .exit) ≡ lay (now (out .entry)) 0 (answersBy (frame settings (length (now (rights .entry))) (now (numbers .entry)) (now (corrections .entry))) (stateOf (now (matrix .entry)) (now (rights .entry)) t) (now (run .entry))) ⌝ }
 {
     let p = rights.len();
-    let size = 32 + 2 * p;
+    let size = RECORD_FIXED + PARTIAL_SIZE * p;
     let n = run.len() / size;
     let mut u = t;
     let mut i: usize = 0;

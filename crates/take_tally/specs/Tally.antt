@@ -4,6 +4,7 @@ use Prim.Native.Nat.{ℕ, _+_, _*_, _^_}
 use mathlib.Core.List.{List, []}
 use mathlib.Core.Bool.{Bool}
 use lib.ListN.{getD, set, replicate}
+use Rattle.num_limits.specs.Capacities.{stationsMost, typesMost}
 use Rattle.num_whole.specs.Tests.{less, upTo, same, both, either, below}
 use Rattle.num_whole.specs.Lists.{all}
 use Rattle.take_counts.specs.Counts.{sumOf, countsSound}
@@ -34,7 +35,7 @@ tallyWith t i k time q =
 
 -- the empty tally
 abbrev pub emptyTally : Tally
-emptyTally = record { square = 0; counts = replicate 16 0; rows = replicate 16 (record { times = replicate 10 0 }) }
+emptyTally = record { square = 0; counts = replicate stationsMost 0; rows = replicate stationsMost (record { times = replicate typesMost 0 }) }
 
 -- ---- sound tallies
 -- n of a tally
@@ -50,7 +51,7 @@ squareTop n = n * squareUnit
 
 -- "anything but 0 in a slot past the parameters or stations": the table has slots past the stations (docs/DECISIONS.md D21)
 unfoldable pub rowsSound : ℕ → List Row → Bool
-rowsSound stations rows = below (λ i. either (less i stations) (all (λ t. same t 0) (getD rows i noRow .times))) 16
+rowsSound stations rows = below (λ i. either (less i stations) (all (λ t. same t 0) (getD rows i noRow .times))) stationsMost
 
 unfoldable pub tallySound : ℕ → Tally → Bool
 tallySound stations t =

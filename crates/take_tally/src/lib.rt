@@ -1,4 +1,6 @@
 // The tally of an arc by value: the empty one, and whether one that is handed in is sound.
+use num_limits::STATIONS_MOST;
+use num_limits::TYPES;
 ghost use mathlib.Core.Path.{_≡_};
 ghost use Rattle.num_whole.specs.Tests.{same};
 ghost use Rattle.num_whole.specs.Lists.{all};
@@ -6,20 +8,22 @@ ghost use Rattle.take_tally.specs.Tally.{emptyTally, rowsSound, tallySou
 
 // The last times of one station, a type each; 0 for none.
 pub struct Row {
-    pub times: [u64; 10],
+    pub times: [u64; TYPES],
 }
 
 // The square sum, the accepted records of each station, and the last times of each station.
 pub struct Tally {
     pub square: u64,
-    pub counts: [u32; 16],
-    pub rows: [Row; 16],
+    pub counts: [u32; STATIONS_MOST],
+    pub rows: [Row; STATIONS_MOST],
 }
 
-fn no_rows() -> [Row; 16]
+fn no_rows() -> [Row; STATIONS_MOST]
     ensures { λ r. ⌜ r ≡ emptyTally .rows ⌝ }
 {
-    [Row { times: [0u64; 10] }; 16]
+    [Row {
+        times: [0u64; TYPES],
+    }; STATIONS_MOST]
 }
 
 pub fn no_tally() -> Tally
@@ -27,7 +31,7 @@ pub fn no_tally() -> Tally
 {
     Tally {
         square: 0,
-        counts: [0u32; 16],
+        counts: [0u32; STATIONS_MOST],
         rows: no_rows(),
     }
 }
@@ -37,7 +41,7 @@ fn is_blank(w: Row) -> bool
     ensures { λ r. ⌜ r ≡ all (λ t. same t 0) (w .times) ⌝ }
 {
     let mut k: usize = 0;
-    while k < 10 {
+    while k < TYPES {
         if w.times[k] == 0 {
             k += 1;
         } else {
@@ -51,7 +55,7 @@ fn rows_sound(stations: usize, t: Tally) -> bool
     ensures { λ r. ⌜ r ≡ rowsSound stations (t .rows) ⌝ }
 {
     let mut i = stations;
-    while i < 16 {
+    while i < STATIONS_MOST {
         let w = t.rows[i];
         if is_blank(w) {
             i += 1;

@@ -13,6 +13,7 @@ use refusal::Refusal;
 ghost use mathlib.Core.Path.{_≡_};
 ghost use Prim.Native.Nat.{_≤_, _<_};
 ghost use lib.ListN.{length};
+ghost use Rattle.num_limits.specs.Capacities.{arcsMost, labelsMost, sumsMost};
 
 // What a file is made of: its first arc and how many follow each other, how many common labels, whether arcs have labels of their own, and
 // where the chain of numbers begins.
@@ -72,7 +73,7 @@ fn side(i: usize, n: u64) -> i64 {
 // ---- a file
 
 fn parameters(p: Plan) -> usize
-    ensures { λ r. ⌜ r ≤ 500 ⌝ }
+    ensures { λ r. ⌜ r ≤ labelsMost ⌝ }
 {
     if p.own {
         return num_whole::least(p.common % 501 + 8 * (p.arcs % 17), 500);
@@ -82,7 +83,7 @@ fn parameters(p: Plan) -> usize
 
 // Label l of the file, with its priors.
 fn labelled(kind: u16, index: usize, arc: u32, l: usize) -> NormalLabel
-    requires { ⌜ (index < 65536) × (l < 500) ⌝ }
+    requires { ⌜ (index < 65536) × (l < labelsMost) ⌝ }
 {
     NormalLabel {
         kind,
@@ -94,7 +95,7 @@ fn labelled(kind: u16, index: usize, arc: u32, l: usize) -> NormalLabel
 }
 
 fn common_label(l: usize) -> NormalLabel
-    requires { ⌜ l < 500 ⌝ }
+    requires { ⌜ l < labelsMost ⌝ }
 {
     if l < 186 {
         return labelled(1, l / 32 * 33 + l % 32, 0, l);
@@ -104,7 +105,7 @@ fn common_label(l: usize) -> NormalLabel
 
 // Label k of those that the arcs have of their own: the states come first.
 fn own_label(p: Plan, k: usize, l: usize) -> NormalLabel
-    requires { ⌜ (k < 500) × (l < 500) ⌝ }
+    requires { ⌜ (k < labelsMost) × (l < labelsMost) ⌝ }
 {
     let first = p.first % 1000;
     let states = 6 * (p.arcs % 17);
@@ -116,7 +117,7 @@ fn own_label(p: Plan, k: usize, l: usize) -> NormalLabel
 }
 
 fn label(p: Plan, l: usize) -> NormalLabel
-    requires { ⌜ l < 500 ⌝ }
+    requires { ⌜ l < labelsMost ⌝ }
 {
     if l < p.common {
         common_label(l)
@@ -137,7 +138,7 @@ fn put_label(out: &mut [u8], at: usize, l: NormalLabel)
 }
 
 fn put_labels(out: &mut [u8], at: usize, p: Plan, n: usize)
-    requires { ⌜ (at < 1000) × (n ≤ 500) ⌝ }
+    requires { ⌜ (at < 1000) × (n ≤ labelsMost) ⌝ }
 {
     let mut i: usize = 0;
     while i < n {
@@ -159,7 +160,7 @@ fn put_arcs(out: &mut [u8], first: u32, n: usize)
 
 // The matrix sums of column j: the number of the chain after them.
 fn put_column(out: &mut [u8], at: usize, j: usize, seed: u64) -> u64
-    requires { ⌜ (at < 3000000) × (j < 500) ⌝ }
+    requires { ⌜ (at < 3000000) × (j < labelsMost) ⌝ }
 {
     let mut n = seed;
     let mut i: usize = 0;
@@ -172,7 +173,7 @@ fn put_column(out: &mut [u8], at: usize, j: usize, seed: u64) -> u64
 }
 
 fn put_matrix(out: &mut [u8], at: usize, p: usize, seed: u64) -> u64
-    requires { ⌜ (at < 1000000) × (p ≤ 500) ⌝ }
+    requires { ⌜ (at < 1000000) × (p ≤ labelsMost) ⌝ }
 {
     let mut n = seed;
     let mut k = at;
@@ -186,7 +187,7 @@ fn put_matrix(out: &mut [u8], at: usize, p: usize, seed: u64) -> u64
 }
 
 fn put_rights(out: &mut [u8], at: usize, p: usize, seed: u64)
-    requires { ⌜ (at < 3000000) × (p ≤ 500) ⌝ }
+    requires { ⌜ (at < 3000000) × (p ≤ labelsMost) ⌝ }
 {
     let mut n = seed;
     let mut i: usize = 0;
@@ -199,7 +200,7 @@ fn put_rights(out: &mut [u8], at: usize, p: usize, seed: u64)
 
 // The last section, of so many arcs.
 fn put_totals(out: &mut [u8], at: usize, arcs: usize)
-    requires { ⌜ (at < 3000000) × (arcs ≤ 16) ⌝ }
+    requires { ⌜ (at < 3000000) × (arcs ≤ arcsMost) ⌝ }
 {
     byte_write::write_u32(out, at, 1);
     byte_write::write_u64(out, at + 4, 4000 * arcs as u64);
@@ -208,7 +209,7 @@ fn put_totals(out: &mut [u8], at: usize, arcs: usize)
 
 // Arcs and labels, each after its count: the place after them.
 fn put_heads(out: &mut [u8], p: Plan, arcs: usize, n: usize) -> usize
-    requires { ⌜ (arcs ≤ 16) × (n ≤ 500) ⌝ }
+    requires { ⌜ (arcs ≤ arcsMost) × (n ≤ labelsMost) ⌝ }
     ensures { λ r. ⌜ r ≤ 12072 ⌝ }
 {
     let labels = 4 + 4 * arcs;
@@ -221,15 +222,15 @@ fn put_heads(out: &mut [u8], p: Plan, arcs: usize, n: usize) -> usize
 
 // How many matrix sums n parameters have.
 fn triangle(n: usize) -> usize
-    requires { ⌜ n ≤ 500 ⌝ }
-    ensures { λ r. ⌜ r ≤ 125250 ⌝ }
+    requires { ⌜ n ≤ labelsMost ⌝ }
+    ensures { λ r. ⌜ r ≤ sumsMost ⌝ }
 {
     n * (n + 1) / 2
 }
 
 // Matrix sums and right sides, each after their count: the place after them.
 fn put_sums(out: &mut [u8], matrix: usize, n: usize, seed: u64) -> usize
-    requires { ⌜ (matrix ≤ 12072) × (n ≤ 500) ⌝ }
+    requires { ⌜ (matrix ≤ 12072) × (n ≤ labelsMost) ⌝ }
     ensures { λ r. ⌜ r ≤ 1100000 ⌝ }
 {
     let sums = triangle(n);

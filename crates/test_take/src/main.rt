@@ -7,6 +7,10 @@ use arc_heading::Heading;
 use arc_limits::Label;
 use arc_limits::Settings;
 use arc_limits::Station;
+use num_limits::ARC_SUMS_MOST;
+use num_limits::PARAMETERS_MOST;
+use num_limits::STATIONS_MOST;
+use num_limits::TYPES;
 use refusal::Refusal;
 use take_one::TakeAnswer;
 use take_tally::Row;
@@ -38,16 +42,16 @@ fn label_at(text: &[u8], at: usize) -> Label {
 }
 
 // The first fifty labels; past the last one they are zeros.
-fn labels_of(text: &[u8]) -> [Label; 50] {
+fn labels_of(text: &[u8]) -> [Label; PARAMETERS_MOST] {
     let mut a = [Label {
         kind: 0,
         index: 0,
         weight: 0,
         estimate: 0,
-    }; 50];
+    }; PARAMETERS_MOST];
     let mut i: usize = 0;
     let mut at: usize = 0;
-    while i < 50 {
+    while i < PARAMETERS_MOST {
         a[i] = label_at(text, at);
         at = desk_lines::after(text, at, b';');
         i += 1;
@@ -84,14 +88,14 @@ fn station_at(text: &[u8], at: usize) -> Station {
 }
 
 // The first sixteen stations; past the last one they are zeros.
-fn stations_of(text: &[u8]) -> [Station; 16] {
+fn stations_of(text: &[u8]) -> [Station; STATIONS_MOST] {
     let mut a = [Station {
         number: 0,
         correction: 0,
-    }; 16];
+    }; STATIONS_MOST];
     let mut i: usize = 0;
     let mut at: usize = 0;
-    while i < 16 {
+    while i < STATIONS_MOST {
         a[i] = station_at(text, at);
         at = desk_lines::after(text, at, b';');
         i += 1;
@@ -125,11 +129,11 @@ fn fill(text: &[u8], out: &mut [i64]) {
     }
 }
 
-fn counts_of(text: &[u8]) -> [u32; 16] {
-    let mut a = [0u32; 16];
+fn counts_of(text: &[u8]) -> [u32; STATIONS_MOST] {
+    let mut a = [0u32; STATIONS_MOST];
     let mut i: usize = 0;
     let mut at: usize = 0;
-    while i < 16 {
+    while i < STATIONS_MOST {
         a[i] = desk_lines::as_u32(desk_lines::decimal_at(text, at));
         at = desk_lines::after(text, at, b',');
         i += 1;
@@ -139,7 +143,7 @@ fn counts_of(text: &[u8]) -> [u32; 16] {
 
 // The ten times at a place.
 fn row_at(text: &[u8], start: usize) -> Row {
-    let mut a = [0u64; 10];
+    let mut a = [0u64; TYPES];
     let mut i: usize = 0;
     let mut at = start;
     while i < 10 {
@@ -150,10 +154,12 @@ fn row_at(text: &[u8], start: usize) -> Row {
     Row { times: a }
 }
 
-fn rows_of(text: &[u8]) -> [Row; 16] {
-    let mut a = [Row { times: [0u64; 10] }; 16];
+fn rows_of(text: &[u8]) -> [Row; STATIONS_MOST] {
+    let mut a = [Row {
+        times: [0u64; TYPES],
+    }; STATIONS_MOST];
     let mut i: usize = 0;
-    while i < 16 {
+    while i < STATIONS_MOST {
         a[i] = row_at(text, desk_lines::item(text, b',', 10 * i));
         i += 1;
     }
@@ -186,9 +192,9 @@ fn put_sums(sums: &[i64]) {
     }
 }
 
-fn put_counts(counts: [u32; 16]) {
+fn put_counts(counts: [u32; STATIONS_MOST]) {
     let mut i: usize = 0;
-    while i < 16 {
+    while i < STATIONS_MOST {
         put_comma(i);
         desk_lines::put_number(counts[i] as u64, b"");
         i += 1;
@@ -206,7 +212,7 @@ fn put_row(w: Row) {
 
 fn put_rows(t: Tally) {
     let mut i: usize = 0;
-    while i < 16 {
+    while i < STATIONS_MOST {
         let w = t.rows[i];
         put_comma(i);
         put_row(w);
@@ -340,8 +346,8 @@ fn run_mix(line: &[u8], matrix: &mut [i64], rights: &mut [i64], bytes: &[u8]) {
 
 // A line of keys and values, written anew: the fourth key is `record` or `records`.
 fn run_line(line: &[u8]) {
-    let mut matrix = [0i64; 1275];
-    let mut rights = [0i64; 50];
+    let mut matrix = [0i64; ARC_SUMS_MOST];
+    let mut rights = [0i64; PARAMETERS_MOST];
     let mut buffer = io::buffer();
     let n = desk_lines::hex_bytes(desk_lines::value(line, 3), &mut buffer);
     let bytes = desk_lines::part(&buffer, 0, n);

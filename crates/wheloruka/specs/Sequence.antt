@@ -7,6 +7,7 @@ use mathlib.Core.List.{List, [], _∷_, _++_, map}
 use mathlib.Core.Logic.{_↔_}
 use lib.IntN.{pos}
 use lib.ListN.{length, getD}
+use Rattle.num_limits.specs.Capacities.{stationsMost}
 use Rattle.num_whole.specs.Tests.{same, pick}
 use Rattle.num_whole.specs.Lists.{Each}
 use Rattle.take_state.specs.State.{started, seenIn}
@@ -98,7 +99,7 @@ pub record Sequence (b : List ℕ) (x : Lent) : Type 0 where
   pub sums : (cs : List Handed) → SumsOver (frameOf (headingIn b)) (stateIn (callsEnd b x cs)) (taken (callsTold b x cs))
   pub unseen : (cs : List Handed) (i : ℕ) → i < headingIn b .parameters
       → (seenIn (callsEnd b x cs .matrix) i ≡ false) ↔ Each (λ r. partialOf (frameOf (headingIn b)) r i ≡ pos 0) (taken (callsTold b x cs))
-  pub same-answers : (cs ds : List Handed) → Mixes (frameOf (headingIn b)) (callsIn b x cs) (callsIn b x ds) → (k : ℕ) → k < 16
+  pub same-answers : (cs ds : List Handed) → Mixes (frameOf (headingIn b)) (callsIn b x cs) (callsIn b x ds) → (k : ℕ) → k < stationsMost
       → toldTo (whose (frameOf (headingIn b))) k (callsTold b x cs) ≡ toldTo (whose (frameOf (headingIn b))) k (callsTold b x ds)
   pub same-end : (cs ds : List Handed) → Mixes (frameOf (headingIn b)) (callsIn b x cs) (callsIn b x ds)
       → stateIn (callsEnd b x cs) ≡ stateIn (callsEnd b x ds)
