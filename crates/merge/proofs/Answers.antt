@@ -22,7 +22,7 @@ use Rattle.merge_put.specs.Parts.{systemInFile, Joined, ArcsFit}
 use Rattle.merge_put.proofs.Known.{Known}
 use Rattle.merge_put.proofs.Sums.{labels-agree}
 use Rattle.merge_put.proofs.Steps.{bytes-long}
-use Rattle.merge.specs.Files.{Merging, written, refusing, mergedBytes, pairAnswer, pairLeft}
+use Rattle.merge.specs.Files.{Merging, wrote, refusing, mergedBytes, pairAnswer, pairLeft}
 use Rattle.merge.proofs.Outcomes.{pair-refused, pair-short, pair-written}
 use Rattle.merge_laws.proofs.Values.{arcs-in-order}
 
@@ -91,7 +91,7 @@ module _ (a : List ℕ) (x : NormalRead) (ka : Known a x) (b : List ℕ) (y : No
       answers-20 out h = pair-short (systemInFile a) (systemInFile b) accepted out (subst (λ k. length out < k) as-needed h)
 
       pub answers-written : (out kept : List ℕ) → needed ≤ length out → kept ≡ lay out 0 (normalBytes (mergedOf (systemInFile a) (systemInFile b)))
-          → Answered (written needed) out kept
+          → Answered (wrote needed) out kept
       unfolding mergedBytes
       answers-written out kept h e =
           pair-written (systemInFile a) (systemInFile b) accepted out needed kept (subst (λ k. k ≤ length out) as-needed h) as-needed e

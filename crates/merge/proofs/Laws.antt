@@ -32,7 +32,7 @@ use Rattle.merge_laws.proofs.Files.{merged-each}
 use Rattle.merge_put.specs.Parts.{normalOr, normalIn, systemInFile}
 use Rattle.byte_section.specs.Told.{onDone}
 use Rattle.byte_section.proofs.Walk.{by-judged}
-use Rattle.merge.specs.Files.{written, inFile, refusing, mergedBytes, pairNumber, pairAnswer, pairLeft, mergeAnswer, mergeLeft}
+use Rattle.merge.specs.Files.{wrote, inFile, refusing, mergedBytes, pairNumber, pairAnswer, pairLeft, mergeAnswer, mergeLeft}
 use Rattle.merge.proofs.Written.{accepted, holds-sound, Written, written-file, written-where}
 use Rattle.merge.proofs.Outcomes.{pair-refused, first-bad, second-bad, both-good}
 
@@ -45,7 +45,7 @@ pair-either x y p q out =
     (λ t. let bytes : normalBytes (mergedOf x y) ≡ normalBytes (mergedOf y x) = ap normalBytes (merge-either x y p q (same-true _ _ t)) in
     let number : pairNumber x y (length out) ≡ pairNumber y x (length out) =
     (λ i. first (refuse-either x y p q i ∷ when 20 (less (length out) (length (bytes i))) ∷ [])) in
-    ((λ i. pick (same (number i) 0) (written (length (bytes i))) (refusing (number i))), (λ i. onDone (answered (number i) (length (bytes i))) (lay out 0 (bytes i)) out)))
+    ((λ i. pick (same (number i) 0) (wrote (length (bytes i))) (refusing (number i))), (λ i. onDone (answered (number i) (length (bytes i))) (lay out 0 (bytes i)) out)))
     (λ t. let one = pair-refused x y out (mergeNumber x y) refl (same-false _ _ t) in
     let two = pair-refused y x out (mergeNumber x y) (sym (refuse-either x y p q)) (same-false _ _ t) in
     (sym (one .0) ∙ two .0, sym (one .1) ∙ two .1))
@@ -83,7 +83,7 @@ module _ (a b out : List ℕ) where
       (λ other at f. first-bad b a other at out f .1))
 
 -- ---- the merged file: what stands at the room's front
-module _ (a b out : List ℕ) (n : ℕ) (first-bytes : Bytes a) (second-bytes : Bytes b) (w : mergeAnswer a b (length out) ≡ written n) where
+module _ (a b out : List ℕ) (n : ℕ) (first-bytes : Bytes a) (second-bytes : Bytes b) (w : mergeAnswer a b (length out) ≡ wrote n) where
   abbrev merged : List ℕ
   merged = take n (mergeLeft a b out)
 
@@ -142,7 +142,7 @@ module _ (a b out : List ℕ) (n : ℕ) (first-bytes : Bytes a) (second-bytes : 
 
 -- ---- three files, in either grouping: a merged one is given as one of two
 module _ (a b c room other out : List ℕ) (n m : ℕ) (first-bytes : Bytes a) (second-bytes : Bytes b) (third-bytes : Bytes c)
-    (ab : mergeAnswer a b (length room) ≡ written n) (bc : mergeAnswer b c (length other) ≡ written m) where
+    (ab : mergeAnswer a b (length room) ≡ wrote n) (bc : mergeAnswer b c (length other) ≡ wrote m) where
   -- the two that are merged first
   abbrev front-two : List ℕ
   front-two = take n (mergeLeft a b room)
@@ -168,7 +168,7 @@ module _ (a b c room other out : List ℕ) (n m : ℕ) (first-bytes : Bytes a) (
       ∙ ap (mergedOf (systemInFile a)) (sym last-holds)
 
   -- the same bytes
-  pub groups : (k l : ℕ) → mergeAnswer front-two c (length out) ≡ written k → mergeAnswer a last-two (length out) ≡ written l
+  pub groups : (k l : ℕ) → mergeAnswer front-two c (length out) ≡ wrote k → mergeAnswer a last-two (length out) ≡ wrote l
       → (k ≡ l) × (mergeLeft front-two c out ≡ mergeLeft a last-two out)
   groups k l e f =
       let x = written-file front-two c out k e in
@@ -178,40 +178,40 @@ module _ (a b c room other out : List ℕ) (n m : ℕ) (first-bytes : Bytes a) (
       )
 
   -- and written in the one where in the other
-  pub groups-forth : (k : ℕ) → mergeAnswer front-two c (length out) ≡ written k → mergeAnswer a last-two (length out) ≡ written k
+  pub groups-forth : (k : ℕ) → mergeAnswer front-two c (length out) ≡ wrote k → mergeAnswer a last-two (length out) ≡ wrote k
   groups-forth k e =
       let x = written-file front-two c out k e in
       let long : k ≡ length (normalBytes (mergedOf (systemInFile a) (systemInFile last-two))) = x .long ∙ ap (λ z. length (normalBytes z)) one-system in
       let z = accept-groups (systemInFile a) (systemInFile b) (systemInFile c) (front-pair .first-sound) (front-pair .second-sound) (last-pair .second-sound) (front-pair .none-refuses)
       (ap (λ z. mergeNumber z (systemInFile c)) (sym front-holds) ∙ x .none-refuses) in
       written-where a last-two out (front-pair .first-read) (accepted last-two _ (merged-read b c other m second-bytes third-bytes bc))
-      (ap (mergeNumber (systemInFile a)) last-holds ∙ z .1) (subst (λ i. i ≤ length out) long (x .fits)) ∙ ap written (sym long)
+      (ap (mergeNumber (systemInFile a)) last-holds ∙ z .1) (subst (λ i. i ≤ length out) long (x .fits)) ∙ ap wrote (sym long)
 
-  pub groups-back : (k : ℕ) → mergeAnswer a last-two (length out) ≡ written k → mergeAnswer front-two c (length out) ≡ written k
+  pub groups-back : (k : ℕ) → mergeAnswer a last-two (length out) ≡ wrote k → mergeAnswer front-two c (length out) ≡ wrote k
   groups-back k e =
       let y = written-file a last-two out k e in
       let long : k ≡ length (normalBytes (mergedOf (systemInFile front-two) (systemInFile c))) = y .long ∙ ap (λ z. length (normalBytes z)) (sym one-system) in
       let z = accept-back (systemInFile a) (systemInFile b) (systemInFile c) (front-pair .first-sound) (front-pair .second-sound) (last-pair .second-sound) (last-pair .none-refuses)
       (ap (mergeNumber (systemInFile a)) (sym last-holds) ∙ y .none-refuses) in
       written-where front-two c out (accepted front-two _ (merged-read a b room n first-bytes second-bytes ab)) (last-pair .second-read)
-      (ap (λ z. mergeNumber z (systemInFile c)) front-holds ∙ z .1) (subst (λ i. i ≤ length out) long (y .fits)) ∙ ap written (sym long)
+      (ap (λ z. mergeNumber z (systemInFile c)) front-holds ∙ z .1) (subst (λ i. i ≤ length out) long (y .fits)) ∙ ap wrote (sym long)
 
 -- ---- three files, in either grouping: with room for any normal file where two are merged first, both ways are written or neither
 -- the first two are merged, then what was written with the third: k bytes
 pub record FrontFirst (a b c room out : List ℕ) (k : ℕ) : Type 0 where
   pub two : ℕ
-  pub pair : mergeAnswer a b (length room) ≡ written two
-  pub all : mergeAnswer (take two (mergeLeft a b room)) c (length out) ≡ written k
+  pub pair : mergeAnswer a b (length room) ≡ wrote two
+  pub all : mergeAnswer (take two (mergeLeft a b room)) c (length out) ≡ wrote k
 
 -- the last two are merged, then the first with what was written: k bytes
 pub record LastFirst (a b c room out : List ℕ) (k : ℕ) : Type 0 where
   pub two : ℕ
-  pub pair : mergeAnswer b c (length room) ≡ written two
-  pub all : mergeAnswer a (take two (mergeLeft b c room)) (length out) ≡ written k
+  pub pair : mergeAnswer b c (length room) ≡ wrote two
+  pub all : mergeAnswer a (take two (mergeLeft b c room)) (length out) ≡ wrote k
 
 -- two accepted files that nothing refuses are written where there is room for any normal file
 pair-written : (a b room : List ℕ) → readNormal a ≡ good (normalIn a) → readNormal b ≡ good (normalIn b) → mergeNumber (systemInFile a) (systemInFile b) ≡ 0
-    → longest ≤ length room → mergeAnswer a b (length room) ≡ written (length (normalBytes (mergedOf (systemInFile a) (systemInFile b))))
+    → longest ≤ length room → mergeAnswer a b (length room) ≡ wrote (length (normalBytes (mergedOf (systemInFile a) (systemInFile b))))
 pair-written a b room e f z h =
     let merged = merge-sound (systemInFile a) (systemInFile b) (holds-sound a e) (holds-sound b f) z in
     written-where a b room e f z (le-trans (normal-longest _ merged) h)

@@ -21,8 +21,8 @@ use Rattle.byte_section.specs.Told.{toldAnswer}
 use Rattle.norm_read.specs.declared.NormalRead.{NormalRead}
 use Rattle.byte_section.specs.declared.ReadAnswer.the-variants.{Refused}
 use Rattle.merge_laws.specs.Merge.{mergeNumber}
-use Rattle.merge.specs.Files.{Merging, written, inFile, refusing, mergedBytes, pairNumber, pairAnswer, pairLeft, fromFile, mergeAnswer, mergeLeft}
-use Rattle.merge_put.specs.Parts.{normalIn, systemInFile, Taken}
+use Rattle.merge.specs.Files.{Merging, wrote, inFile, refusing, mergedBytes, pairNumber, pairAnswer, pairLeft, fromFile, mergeAnswer, mergeLeft}
+use Rattle.merge_put.specs.Parts.{normalIn, systemInFile, AsRead}
 use Rattle.byte_section.proofs.Walk.{by-judged}
 
 -- ---- two systems
@@ -56,11 +56,11 @@ module _ (x y : System) where
         wrong z = omega arith
 
     pub pair-written : (n : ℕ) (left : List ℕ) → length (mergedBytes x y) ≤ length out → n ≡ length (mergedBytes x y) → left ≡ lay out 0 (mergedBytes x y)
-        → (written n ≡ pairAnswer x y (length out)) × (left ≡ pairLeft x y out)
+        → (wrote n ≡ pairAnswer x y (length out)) × (left ≡ pairLeft x y out)
     unfolding pairAnswer pairLeft pairNumber
     pair-written n left h e f =
         let z : pairNumber x y (length out) ≡ 0 = passes (length out) 0 accepted refl ∙ when-false 20 _ (not-less (length out) (length (mergedBytes x y)) h) in
-        (yes _ _ _ (is-same _ 0 z) (ap written e), f ∙ left-new (mergeNumber x y) (mergedBytes x y) out z)
+        (yes _ _ _ (is-same _ 0 z) (ap wrote e), f ∙ left-new (mergeNumber x y) (mergedBytes x y) out z)
 
 -- ---- two files
 -- what the reader's refusal says
@@ -91,7 +91,7 @@ module _ (a b : List ℕ) where
   unfolding mergeAnswer mergeLeft fromFile systemInFile
   both-good out e f = (rw (e, f), rw (e, f))
 
-  pub both-taken : (x y : NormalRead) (out left : List ℕ) (told : Merging) → Taken a x → Taken b y
+  pub both-taken : (x y : NormalRead) (out left : List ℕ) (told : Merging) → AsRead a x → AsRead b y
       → (told ≡ pairAnswer (systemInFile a) (systemInFile b) (length out)) × (left ≡ pairLeft (systemInFile a) (systemInFile b) out)
       → (told ≡ mergeAnswer a b (length out)) × (left ≡ mergeLeft a b out)
   both-taken x y out left told t u e =

@@ -22,7 +22,7 @@ use Rattle.merge_put.specs.Parts.{normalOr, normalIn, systemInFile}
 use Rattle.byte_section.proofs.Walk.{by-judged}
 use Rattle.byte_section.proofs.Writing.{left-new}
 use Rattle.merge_put.proofs.Loaded.{front}
-use Rattle.merge.specs.Files.{written, inFile, refusing, mergedBytes, pairNumber, pairAnswer, pairLeft, mergeAnswer, mergeLeft}
+use Rattle.merge.specs.Files.{wrote, inFile, refusing, mergedBytes, pairNumber, pairAnswer, pairLeft, mergeAnswer, mergeLeft}
 use Rattle.merge.proofs.Outcomes.{pair-written, first-bad, second-bad, both-good}
 
 -- ---- files that are accepted
@@ -35,10 +35,10 @@ unfolding systemInFile
 holds-sound s e = accepted-sound s (normalIn s) e
 
 -- ---- what it says that a file was written
-never : {n m : ℕ} → written n ≡ refusing m → ⊥
+never : {n m : ℕ} → wrote n ≡ refusing m → ⊥
 never e = let z : _≡_ {A = ℕ} 0 1 = cc in omega arith
 
-never-in : {n k number place : ℕ} → written n ≡ inFile k number place → ⊥
+never-in : {n k number place : ℕ} → wrote n ≡ inFile k number place → ⊥
 never-in e = let z : _≡_ {A = ℕ} 0 1 = cc in omega arith
 
 -- of two systems
@@ -48,7 +48,7 @@ record Laid (x y : System) (out : List ℕ) (n : ℕ) : Type 0 where
   long : n ≡ length (normalBytes (mergedOf x y))
   whole : pairLeft x y out ≡ lay out 0 (normalBytes (mergedOf x y))
 
-pair-laid : (x y : System) (out : List ℕ) (n : ℕ) → pairAnswer x y (length out) ≡ written n → Laid x y out n
+pair-laid : (x y : System) (out : List ℕ) (n : ℕ) → pairAnswer x y (length out) ≡ wrote n → Laid x y out n
 unfolding pairAnswer pairLeft pairNumber mergedBytes
 pair-laid x y out n e =
     by-cases (same (pairNumber x y (length out)) 0)
@@ -62,7 +62,7 @@ pair-laid x y out n e =
     })
     (λ t. absurd (never (sym e ∙ sym (no _ _ _ t refl))))
   where
-    one : {n m : ℕ} → written n ≡ written m → n ≡ m
+    one : {n m : ℕ} → wrote n ≡ wrote m → n ≡ m
     one e = cc
 
 -- of two files: both are accepted, nothing refuses, the room's front is the merged file, and "A longer buffer keeps its rest."
@@ -79,7 +79,7 @@ pub record Written (a b out : List ℕ) (n : ℕ) : Type 0 where
   pub whole : mergeLeft a b out ≡ lay out 0 (normalBytes (mergedOf (systemInFile a) (systemInFile b)))
 
 written-both : (a b out : List ℕ) (n : ℕ) → readNormal a ≡ good (normalIn a) → readNormal b ≡ good (normalIn b)
-    → mergeAnswer a b (length out) ≡ written n → Written a b out n
+    → mergeAnswer a b (length out) ≡ wrote n → Written a b out n
 written-both a b out n e f w =
     let both = both-good a b out e f in
     let p = pair-laid (systemInFile a) (systemInFile b) out n (both .0 ∙ w) in
@@ -99,7 +99,7 @@ written-both a b out n e f w =
       whole = left;
     }
 
-pub written-file : (a b out : List ℕ) (n : ℕ) → mergeAnswer a b (length out) ≡ written n → Written a b out n
+pub written-file : (a b out : List ℕ) (n : ℕ) → mergeAnswer a b (length out) ≡ wrote n → Written a b out n
 written-file a b out n w =
     by-judged (readNormal a)
     (λ x e. by-judged (readNormal b)
@@ -110,7 +110,7 @@ written-file a b out n w =
 -- and the other way: a file is written where both are accepted, nothing refuses, and there is room
 pub written-where : (a b out : List ℕ) → readNormal a ≡ good (normalIn a) → readNormal b ≡ good (normalIn b) → mergeNumber (systemInFile a) (systemInFile b) ≡ 0
     → length (normalBytes (mergedOf (systemInFile a) (systemInFile b))) ≤ length out
-    → mergeAnswer a b (length out) ≡ written (length (normalBytes (mergedOf (systemInFile a) (systemInFile b))))
+    → mergeAnswer a b (length out) ≡ wrote (length (normalBytes (mergedOf (systemInFile a) (systemInFile b))))
 unfolding mergedBytes
 written-where a b out e f z h =
     sym (both-good a b out e f .0) ∙ sym (pair-written (systemInFile a) (systemInFile b) z out _ _ h refl refl .0)

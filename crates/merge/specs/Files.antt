@@ -16,7 +16,7 @@ use Rattle.merge.specs.declared.MergeAnswer.the-variants as Answers
 
 -- the length of the file that was written; a file that is refused (the first or the second), its number and place; or 20 to 24
 pub data Merging : Type 0 where
-  written : ℕ → Merging
+  wrote : ℕ → Merging
   inFile : ℕ → ℕ → ℕ → Merging
   refusing : ℕ → Merging
 
@@ -30,7 +30,7 @@ unfoldable pub pairNumber : System → System → ℕ → ℕ
 pairNumber x y room = writingNumber (mergeNumber x y) (mergedBytes x y) room
 
 unfoldable pub pairAnswer : System → System → ℕ → Merging
-pairAnswer x y room = pick (same (pairNumber x y room) 0) (written (length (mergedBytes x y))) (refusing (pairNumber x y room))
+pairAnswer x y room = pick (same (pairNumber x y room) 0) (wrote (length (mergedBytes x y))) (refusing (pairNumber x y room))
 
 unfoldable pub pairLeft : System → System → List ℕ → List ℕ
 pairLeft x y out = writtenIn (mergeNumber x y) (mergedBytes x y) out
@@ -55,7 +55,7 @@ mergeLeft a b out =
 
 -- ---- what the answer says
 abbrev pub toldMerge : MergeAnswer → Merging
-toldMerge (Answers.Is n) = written n
+toldMerge (Answers.Is n) = wrote n
 toldMerge (Answers.First r place) = inFile 1 (numberOf r) place
 toldMerge (Answers.Second r place) = inFile 2 (numberOf r) place
 toldMerge (Answers.Refused r) = refusing (numberOf r)

@@ -9,7 +9,7 @@ ghost use Prim.Native.Nat.{_≤_};
 ghost use lib.ListN.{length};
 ghost use Rattle.num_limits.specs.Capacities.{labelsMost};
 ghost use Rattle.merge_laws.specs.Merge.{mergeNumber};
-ghost use Rattle.merge_put.specs.Parts.{systemInFile, Taken, Joined, ArcsFit};
+ghost use Rattle.merge_put.specs.Parts.{systemInFile, AsRead, Joined, ArcsFit};
 ghost use Rattle.merge.specs.Files.{mergeAnswer, mergeLeft, toldMerge};
 ghost use Rattle.merge.specs.Pairs.{Merges};
 
@@ -33,7 +33,7 @@ fn merge_room(
     n: usize,
     out: &mut [u8],
 ) -> MergeAnswer
-    requires { ⌜ Taken (now a) x × Taken (now b) y ⌝ }
+    requires { ⌜ AsRead (now a) x × AsRead (now b) y ⌝ }
     requires { ⌜ ArcsFit (now a) (now b) m × Joined (now a) (now b) n (now left) (now right) ⌝ }
     requires { ⌜ (mergeNumber (systemInFile (now a)) (systemInFile (now b)) ≡ 0) × (n ≤ labelsMost) ⌝ }
     ensures { λ r. ⌜ Merges r (systemInFile (now (a .entry))) (systemInFile (now (b .entry))) (now (out .entry)) (now (out .exit)) ⌝ }
@@ -58,7 +58,7 @@ fn merge_agreed(
     n: usize,
     out: &mut [u8],
 ) -> MergeAnswer
-    requires { ⌜ Taken (now a) x × Taken (now b) y ⌝ }
+    requires { ⌜ AsRead (now a) x × AsRead (now b) y ⌝ }
     requires { ⌜ ArcsFit (now a) (now b) m × Joined (now a) (now b) n (now left) (now right) ⌝ }
     requires { ⌜ n ≤ labelsMost ⌝ }
     ensures { λ r. ⌜ Merges r (systemInFile (now (a .entry))) (systemInFile (now (b .entry))) (now (out .entry)) (now (out .exit)) ⌝ }
@@ -91,7 +91,7 @@ fn merge_labels(
     m: usize,
     out: &mut [u8],
 ) -> MergeAnswer
-    requires { ⌜ Taken (now a) x × Taken (now b) y × ArcsFit (now a) (now b) m ⌝ }
+    requires { ⌜ AsRead (now a) x × AsRead (now b) y × ArcsFit (now a) (now b) m ⌝ }
     ensures { λ r. ⌜ Merges r (systemInFile (now (a .entry))) (systemInFile (now (b .entry))) (now (out .entry)) (now (out .exit)) ⌝ }
 {
     let mut left: [usize; 1000] = [0; 1000];
@@ -105,7 +105,7 @@ fn merge_labels(
 
 // Two files that were read: 21, 22, else what follows.
 fn merge_read(a: &[u8], x: NormalRead, b: &[u8], y: NormalRead, out: &mut [u8]) -> MergeAnswer
-    requires { ⌜ Taken (now a) x × Taken (now b) y ⌝ }
+    requires { ⌜ AsRead (now a) x × AsRead (now b) y ⌝ }
     ensures { λ r. ⌜ Merges r (systemInFile (now (a .entry))) (systemInFile (now (b .entry))) (now (out .entry)) (now (out .exit)) ⌝ }
 {
     let m = merge_put::count_arcs(a, x, b, y);
@@ -120,7 +120,7 @@ fn merge_read(a: &[u8], x: NormalRead, b: &[u8], y: NormalRead, out: &mut [u8]) 
 
 // A first file that was read, and the second.
 fn merge_second(a: &[u8], x: NormalRead, b: &[u8], out: &mut [u8]) -> MergeAnswer
-    requires { ⌜ Taken (now a) x ⌝ }
+    requires { ⌜ AsRead (now a) x ⌝ }
     ensures { λ r. ⌜ (toldMerge r ≡ mergeAnswer (now (a .entry)) (now (b .entry)) (length (now (out .entry)))) × (now (out .exit) ≡ mergeLeft (now (a .entry)) (now (b .entry)) (now (out .entry))) ⌝ }
 {
     let y = norm_read::read(b);

@@ -19,11 +19,11 @@ use Rattle.merge_read.specs.Read.{keysAt}
 use Rattle.merge_laws.specs.Merge.{keysOf}
 use Rattle.merge_laws.proofs.Files.{stands-in}
 use Rattle.merge_laws.proofs.Written.{StandsIn, keys-stand}
-use Rattle.merge_put.specs.Parts.{normalOr, normalIn, systemInFile, Taken}
+use Rattle.merge_put.specs.Parts.{normalOr, normalIn, systemInFile, AsRead}
 use Rattle.norm_system.proofs.Sound.{SoundSystem}
 
 -- ---- from the reader's answer
-taken-of : (s : List ℕ) (r : NormalRead) (x : Normal) → readNormal s ≡ good x → toldNormalRead r ≡ shownNormal (good x) → Taken s r
+taken-of : (s : List ℕ) (r : NormalRead) (x : Normal) → readNormal s ≡ good x → toldNormalRead r ≡ shownNormal (good x) → AsRead s r
 unfolding systemInFile normalIn normalOr
 taken-of s r x e t =
     let is : normalIn s ≡ x = ap normalOr e in
@@ -36,7 +36,7 @@ taken-of s r x e t =
       totals = ap (λ d. d .totals) t ∙ ap (λ z. z .totals) (sym is);
     }
 
-pub taken : (s : List ℕ) (r : NormalRead) → toldNormalRead r ≡ shownNormal (readNormal s) → r .answer ≡ Read → Taken s r
+pub taken : (s : List ℕ) (r : NormalRead) → toldNormalRead r ≡ shownNormal (readNormal s) → r .answer ≡ Read → AsRead s r
 taken s r t e =
     by-judged (readNormal s)
     (λ x h. taken-of s r x h (t ∙ ap shownNormal h))
@@ -59,7 +59,7 @@ pub record Known (s : List ℕ) (r : NormalRead) : Type 0 where
   pub rights-end : r .rights + 8 * r .parameters ≤ length s
   pub totals-end : r .totals + 16 ≤ length s
 
-pub known : (s : List ℕ) (r : NormalRead) → Taken s r → Known s r
+pub known : (s : List ℕ) (r : NormalRead) → AsRead s r → Known s r
 unfolding systemInFile
 known s r t =
     let x = normalIn s in

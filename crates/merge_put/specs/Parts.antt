@@ -37,7 +37,7 @@ unfoldable pub systemInFile : List ℕ → System
 systemInFile s = normalIn s .holds
 
 -- bytes that are accepted, with the numbers that reading gave
-pub record Taken (s : List ℕ) (r : NormalRead) : Type 0 where
+pub record AsRead (s : List ℕ) (r : NormalRead) : Type 0 where
   pub is : readNormal s ≡ good (normalIn s)
   pub arcs : r .arcs ≡ length (systemInFile s .arcs)
   pub parameters : r .parameters ≡ length (systemInFile s .labels)

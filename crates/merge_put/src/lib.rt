@@ -14,13 +14,13 @@ ghost use Rattle.norm_kinds.specs.Kinds.{arcNumberBytes};
 ghost use Rattle.norm_kinds.specs.Bytes.{normalBytes};
 ghost use Rattle.merge_join.specs.Join.{union};
 ghost use Rattle.merge_laws.specs.Merge.{mergedOf, mergeNumber};
-ghost use Rattle.merge_put.specs.Parts.{systemInFile, Taken, Joined, ArcsFit, headBytes, middleBytes, lastBytes};
+ghost use Rattle.merge_put.specs.Parts.{systemInFile, AsRead, Joined, ArcsFit, headBytes, middleBytes, lastBytes};
 
 // ---- arcs and labels joined
 
 // How many arcs the two list, each counted once.
 pub fn count_arcs(a: &[u8], x: NormalRead, b: &[u8], y: NormalRead) -> usize
-    requires { ⌜ Taken (now a) x × Taken (now b) y ⌝ }
+    requires { ⌜ AsRead (now a) x × AsRead (now b) y ⌝ }
     ensures { λ r. ⌜ r ≡ length (union (systemInFile (now (a .entry)) .arcs) (systemInFile (now (b .entry)) .arcs)) ⌝ }
 {
     let mut us: [u64; ARCS_MOST] = [0; ARCS_MOST];
@@ -36,7 +36,7 @@ pub fn count_arcs(a: &[u8], x: NormalRead, b: &[u8], y: NormalRead) -> usize
 
 // The arcs that the two list, united, from a place of the room on.
 fn put_arcs(out: &mut [u8], at: usize, a: &[u8], x: NormalRead, b: &[u8], y: NormalRead)
-    requires { ⌜ Taken (now a) x × Taken (now b) y ⌝ }
+    requires { ⌜ AsRead (now a) x × AsRead (now b) y ⌝ }
     requires { ⌜ at + 4 * length (union (systemInFile (now a) .arcs) (systemInFile (now b) .arcs)) ≤ length (now out) ⌝ }
     ensures { λ _. ⌜ now (out .exit) ≡ lay (now (out .entry)) at (encoded arcNumberBytes (union (systemInFile (now (a .entry)) .arcs) (systemInFile (now (b .entry)) .arcs))) ⌝ }
 {
@@ -61,7 +61,7 @@ pub fn join_labels(
     left: &mut [usize],
     right: &mut [usize],
 ) -> usize
-    requires { ⌜ Taken (now a) x × Taken (now b) y ⌝ }
+    requires { ⌜ AsRead (now a) x × AsRead (now b) y ⌝ }
     requires { ⌜ (1000 ≤ length (now left)) × (1000 ≤ length (now right)) ⌝ }
     ensures { λ r. ⌜ Joined (now (a .entry)) (now (b .entry)) r (now (left .exit)) (now (right .exit)) ⌝ }
 {
@@ -88,7 +88,7 @@ fn put_heads(
     right: &[usize],
     n: usize,
 )
-    requires { ⌜ Taken (now a) x × Taken (now b) y ⌝ }
+    requires { ⌜ AsRead (now a) x × AsRead (now b) y ⌝ }
     requires { ⌜ ArcsFit (now a) (now b) m × Joined (now a) (now b) n (now left) (now right) ⌝ }
     requires { ⌜ (n ≤ labelsMost) × (8 + 4 * m + 24 * n ≤ length (now out)) ⌝ }
     ensures { λ _. ⌜ now (out .exit) ≡ lay (now (out .entry)) 0 (headBytes (mergedOf (systemInFile (now (a .entry))) (systemInFile (now (b .entry))))) ⌝ }
@@ -124,7 +124,7 @@ fn put_middle(
     right: &[usize],
     n: usize,
 )
-    requires { ⌜ Taken (now a) x × Taken (now b) y ⌝ }
+    requires { ⌜ AsRead (now a) x × AsRead (now b) y ⌝ }
     requires { ⌜ (mergeNumber (systemInFile (now a)) (systemInFile (now b)) ≡ 0) × Joined (now a) (now b) n (now left) (now right) ⌝ }
     requires { ⌜ at + 8 + 8 * tri n + 8 * n ≤ length (now out) ⌝ }
     ensures { λ _. ⌜ now (out .exit) ≡ lay (now (out .entry)) at (middleBytes (mergedOf (systemInFile (now (a .entry))) (systemInFile (now (b .entry))))) ⌝ }
@@ -159,7 +159,7 @@ fn put_middle(
 
 // The totals after their count, from a place of the room on.
 fn put_last(out: &mut [u8], at: usize, a: &[u8], x: NormalRead, b: &[u8], y: NormalRead)
-    requires { ⌜ Taken (now a) x × Taken (now b) y ⌝ }
+    requires { ⌜ AsRead (now a) x × AsRead (now b) y ⌝ }
     requires { ⌜ at + 20 ≤ length (now out) ⌝ }
     ensures { λ _. ⌜ now (out .exit) ≡ lay (now (out .entry)) at (lastBytes (mergedOf (systemInFile (now (a .entry))) (systemInFile (now (b .entry))))) ⌝ }
 {
@@ -182,7 +182,7 @@ pub fn put_file(
     right: &[usize],
     n: usize,
 )
-    requires { ⌜ Taken (now a) x × Taken (now b) y ⌝ }
+    requires { ⌜ AsRead (now a) x × AsRead (now b) y ⌝ }
     requires { ⌜ ArcsFit (now a) (now b) m × Joined (now a) (now b) n (now left) (now right) ⌝ }
     requires { ⌜ (mergeNumber (systemInFile (now a)) (systemInFile (now b)) ≡ 0) × (n ≤ labelsMost) × (36 + 4 * m + 32 * n + 8 * tri n ≤ length (now out)) ⌝ }
     ensures { λ _. ⌜ now (out .exit) ≡ lay (now (out .entry)) 0 (normalBytes (mergedOf (systemInFile (now (a .entry))) (systemInFile (now (b .entry))))) ⌝ }

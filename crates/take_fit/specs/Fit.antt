@@ -21,8 +21,8 @@ use Rattle.take_fit.specs.declared.Fitted.{Fitted}
 use Rattle.take_fit.specs.declared.Fitted.the-variants as Fits
 use Rattle.take_fit.specs.declared.TimeAnswer.{TimeAnswer}
 use Rattle.take_fit.specs.declared.TimeAnswer.the-variants as Times
-use Rattle.take_fit.specs.declared.Found.{Found}
-use Rattle.take_fit.specs.declared.Found.the-variants as Founds
+use Rattle.take_fit.specs.declared.Seat.{Seat}
+use Rattle.take_fit.specs.declared.Seat.the-variants as Seats
 
 -- what is kept of a record: where it stands in the state, its time, its sigma and residual, and its type's step and F
 unfoldable pub fitOf : Frame → List ℕ → Fit
@@ -57,9 +57,9 @@ abbrev pub toldFit : Fitted → Answered Fit
 toldFit (Fits.Is x) = given x
 toldFit (Fits.Refused r) = refused (numberOf r)
 
-abbrev pub toldFound : Found → Answered ℕ
-toldFound (Founds.At i) = given i
-toldFound Founds.Nowhere = refused 10
+abbrev pub toldSeat : Seat → Answered ℕ
+toldSeat (Seats.At i) = given i
+toldSeat Seats.Nowhere = refused 10
 
 -- ---- what the parts of the judging promise each other, of any bytes that the record was decoded from
 -- a record r of a listed station and of a type

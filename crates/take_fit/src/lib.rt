@@ -21,7 +21,7 @@ ghost use Rattle.unit_measure.specs.Measures.{reading};
 ghost use Rattle.unit_convert.specs.Units.{toldUnit};
 ghost use Rattle.unit_residual.specs.Residuals.{residualOf};
 ghost use Rattle.take_laws.specs.Taking.{frame};
-ghost use Rattle.take_fit.specs.Fit.{Listed, Decoded, fitted, timed, toldFit, toldTime, toldFound};
+ghost use Rattle.take_fit.specs.Fit.{Listed, Decoded, fitted, timed, toldFit, toldTime, toldSeat};
 
 // A record that fits its heading: its row and column in the state, its time, its sigma and residual, its type's step and F.
 pub struct Fit {
@@ -45,23 +45,23 @@ pub enum TimeAnswer {
 }
 
 // Where a station stands among the listed ones.
-enum Found {
+enum Seat {
     At(usize),
     Nowhere,
 }
 
 // Where a number stands in a list of stations' numbers.
-fn find(numbers: &[u16], number: u16) -> Found
-    ensures { λ r. ⌜ toldFound r ≡ findFrom number 0 (now (numbers .entry)) ⌝ }
+fn find(numbers: &[u16], number: u16) -> Seat
+    ensures { λ r. ⌜ toldSeat r ≡ findFrom number 0 (now (numbers .entry)) ⌝ }
 {
     let mut i: usize = 0;
     while i < numbers.len() {
         if numbers[i] == number {
-            return Found::At(i);
+            return Seat::At(i);
         }
         i += 1;
     }
-    Found::Nowhere
+    Seat::Nowhere
 }
 
 // The residual of a record: 11, 15, 16, or r.
@@ -127,11 +127,11 @@ fn fit_record(settings: Settings, numbers: &[u16], corrections: &[i32], r: Recor
     ensures { λ a. ⌜ Decoded settings (now (numbers .entry)) (now (corrections .entry)) r a ⌝ }
 {
     match find(numbers, r.station) {
-        Found::At(place) => match unit_types::row_of(r.kind) {
+        Seat::At(place) => match unit_types::row_of(r.kind) {
             RowAnswer::Is(row) => fit_listed(settings, place, corrections[place], row, r),
             RowAnswer::Refused(e) => Fitted::Refused(e),
         },
-        Found::Nowhere => Fitted::Refused(Refusal::NoStation),
+        Seat::Nowhere => Fitted::Refused(Refusal::NoStation),
     }
 }
 

@@ -10,6 +10,13 @@ use Rattle.arc_read.proofs.Parts.{heading-read, few-labels}
 use Rattle.arc_read.proofs.read_heading.Statement.{statement}
 use Rattle.arc_read.proofs.read_heading.Tie as tie
 
+-- Views: from one place of the code to an earlier one. A statement put between two of them changes one line here.
+abbrev settings-of-labels : tie.After-read-labels → tie.After-settings
+settings-of-labels c = c .before .before
+
+abbrev labels-of-stations : tie.After-read-stations → tie.After-read-labels
+labels-of-stations c = c .before .before .before .before .before
+
 read-settings-requires : tie.Need-read-settings-requires
 read-settings-requires c κs = search needs
 
@@ -49,23 +56,25 @@ heading-refused-requires-3 c κs = search needs
 returns : tie.Need-returns
 unfolding headingPart
 returns c =
-    let a = (sym (c .before .before .before .before .before .before .before .before .before .before .before .before .before .read-settings .ensures) ∙ ap toldSettings (c .before .before .before .before .before .before .before .before .before .before .before .settings .given .1)) in
-    let b = (sym (c .before .before .before .before .before .before .before .before .before .read-labels .ensures) ∙ slots-read _ _ (c .before .before .before .before .before .before .answer .given .1)) in
-    let d = sym (c .before .before .before .before .read-stations .ensures) ∙ slots-read _ _ (c .before .last .given .1) in
+    let stations = c .before .before .before .before in let labels = labels-of-stations stations in let settings = settings-of-labels labels in
+    let a = (sym (settings .before .before .read-settings .ensures) ∙ ap toldSettings (settings .settings .given .1)) in
+    let b = (sym (labels .read-labels .ensures) ∙ slots-read _ _ (stations .before .before .answer .given .1)) in
+    let d = sym (stations .read-stations .ensures) ∙ slots-read _ _ (c .before .last .given .1) in
     (heading-read _ refl ∙ sym (then-good _ _ a ∙ then-good _ _ b ∙ then-good _ _ d), few-labels _ _ _ b)
 
 returns-2 : tie.Need-returns-2
 unfolding headingPart
 returns-2 c =
-    let a = (sym (c .before .before .before .before .before .before .before .before .before .before .before .before .before .before .read-settings .ensures) ∙ ap toldSettings (c .before .before .before .before .before .before .before .before .before .before .before .before .settings .given .1)) in
-    let b = (sym (c .before .before .before .before .before .before .before .before .before .before .read-labels .ensures) ∙ slots-read _ _ (c .before .before .before .before .before .before .before .answer .given .1)) in
-    let d = sym (c .before .before .before .before .before .read-stations .ensures) ∙ slots-refused _ _ (c .before .before .last2 .given .1) in
+    let stations = c .before .before .before .before .before in let labels = labels-of-stations stations in let settings = settings-of-labels labels in
+    let a = (sym (settings .before .before .read-settings .ensures) ∙ ap toldSettings (settings .settings .given .1)) in
+    let b = (sym (labels .read-labels .ensures) ∙ slots-read _ _ (stations .before .before .answer .given .1)) in
+    let d = sym (stations .read-stations .ensures) ∙ slots-refused _ _ (c .before .before .last2 .given .1) in
     (c .heading-refused .ensures .0 ∙ sym (then-good _ _ a ∙ then-good _ _ b ∙ then-bad _ _ d), c .heading-refused .ensures .1)
 
 returns-3 : tie.Need-returns-3
 unfolding headingPart
 returns-3 c =
-    let a = (sym (c .before .before .before .before .before .before .before .before .before .read-settings .ensures) ∙ ap toldSettings (c .before .before .before .before .before .before .before .settings .given .1)) in
+    let a = (sym (settings-of-labels (c .before .before .before .before .before) .before .before .read-settings .ensures) ∙ ap toldSettings (c .before .before .before .before .before .before .before .settings .given .1)) in
     let b = sym (c .before .before .before .before .before .read-labels .ensures) ∙ slots-refused _ _ (c .before .before .answer2 .given .1) in
     (c .heading-refused2 .ensures .0 ∙ sym (then-good _ _ a ∙ then-bad _ _ b), c .heading-refused2 .ensures .1)
 

@@ -14,6 +14,10 @@ Inv-loop h matrix₀ rights₀ file start answers₀ n u₀ i₀ matrix rights a
 abbrev μ-loop : tie.MeasureT-loop
 μ-loop h matrix₀ rights₀ file start answers₀ n u₀ i₀ matrix rights answers u i = n - i
 
+-- Views: from one place of the code to an earlier one. A statement put between two of them changes one line here.
+abbrev inside-of-taken : tie.After-take Inv-loop μ-loop → tie.In-loop Inv-loop μ-loop
+inside-of-taken c = c .before .before .before .before
+
 loop-holds : tie.Need-loop-holds Inv-loop μ-loop
 loop-holds c = search needs
 
@@ -30,13 +34,13 @@ slice-write-answers : tie.Need-slice-write-answers Inv-loop μ-loop
 slice-write-answers c = search needs
 
 add-i : tie.Need-add-i Inv-loop μ-loop
-add-i c = record { fits = omega (arith, c .before .before .before .before .before .before .before .before .loop-test .taken, c .before .before .before .before .before .before .before .before .before .loop .inv .1 .0) }
+add-i c = record { fits = omega (arith, inside-of-taken (c .before .before .before .before) .loop-test .taken, inside-of-taken (c .before .before .before .before) .before .loop .inv .1 .0) }
 
 loop-less : tie.Need-loop-less Inv-loop μ-loop
 loop-less c = search needs
 
 loop-again : tie.Need-loop-again Inv-loop μ-loop
-loop-again c = (search needs, (search needs, (rw length-set (c .before .before .before .before .before .before .before .before .before .loop .inv .1 .1 .0), (search needs, search needs))))
+loop-again c = (search needs, (search needs, (rw length-set (inside-of-taken (c .before .before .before .before) .before .loop .inv .1 .1 .0), (search needs, search needs))))
 
 same-length : tie.Need-same-length Inv-loop μ-loop
 same-length c = search needs

@@ -8,6 +8,10 @@ use Rattle.byte_words.proofs.Words.{lay-two}
 use Rattle.byte_write.proofs.put_octet.Statement.{statement}
 use Rattle.byte_write.proofs.put_octet.Tie as tie
 
+-- Views: from one place of the code to an earlier one. A statement put between two of them changes one line here.
+abbrev start-of-low : tie.After-put-quad → tie.Start
+start-of-low c = c .before .before .before
+
 put-quad-requires : tie.Need-put-quad-requires
 put-quad-requires c κs = search needs
 
@@ -22,7 +26,7 @@ same-length c = search needs
 
 returns : tie.Need-returns
 returns c =
-    let a = c .before .before .before .before .before .before .before .before .before .args in
+    let a = start-of-low (c .before .before .before .before .before .before) .args in
     c .before .before .put-quad2 .ensures
     ∙ ap (λ m. lay m (a .at + 4) (bytesOf 4 (a .v / 4294967296))) (c .before .before .before .before .before .before .put-quad .ensures)
     ∙ lay-two 4 4 (a .s .now) (a .at) (a .v)

@@ -8,6 +8,10 @@ use Rattle.byte_words.proofs.Words.{lay-two}
 use Rattle.byte_write.proofs.put_quad.Statement.{statement}
 use Rattle.byte_write.proofs.put_quad.Tie as tie
 
+-- Views: from one place of the code to an earlier one. A statement put between two of them changes one line here.
+abbrev start-of-low : tie.After-put-pair → tie.Start
+start-of-low c = c .before .before .before
+
 put-pair-requires : tie.Need-put-pair-requires
 put-pair-requires c κs = search needs
 
@@ -22,7 +26,7 @@ same-length c = search needs
 
 returns : tie.Need-returns
 returns c =
-    let a = c .before .before .before .before .before .before .before .before .before .args in
+    let a = start-of-low (c .before .before .before .before .before .before) .args in
     c .before .before .put-pair2 .ensures
     ∙ ap (λ m. lay m (a .at + 2) (bytesOf 2 (a .v / 65536))) (c .before .before .before .before .before .before .put-pair .ensures)
     ∙ lay-two 2 2 (a .s .now) (a .at) (a .v)

@@ -7,6 +7,10 @@ use borrow.Author.Needs.{needs}
 use Rattle.call_files.proofs.give_arc.Statement.{statement}
 use Rattle.call_files.proofs.give_arc.Tie as tie
 
+-- Views: from one place of the code to an earlier one. A statement put between two of them changes one line here.
+abbrev roomy-of-heading : tie.After-put-heading → tie.Then1
+roomy-of-heading c = c .before .before
+
 enum-known-answer : tie.Need-enum-known-answer
 enum-known-answer c = search needs
 
@@ -35,7 +39,9 @@ same-length-2 : tie.Need-same-length-2
 same-length-2 c = search needs
 
 returns-2 : tie.Need-returns-2
-returns-2 c = read-done _ _ _ _ (shown-good _ (ap toldAnswer (c .before .before .before .before .before .before .before .before .before .before .enum-told .given .1))) (sym (c .before .before .before .before .before .before .before .before .before .is-roomy .ensures) ∙ c .before .before .before .before .before .before .before .before .if1 .taken) (c .before .before .before .before .before .before .put-heading .ensures) (c .before .before .give-two .ensures)
+returns-2 c =
+    let heading = c .before .before .before .before .before .before in let roomy = roomy-of-heading heading in
+    read-done _ _ _ _ (shown-good _ (ap toldAnswer (roomy .before .before .enum-told .given .1))) (sym (roomy .before .is-roomy .ensures) ∙ roomy .if1 .taken) (heading .put-heading .ensures) (c .before .before .give-two .ensures)
 
 returns-3 : tie.Need-returns-3
 returns-3 c = read-short _ _ _ _ (shown-good _ (ap toldAnswer (c .before .before .enum-told .given .1))) (sym (c .before .is-roomy .ensures) ∙ c .if1 .left)

@@ -10,6 +10,13 @@ use borrow.Author.Needs.{needs}
 use Rattle.call_files.proofs.write_arc.Statement.{statement}
 use Rattle.call_files.proofs.write_arc.Tie as tie
 
+-- Views: from one place of the code to an earlier one. A statement put between two of them changes one line here.
+abbrev start-of-heading : tie.After-heading-in → tie.Start
+start-of-heading c = c .before .before .before .before .before
+
+abbrev heading-of-has-heading : tie.After-has-heading → tie.After-heading-in
+heading-of-has-heading c = c .before .before .before
+
 returns : tie.Need-returns
 returns c = arc-short _ _ _ (omega arith)
 
@@ -30,10 +37,10 @@ same-length c = search needs
 
 returns-2 : tie.Need-returns-2
 returns-2 c =
-    let a = c .before .before .before .before .before .before .before .before .before .before .before .before .before .args in
-    let h = c .before .before .before .before .before .before .before .before .heading-in .ensures in
-    let counted = ap (λ k. allowed k (a .run .now)) (sym h) ∙ sym (c .before .before .before .before .before .before .before .is-allowed .ensures) ∙ c .before .before .before .before .before .before .if2 .taken in
-    let there = sym (c .before .before .before .before .before .has-heading .ensures) ∙ c .before .before .before .before .if3 .taken in
+    let has-heading = c .before .before .before .before .before in let heading = heading-of-has-heading has-heading in let a = start-of-heading heading .args in
+    let h = heading .heading-in .ensures in
+    let counted = ap (λ k. allowed k (a .run .now)) (sym h) ∙ sym (has-heading .before .before .is-allowed .ensures) ∙ has-heading .before .if2 .taken in
+    let there = sym (has-heading .has-heading .ensures) ∙ c .before .before .before .before .if3 .taken in
     let put = arc-whole _ _ (a .out .now) (omega arith) counted there in (
       c .before .before .write .ensures .0 ∙ ap (λ k. writeArc k (a .run .now) (length (a .out .now))) h ∙ put .0,
       c .before .before .write .ensures .1 ∙ ap (λ k. arcLeftIn k (a .run .now) (a .out .now)) h ∙ put .1,
@@ -41,14 +48,14 @@ returns-2 c =
 
 returns-3 : tie.Need-returns-3
 returns-3 c =
-    let a = c .before .before .before .before .before .before .before .before .before .args in
+    let a = start-of-heading (heading-of-has-heading (c .before)) .args in
     let h = c .before .before .before .before .heading-in .ensures in
     let counted = ap (λ k. allowed k (a .run .now)) (sym h) ∙ sym (c .before .before .before .is-allowed .ensures) ∙ c .before .before .if2 .taken in
     arc-cut _ _ _ (omega arith) counted (sym (c .before .has-heading .ensures) ∙ c .if3 .left)
 
 returns-4 : tie.Need-returns-4
 returns-4 c =
-    let a = c .before .before .before .before .before .before .before .args in
+    let a = start-of-heading (c .before .before) .args in
     let h = c .before .before .heading-in .ensures in
     arc-many _ _ _ (omega arith) (ap (λ k. allowed k (a .run .now)) (sym h) ∙ sym (c .before .is-allowed .ensures) ∙ c .if2 .left)
 

@@ -7,6 +7,10 @@ use Rattle.decimal.proofs.Laying.{part-to-end}
 use Rattle.decimal.proofs.put_digits.Statement.{statement}
 use Rattle.decimal.proofs.put_digits.Tie as tie
 
+-- Views: from one place of the code to an earlier one. A statement put between two of them changes one line here.
+abbrev digits-of-text : tie.After-put-text → tie.After-digits
+digits-of-text c = c .before .before .before .before .before .before
+
 digits-requires : tie.Need-digits-requires
 digits-requires c κs = search needs
 
@@ -31,7 +35,7 @@ same-length-2 c = search needs
 returns : tie.Need-returns
 returns c =
     let t = c .before .before .put-text in
-    let d = c .before .before .before .before .before .before .before .before .digits in
+    let d = digits-of-text (c .before .before) .digits in
     t .ensures ∙ ap (laid _ _) (part-to-end (d .result) (d .last .1 .0) ∙ d .ensures .1)
 
 pub put-digits-spec : {M : Type 1} → statement M

@@ -23,6 +23,10 @@ module _ (s : List ℕ) (at n : ℕ) (z : ℤ) (is : n ≡ natAbs z) where
   plain : {u : List ℕ} {m : ℕ} → ltZ z (pos 0) ≡ false → (u, m) ≡ laid s at (decimal n) → (u, m) ≡ laid s at (signedDecimal z)
   plain above f = f ∙ ap (λ x. laid s at (decimal x)) is ∙ ap (laid s at) (signed-above z above)
 
+-- Views: from one place of the code to an earlier one. A statement put between two of them changes one line here.
+abbrev negative-of-sign : tie.After-put-text → tie.Then1
+negative-of-sign c = c .before .before .before
+
 magnitude-requires : tie.Need-magnitude-requires
 magnitude-requires c κs = search needs
 
@@ -43,7 +47,7 @@ same-length c = search needs
 
 returns : tie.Need-returns
 returns c =
-    let i = c .before .before .before .before .before .before .before .before .before in
+    let i = negative-of-sign (c .before .before .before .before .before .before) in
     let a = i .before .before .before .args in
     let word = toZ-ofZ w64 (a .z) (i .before .before .before .fits .z) in
     let below : ltZ (a .z) (pos 0) ≡ true = rw word at (i .if1 .taken) in

@@ -13,8 +13,15 @@ use borrow.Author.Needs.{needs}
 use Rattle.list.proofs.put_listing.Statement.{statement}
 use Rattle.list.proofs.put_listing.Tie as tie
 
+-- Views: from one place of the code to an earlier one. A statement put between two of them changes one line here.
+abbrev start-of-read : tie.After-read → tie.Start
+start-of-read c = c .before .before .before .before
+
+abbrev read-of-refused : tie.After-known-told → tie.After-read
+read-of-refused c = c .before .before .before .before
+
 -- the file is an arc
-was-read : (c : tie.After-put-arc-arg) → readArc (c .before .before .before .before .before .before .before .before .args .file .now) ≡ good (arcOf (c .before .before .before .before .read .result))
+was-read : (c : tie.After-put-arc-arg) → readArc (start-of-read (c .before .before .before .before) .args .file .now) ≡ good (arcOf (c .before .before .before .before .read .result))
 was-read c = read-good _ _ (c .before .before .before .before .read .ensures) (c .before .enum-told .given .1)
 
 put-refused-requires : tie.Need-put-refused-requires
@@ -37,7 +44,7 @@ sub-put-arc c = run-start _ _ (was-read c)
 
 part-put-arc-start : tie.Need-part-put-arc-start
 part-put-arc-start c =
-    let h : c .before .before .before .before .read .result .start ≤ length (c .before .before .before .before .before .before .before .before .args .file .now) = run-start _ _ (was-read c) in search needs
+    let h : c .before .before .before .before .read .result .start ≤ length (start-of-read (c .before .before .before .before) .args .file .now) = run-start _ _ (was-read c) in search needs
 
 part-put-arc-end : tie.Need-part-put-arc-end
 part-put-arc-end c = search needs
@@ -71,7 +78,7 @@ same-length-3 : tie.Need-same-length-3
 same-length-3 c = search needs
 
 returns-3 : tie.Need-returns-3
-returns-3 c = laid-as _ _ (c .before .before .put-refused2 .ensures) (listing-bad _ _ _ _ (c .before .before .before .number .ensures) (omega arith) (read-bad _ _ _ _ (c .before .before .before .before .before .before .before .before .before .read .ensures) (c .before .before .before .before .before .before .answer .given .1)))
+returns-3 c = laid-as _ _ (c .before .before .put-refused2 .ensures) (listing-bad _ _ _ _ (c .before .before .before .number .ensures) (omega arith) (read-bad _ _ _ _ (read-of-refused (c .before .before .before .before .before) .read .ensures) (c .before .before .before .before .before .before .answer .given .1)))
 
 pub put-listing-spec : {M : Type 1} → statement M
 put-listing-spec =

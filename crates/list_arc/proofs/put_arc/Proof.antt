@@ -5,6 +5,25 @@ use borrow.Author.Needs.{needs}
 use Rattle.list_arc.proofs.put_arc.Statement.{statement}
 use Rattle.list_arc.proofs.put_arc.Tie as tie
 
+-- Views: from one place of the code to an earlier one. A statement put between two of them changes one line here.
+abbrev start-of-arc : tie.After-put-one → tie.Start
+start-of-arc c = c .before .before .before .before .before .before .before
+
+abbrev arc-of-count : tie.After-put-one2 → tie.After-put-one
+arc-of-count c = c .before .before .before .before .before
+
+abbrev count-of-parameters : tie.After-put-parameters → tie.After-put-one2
+count-of-parameters c = c .before .before .before .before
+
+abbrev parameters-of-records : tie.After-put-two → tie.After-put-parameters
+parameters-of-records c = c .before .before .before .before .before .before .before
+
+abbrev records-of-tallies : tie.After-put-tallies → tie.After-put-two
+records-of-tallies c = c .before .before .before .before
+
+abbrev tallies-of-square : tie.After-put-one3 → tie.After-put-tallies
+tallies-of-square c = c .before .before .before .before .before
+
 slice-aggregate-put-one : tie.Need-slice-aggregate-put-one
 slice-aggregate-put-one c = search needs
 
@@ -49,9 +68,9 @@ same-length c = search needs
 
 returns : tie.Need-returns
 returns c =
-    let a = c .before .before .before .before .before .before .before .before .before .before .before .before .before .before .before .before .before .before .before .before .before .before .before .before .before .before .before .before .before .before .before .before .before .before .args in
+    let square = c .before .before in let tallies = tallies-of-square square in let records = records-of-tallies tallies in let parameters = parameters-of-records records in let count = count-of-parameters parameters in let arc = arc-of-count count in let a = start-of-arc arc .args in
     arc-laid (a .room .now) _ (a .count) (a .told .now) (a .matrix .now) (a .rights .now) (a .square)
-    (c .before .before .before .before .before .before .before .before .before .before .before .before .tally .ensures) (c .before .before .before .before .before .before .before .before .before .before .before .before .before .before .before .before .before .before .before .before .before .before .before .before .before .before .before .put-one .ensures) (c .before .before .before .before .before .before .before .before .before .before .before .before .before .before .before .before .before .before .before .before .before .before .put-one2 .ensures) (c .before .before .before .before .before .before .before .before .before .before .before .before .before .before .before .before .before .before .put-parameters .ensures) (c .before .before .before .before .before .before .before .before .before .before .before .put-two .ensures) (c .before .before .before .before .before .before .before .put-tallies .ensures) (c .before .before .put-one3 .ensures)
+    (records .before .tally .ensures) (arc .put-one .ensures) (count .put-one2 .ensures) (parameters .put-parameters .ensures) (records .put-two .ensures) (tallies .put-tallies .ensures) (square .put-one3 .ensures)
 
 pub put-arc-spec : {M : Type 1} → statement M
 put-arc-spec =

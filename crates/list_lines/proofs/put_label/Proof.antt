@@ -5,6 +5,10 @@ use borrow.Author.Needs.{needs}
 use Rattle.list_lines.proofs.put_label.Statement.{statement}
 use Rattle.list_lines.proofs.put_label.Tie as tie
 
+-- Views: from one place of the code to an earlier one. A statement put between two of them changes one line here.
+abbrev kind-of-gap : tie.After-put-text → tie.After-put-decimal
+kind-of-gap c = c .before .before .before .before .before
+
 cast-put-decimal : tie.Need-cast-put-decimal
 cast-put-decimal c = search needs
 
@@ -27,7 +31,7 @@ same-length : tie.Need-same-length
 same-length c = search needs
 
 returns : tie.Need-returns
-returns c = label-laid _ _ _ (c .before .before .before .before .before .before .before .before .before .before .before .before .put-decimal .ensures) (c .before .before .before .before .before .before .before .put-text .ensures) (c .before .before .put-decimal2 .ensures)
+returns c = label-laid _ _ _ (kind-of-gap (c .before .before .before .before .before .before .before) .put-decimal .ensures) (c .before .before .before .before .before .before .before .put-text .ensures) (c .before .before .put-decimal2 .ensures)
 
 pub put-label-spec : {M : Type 1} → statement M
 put-label-spec =

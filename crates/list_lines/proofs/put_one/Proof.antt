@@ -5,6 +5,10 @@ use borrow.Author.Needs.{needs}
 use Rattle.list_lines.proofs.put_one.Statement.{statement}
 use Rattle.list_lines.proofs.put_one.Tie as tie
 
+-- Views: from one place of the code to an earlier one. A statement put between two of them changes one line here.
+abbrev text-of-number : tie.After-put-decimal → tie.After-put-text
+text-of-number c = c .before .before .before .before
+
 put-text-requires : tie.Need-put-text-requires
 put-text-requires c κs = search needs
 
@@ -21,7 +25,7 @@ same-length : tie.Need-same-length
 same-length c = search needs
 
 returns : tie.Need-returns
-returns c = one-laid _ _ _ _ (c .before .before .before .before .before .before .before .before .before .before .before .put-text .ensures) (c .before .before .before .before .before .before .before .put-decimal .ensures) (c .before .before .put-text2 .ensures)
+returns c = one-laid _ _ _ _ (text-of-number (c .before .before .before .before .before .before .before) .put-text .ensures) (c .before .before .before .before .before .before .before .put-decimal .ensures) (c .before .before .put-text2 .ensures)
 
 pub put-one-spec : {M : Type 1} → statement M
 put-one-spec =

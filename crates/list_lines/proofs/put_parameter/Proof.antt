@@ -10,6 +10,16 @@ use borrow.Author.Needs.{needs}
 use Rattle.list_lines.proofs.put_parameter.Statement.{statement}
 use Rattle.list_lines.proofs.put_parameter.Tie as tie
 
+-- Views: from one place of the code to an earlier one. A statement put between two of them changes one line here.
+abbrev start-of-label : tie.After-put-label → tie.Start
+start-of-label c = c .before .before .before
+
+abbrev label-of-seen : tie.After-put-seen → tie.After-put-label
+label-of-seen c = c .before .before .before .before
+
+abbrev seen-of-sums : tie.After-put-sums → tie.After-put-seen
+seen-of-sums c = c .before .before .before .before
+
 put-label-requires : tie.Need-put-label-requires
 put-label-requires c κs = search needs
 
@@ -24,10 +34,11 @@ same-length c = search needs
 
 returns : tie.Need-returns
 returns c =
-    let a = c .before .before .before .before .before .before .before .before .before .before .before .before .before .args in
-    let f = c .before .before .before .before .before .before .before .before .before .before .before .before .before .fits in
+    let sums = c .before .before in let seen = seen-of-sums sums in let label = label-of-seen seen in let start = start-of-label label in
+    let a = start .args in
+    let f = start .fits in
     parameter-laid _ _ _ _ (a .diagonal) (a .right) (ap not (zero-bits (a .diagonal) (f .diagonal))) (toZ-ofZ w64 (a .diagonal) (f .diagonal)) (toZ-ofZ w64 (a .right) (f .right))
-    (c .before .before .before .before .before .before .before .before .before .before .put-label .ensures) (c .before .before .before .before .before .before .put-seen .ensures) (c .before .before .put-sums .ensures)
+    (label .put-label .ensures) (seen .put-seen .ensures) (sums .put-sums .ensures)
 
 pub put-parameter-spec : {M : Type 1} → statement M
 put-parameter-spec =

@@ -27,6 +27,13 @@ Inv-loop room₀ start matrix rights h n at₀ i₀ room at i =
 abbrev μ-loop : tie.MeasureT-loop
 μ-loop room₀ start matrix rights h n at₀ i₀ room at i = n - i
 
+-- Views: from one place of the code to an earlier one. A statement put between two of them changes one line here.
+abbrev start-of-turn : tie.At-loop Inv-loop μ-loop → tie.Start Inv-loop μ-loop
+start-of-turn c = c .before .before
+
+abbrev turn-of-put : tie.After-put-parameter Inv-loop μ-loop → tie.At-loop Inv-loop μ-loop
+turn-of-put c = c .before .before .before .before .before .before .before
+
 loop-holds : tie.Need-loop-holds Inv-loop μ-loop
 unfolding labelsOf rest
 loop-holds c = (search needs, simp length-map at (c .before .good .1 .1 .0 .1 .1 .1 .1 .1 .0 .1 .0 .1), refl, refl)
@@ -64,13 +71,14 @@ loop-less c = search needs
 
 loop-again : tie.Need-loop-again Inv-loop μ-loop
 loop-again c =
-    let l = c .before .before .before .before .before .before .before .before .before .loop in
-    let a = c .before .before .before .before .before .before .before .before .before .before .before .args in
-    let line = row-laid (l .room) (l .at) _ (a .matrix .now) (a .rights .now) (l .i) (c .before .before .before .before .before .before .place .ensures)
-    (toZ-ofZ w64 _ (search needs)) (toZ-ofZ w64 _ (search needs)) (c .before .before .put-parameter .ensures) in (
+    let put = c .before .before in let turn = turn-of-put put in let start = start-of-turn turn in
+    let l = turn .loop in
+    let a = start .args in
+    let line = row-laid (l .room) (l .at) _ (a .matrix .now) (a .rights .now) (l .i) (put .before .before .before .before .place .ensures)
+    (toZ-ofZ w64 _ (search needs)) (toZ-ofZ w64 _ (search needs)) (put .put-parameter .ensures) in (
       search needs,
       search needs,
-      c .before .before .put-parameter .kept .0 ∙ l .inv .2,
+      put .put-parameter .kept .0 ∙ l .inv .2,
       lines-turn _ _ _ _ line (parameters-turn (a .matrix .now) (a .rights .now) _ _ (l .i) (omega arith) (omega arith)) (l .inv .3),
     )
 

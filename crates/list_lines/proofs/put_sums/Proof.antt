@@ -7,6 +7,19 @@ use borrow.Author.Needs.{needs}
 use Rattle.list_lines.proofs.put_sums.Statement.{statement}
 use Rattle.list_lines.proofs.put_sums.Tie as tie
 
+-- Views: from one place of the code to an earlier one. A statement put between two of them changes one line here.
+abbrev start-of-diagonal : tie.After-put-signed → tie.Start
+start-of-diagonal c = c .before .before .before
+
+abbrev diagonal-of-gap : tie.After-put-text → tie.After-put-signed
+diagonal-of-gap c = c .before .before .before .before .before
+
+abbrev gap-of-right : tie.After-put-signed2 → tie.After-put-text
+gap-of-right c = c .before .before .before .before
+
+abbrev right-of-end : tie.After-put-text2 → tie.After-put-signed2
+right-of-end c = c .before .before .before .before .before
+
 put-signed-requires : tie.Need-put-signed-requires
 put-signed-requires c κs = search needs
 
@@ -30,10 +43,11 @@ same-length c = search needs
 
 returns : tie.Need-returns
 returns c =
-    let a = c .before .before .before .before .before .before .before .before .before .before .before .before .before .before .before .before .before .before .before .args in
-    let f = c .before .before .before .before .before .before .before .before .before .before .before .before .before .before .before .before .before .before .before .fits in
+    let end = c .before .before in let right = right-of-end end in let gap = gap-of-right right in let diagonal = diagonal-of-gap gap in let start = start-of-diagonal diagonal in
+    let a = start .args in
+    let f = start .fits in
     sums-laid _ _ (a .diagonal) (a .right) (toZ-ofZ w64 (a .diagonal) (f .diagonal)) (toZ-ofZ w64 (a .right) (f .right))
-    (c .before .before .before .before .before .before .before .before .before .before .before .before .before .before .before .before .put-signed .ensures) (c .before .before .before .before .before .before .before .before .before .before .before .put-text .ensures) (c .before .before .before .before .before .before .before .put-signed2 .ensures) (c .before .before .put-text2 .ensures)
+    (diagonal .put-signed .ensures) (gap .put-text .ensures) (right .put-signed2 .ensures) (end .put-text2 .ensures)
 
 pub put-sums-spec : {M : Type 1} → statement M
 put-sums-spec =

@@ -5,6 +5,10 @@ use borrow.Author.Needs.{needs}
 use Rattle.list_lines.proofs.put_two.Statement.{statement}
 use Rattle.list_lines.proofs.put_two.Tie as tie
 
+-- Views: from one place of the code to an earlier one. A statement put between two of them changes one line here.
+abbrev text-of-number : tie.After-put-decimal → tie.After-put-text
+text-of-number c = c .before .before .before .before
+
 put-text-requires : tie.Need-put-text-requires
 put-text-requires c κs = search needs
 
@@ -18,7 +22,7 @@ same-length : tie.Need-same-length
 same-length c = search needs
 
 returns : tie.Need-returns
-returns c = two-laid _ _ _ _ _ _ (c .before .before .before .before .before .before .before .before .before .before .put-text .ensures) (c .before .before .before .before .before .before .put-decimal .ensures) (c .before .before .put-one .ensures)
+returns c = two-laid _ _ _ _ _ _ (text-of-number (c .before .before .before .before .before .before) .put-text .ensures) (c .before .before .before .before .before .before .put-decimal .ensures) (c .before .before .put-one .ensures)
 
 pub put-two-spec : {M : Type 1} → statement M
 put-two-spec =

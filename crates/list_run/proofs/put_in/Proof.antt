@@ -8,20 +8,24 @@ use borrow.Author.Needs.{needs}
 use Rattle.list_run.proofs.put_in.Statement.{statement}
 use Rattle.list_run.proofs.put_in.Tie as tie
 
+-- Views: from one place of the code to an earlier one. A statement put between two of them changes one line here.
+abbrev start-of-triangle : tie.After-triangle → tie.Start
+start-of-triangle c = c .before .before .before .before
+
 triangle-requires : tie.Need-triangle-requires
 triangle-requires c κs = omega (arith, sound _ (c .before .before .before .pre .0 .0) .few)
 
 slice-relend-prefix-put-run : tie.Need-slice-relend-prefix-put-run
-slice-relend-prefix-put-run c = omega (arith, c .before .triangle .ensures .0, sums-fit _ (sound _ (c .before .before .before .before .before .pre .0 .0) .few))
+slice-relend-prefix-put-run c = omega (arith, c .before .triangle .ensures .0, sums-fit _ (sound _ (start-of-triangle (c .before) .pre .0 .0) .few))
 
 slice-aggregate-put-run : tie.Need-slice-aggregate-put-run
-slice-aggregate-put-run c = simp length-take (omega (arith, c .before .before .triangle .ensures .0, sums-fit _ (sound _ (c .before .before .before .before .before .before .pre .0 .0) .few)))
+slice-aggregate-put-run c = simp length-take (omega (arith, c .before .before .triangle .ensures .0, sums-fit _ (sound _ (start-of-triangle (c .before .before) .pre .0 .0) .few)))
 
 slice-relend-prefix-put-run-2 : tie.Need-slice-relend-prefix-put-run-2
-slice-relend-prefix-put-run-2 c = omega (arith, sound _ (c .before .before .before .before .before .before .pre .0 .0) .few)
+slice-relend-prefix-put-run-2 c = omega (arith, sound _ (start-of-triangle (c .before .before) .pre .0 .0) .few)
 
 slice-aggregate-put-run-2 : tie.Need-slice-aggregate-put-run-2
-slice-aggregate-put-run-2 c = simp length-take (omega (arith, sound _ (c .before .before .before .before .before .before .before .pre .0 .0) .few))
+slice-aggregate-put-run-2 c = simp length-take (omega (arith, sound _ (start-of-triangle (c .before .before .before) .pre .0 .0) .few))
 
 slice-relend-prefix-put-run-3 : tie.Need-slice-relend-prefix-put-run-3
 slice-relend-prefix-put-run-3 c = search needs
@@ -31,7 +35,7 @@ slice-aggregate-put-run-3 c = simp length-take (omega arith)
 
 put-run-requires : tie.Need-put-run-requires
 put-run-requires c κs =
-    let q = c .before .before .before .before .before .before .before .before .pre in
+    let q = start-of-triangle (c .before .before .before .before) .pre in
     let few = sound _ (q .0 .0) .few in
     ((q .0 .0, q .0 .1), (simp length-take (omega (arith, c .before .before .before .before .triangle .ensures .0, sums-fit _ few)), simp length-take (omega (arith, few)), simp length-take (omega arith)))
 

@@ -8,6 +8,16 @@ use borrow.Author.Needs.{needs}
 use Rattle.list_run.proofs.put_run.Statement.{statement}
 use Rattle.list_run.proofs.put_run.Tie as tie
 
+-- Views: from one place of the code to an earlier one. A statement put between two of them changes one line here.
+abbrev start-of-started : tie.After-start → tie.Start
+start-of-started c = c .before .before .before .before .before .before
+
+abbrev started-of-taken : tie.After-take-run → tie.After-start
+started-of-taken c = c .before .before .before .before .before .before .before
+
+abbrev taken-of-tally : tie.After-tally → tie.After-take-run
+taken-of-tally c = c .before .before .before .before .before
+
 start-requires : tie.Need-start-requires
 start-requires c κs = search needs
 
@@ -16,9 +26,10 @@ take-run-requires c κs = search needs
 
 put-arc-requires : tie.Need-put-arc-requires
 put-arc-requires c κs =
-    let k = c .before .before .before .before .before .before .before .before .before .take-run .kept in
-    let j = c .before .before .before .before .before .before .before .before .before .before .before .before .before .before .before .before .start .kept in
-    let q = c .before .before .before .before .before .before .before .before .before .before .before .before .before .before .before .before .before .before .before .before .before .before .pre in
+    let taken = taken-of-tally (c .before .before .before .before) in let started = started-of-taken taken in let start = start-of-started started in
+    let k = taken .take-run .kept in
+    let j = started .start .kept in
+    let q = start .pre in
     (sound _ (q .0 .0) .few, omega (arith, k, j), omega (arith, k, j))
 
 same-length : tie.Need-same-length
@@ -35,10 +46,11 @@ same-length-4 c = search needs
 
 returns : tie.Need-returns
 returns c =
-    let a = c .before .before .before .before .before .before .before .before .before .before .before .before .before .before .before .before .before .before .before .before .before .before .before .before .before .args in
-    let q = c .before .before .before .before .before .before .before .before .before .before .before .before .before .before .before .before .before .before .before .before .before .before .before .before .before .pre in
-    let s = c .before .before .before .before .before .before .before .before .before .before .before .before .before .before .before .before .before .before .before .start in
-    let t = c .before .before .before .before .before .before .before .before .before .before .before .before .take-run in
+    let taken = taken-of-tally (c .before .before .before .before .before .before .before) in let started = started-of-taken taken in let start = start-of-started started in
+    let a = start .args in
+    let q = start .pre in
+    let s = started .start in
+    let t = taken .take-run in
     laid-as _ _ (c .before .before .put-arc .ensures) (taken-lines (a .h) (a .matrix .now) (a .rights .now) (a .run .now) (a .told .now) (a .count) (q .0 .0) (q .0 .1) (q .1 .0) (q .1 .1) (q .1 .2)
     _ _ _ _ _ (s .ensures .1) (t .ensures .1 .0) (t .ensures .1 .1))
 

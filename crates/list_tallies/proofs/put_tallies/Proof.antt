@@ -18,6 +18,10 @@ Inv-loop room₀ start told at₀ k₀ room at k =
 abbrev μ-loop : tie.MeasureT-loop
 μ-loop room₀ start told at₀ k₀ room at k = 20 - k
 
+-- Views: from one place of the code to an earlier one. A statement put between two of them changes one line here.
+abbrev start-of-turn : tie.At-loop Inv-loop μ-loop → tie.Start Inv-loop μ-loop
+start-of-turn c = c .before .before .before
+
 loop-holds : tie.Need-loop-holds Inv-loop μ-loop
 loop-holds c = (omega arith, omega arith, refl, refl)
 
@@ -33,7 +37,7 @@ loop-less c = search needs
 loop-again : tie.Need-loop-again Inv-loop μ-loop
 loop-again c =
     let l = c .before .before .before .before .before .loop in
-    let told = c .before .before .before .before .before .before .before .before .args .told .now in
+    let told = start-of-turn (c .before .before .before .before .before) .args .told .now in
     (omega arith, omega arith, c .before .before .put-tally .kept .0 ∙ l .inv .2, lines-turn _ _ _ _ (c .before .before .put-tally .ensures) (tallies-turn told (l .k) (omega arith)) (l .inv .3))
 
 least-requires : tie.Need-least-requires Inv-loop μ-loop

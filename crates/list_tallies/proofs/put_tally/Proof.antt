@@ -7,6 +7,10 @@ use borrow.Author.Needs.{needs}
 use Rattle.list_tallies.proofs.put_tally.Statement.{statement}
 use Rattle.list_tallies.proofs.put_tally.Tie as tie
 
+-- Views: from one place of the code to an earlier one. A statement put between two of them changes one line here.
+abbrev start-of-tally : tie.After-tally → tie.Start
+start-of-tally c = c .before .before .before
+
 tally-requires : tie.Need-tally-requires
 tally-requires c κs = search needs
 
@@ -32,7 +36,7 @@ same-length c = search needs
 
 returns-2 : tie.Need-returns-2
 returns-2 c =
-    let a = c .before .before .before .before .before .before .before .before .before .before .args in
+    let a = start-of-tally (c .before .before .before .before .before .before .before) .args in
     laid-as _ _ (c .before .before .put-two .ensures) (tally-some (a .told .now) (a .k) (c .before .before .before .before .before .before .before .tally .ensures) (c .before .before .before .before .before .before .if1 .left))
 
 pub put-tally-spec : {M : Type 1} → statement M

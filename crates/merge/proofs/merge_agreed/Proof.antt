@@ -7,6 +7,10 @@ use borrow.Author.Needs.{needs}
 use Rattle.merge.proofs.merge_agreed.Statement.{statement}
 use Rattle.merge.proofs.merge_agreed.Tie as tie
 
+-- Views: from one place of the code to an earlier one. A statement put between two of them changes one line here.
+abbrev start-of-known : tie.After-struct-known2 → tie.Start
+start-of-known c = c .before .before .before .before .before .before .before
+
 kx : (c : tie.Start) → Known (c .args .a .now) (c .args .x)
 kx c = known _ _ (c .pre .0 .0)
 
@@ -20,19 +24,19 @@ add-begin : tie.Need-add-begin
 add-begin c = omega (arith, kx (c .before .before .before .before .before .before) .few-arcs)
 
 mul-start : tie.Need-mul-start
-mul-start c = omega (arith, ky (c .before .before .before .before .before .before .before) .few-arcs)
+mul-start c = omega (arith, ky (start-of-known c) .few-arcs)
 
 add-start : tie.Need-add-start
-add-start c = omega (arith, ky (c .before .before .before .before .before .before .before) .few-arcs)
+add-start c = omega (arith, ky (start-of-known c) .few-arcs)
 
 agree-requires : tie.Need-agree-requires
 agree-requires c κs =
-    let s = c .before .before .before .before .before .before .before in
+    let s = start-of-known c in
     ((kx s .labels-end, ky s .labels-end), (s .pre .1 .0 .1 .left-long, s .pre .1 .0 .1 .right-long))
 
 merge-room-requires : tie.Need-merge-room-requires
 merge-room-requires c κs =
-    let s = c .before .before .before .before .before .before .before .before .before .before in
+    let s = start-of-known (c .before .before .before) in
     (s .pre .0, (s .pre .1 .0, (none-refuses _ _ (kx s) _ _ (ky s) _ (s .pre .1 .0 .0) _ _ _ (s .pre .1 .0 .1) (s .pre .1 .1) _ (c .before .before .agree .ensures) (c .before .if1 .taken), s .pre .1 .1)))
 
 same-length : tie.Need-same-length
@@ -43,7 +47,7 @@ returns c = search needs
 
 returns-2 : tie.Need-returns-2
 returns-2 c =
-    let s = c .before .before .before .before .before .before .before .before .before in
+    let s = start-of-known (c .before .before) in
     answers-24 _ _ (kx s) _ _ (ky s) _ (s .pre .1 .0 .0) _ _ _ (s .pre .1 .0 .1) (s .pre .1 .1) _ (c .before .agree .ensures) _ (c .if1 .left)
 
 pub merge-agreed-spec : {M : Type 1} → statement M

@@ -6,6 +6,10 @@ use borrow.Author.Needs.{needs}
 use Rattle.merge.proofs.merge_labels.Statement.{statement}
 use Rattle.merge.proofs.merge_labels.Tie as tie
 
+-- Views: from one place of the code to an earlier one. A statement put between two of them changes one line here.
+abbrev start-of-joined : tie.After-join-labels → tie.Start
+start-of-joined c = c .before .before .before .before .before .before
+
 kx : (c : tie.Start) → Known (c .args .a .now) (c .args .x)
 kx c = known _ _ (c .pre .0)
 
@@ -23,7 +27,7 @@ join-labels-requires c κs = search needs
 
 returns : tie.Need-returns
 returns c =
-    let s = c .before .before .before .before .before .before .before .before .before in
+    let s = start-of-joined (c .before .before .before) in
     answers-23 _ _ (kx s) _ _ (ky s) _ (s .pre .2) _ _ _ (c .before .before .before .join-labels .ensures) _ (c .if1 .taken)
 
 slice-aggregate-merge-agreed : tie.Need-slice-aggregate-merge-agreed

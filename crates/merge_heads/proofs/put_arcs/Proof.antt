@@ -28,6 +28,13 @@ Inv-loop out₀ at count xs left ys right k₀ i₀ out k i =
 abbrev μ-loop : tie.MeasureT-loop
 μ-loop out₀ at count xs left ys right k₀ i₀ out k i = count - i
 
+-- Views: from one place of the code to an earlier one. A statement put between two of them changes one line here.
+abbrev start-of-turn : tie.At-loop Inv-loop μ-loop → tie.Start Inv-loop μ-loop
+start-of-turn c = c .before .before .before .before .before .before
+
+abbrev turn-of-number : tie.After-number-in Inv-loop μ-loop → tie.At-loop Inv-loop μ-loop
+turn-of-number c = c .before .before .before .before
+
 loop-holds : tie.Need-loop-holds Inv-loop μ-loop
 loop-holds c = (omega arith, omega arith, refl, rw sub-zero)
 
@@ -44,10 +51,10 @@ shared-slice-read-number-in-2 : tie.Need-shared-slice-read-number-in-2 Inv-loop 
 shared-slice-read-number-in-2 c = search needs
 
 number-in-requires : tie.Need-number-in-requires Inv-loop μ-loop
-number-in-requires c κs = c .before .before .before .before .before .before .before .before .before .pre .1 .1 (c .before .before .before .loop .i) (omega arith)
+number-in-requires c κs = start-of-turn (c .before .before .before) .pre .1 .1 (c .before .before .before .loop .i) (omega arith)
 
 put-arc-requires : tie.Need-put-arc-requires Inv-loop μ-loop
-put-arc-requires c κs = rw (c .before .number-in .ensures) (number-short _ _ _ _ (c .before .before .before .before .before .before .before .before .before .before .before .pre .0 .0) (c .before .before .before .before .before .before .before .before .before .before .before .pre .0 .1))
+put-arc-requires c κs = rw (c .before .number-in .ensures) (number-short _ _ _ _ (start-of-turn (turn-of-number (c .before)) .pre .0 .0) (start-of-turn (turn-of-number (c .before)) .pre .0 .1))
 
 add-k : tie.Need-add-k Inv-loop μ-loop
 add-k c = search needs
@@ -61,9 +68,10 @@ loop-less c = search needs
 loop-again : tie.Need-loop-again Inv-loop μ-loop
 unfolding numberAt
 loop-again c =
-    let l = c .before .before .before .before .before .before .before .before .loop in
-    let s = c .before .before .before .before .before .before .before .before .before .before .before .before .before .before .args in
-    let is : c .before .before .before .before .number-in .result ≡ numberAt (s .xs .now) (s .left .now) (s .ys .now) (s .right .now) (l .i) = c .before .before .before .before .number-in .ensures in
+    let number = c .before .before .before .before in let turn = turn-of-number number in let start = start-of-turn turn in
+    let l = turn .loop in
+    let s = start .args in
+    let is : number .number-in .result ≡ numberAt (s .xs .now) (s .left .now) (s .ys .now) (s .right .now) (l .i) = number .number-in .ensures in
     let e : c .before .before .put-arc .last .0 ≡ lay (l .out) (l .k) (arcNumberBytes (numberAt (s .xs .now) (s .left .now) (s .ys .now) (s .right .now) (l .i))) =
     c .before .before .put-arc .ensures ∙ ap (λ v. lay (l .out) (l .k) (arcNumberBytes v)) is in (
       omega arith,

@@ -46,16 +46,18 @@ write-i64-requires c κs = search needs
 same-length : tie.Need-same-length
 same-length c = search needs
 
+-- Each `let` of a place leads from a later one to an earlier one; they stand here since `rw` takes no view.
 returns : tie.Need-returns
 unfolding normalLabelBytes
 returns c =
     let sixth = c .before .before in
-    let fifth = c .before .before .before .before .before .before .before in
-    let fourth = c .before .before .before .before .before .before .before .before .before .before .before in
-    let third = c .before .before .before .before .before .before .before .before .before .before .before .before .before .before .before in
-    let second = c .before .before .before .before .before .before .before .before .before .before .before .before .before .before .before .before .before .before .before in
-    let first = c .before .before .before .before .before .before .before .before .before .before .before .before .before .before .before .before .before .before .before .before .before .before .before in
-    let l = c .before .before .before .before .before .before .before .before .before .before .before .before .before .before .before .before .before .before .before .before .before .before .before .before .before .before .args .l in
+    let fifth = sixth .before .before .before .before .before in
+    let fourth = fifth .before .before .before .before in
+    let third = fourth .before .before .before .before in
+    let second = third .before .before .before .before in
+    let first = second .before .before .before .before in
+    let start = first .before .before .before in
+    let l = start .args .l in
     let back = toZ-ofZ w64 (l .estimate) (record { sfits = sixth .before .struct-told .given .1 .1 .1 .1 .0 .1 }) in
     rw (sixth .write-i64 .ensures, fifth .write-u323 .ensures, fourth .write-u322 .ensures, third .write-u32 .ensures, second .write-u162 .ensures, first .write-u16 .ensures, back)
     (lay-append _ _ _ _ _ (simp length-bytesOf (omega arith))

@@ -27,6 +27,13 @@ Inv-loop out₀ at count a start n left b begin m right k₀ i₀ out k i =
 abbrev μ-loop : tie.MeasureT-loop
 μ-loop out₀ at count a start n left b begin m right k₀ i₀ out k i = count - i
 
+-- Views: from one place of the code to an earlier one. A statement put between two of them changes one line here.
+abbrev start-of-turn : tie.At-loop Inv-loop μ-loop → tie.Start Inv-loop μ-loop
+start-of-turn c = c .before .before .before .before .before .before
+
+abbrev turn-of-label : tie.After-label-in Inv-loop μ-loop → tie.At-loop Inv-loop μ-loop
+turn-of-label c = c .before .before .before .before
+
 loop-holds : tie.Need-loop-holds Inv-loop μ-loop
 loop-holds c = (omega arith, omega arith, refl, rw sub-zero)
 
@@ -43,7 +50,9 @@ shared-slice-read-label-in-2 : tie.Need-shared-slice-read-label-in-2 Inv-loop μ
 shared-slice-read-label-in-2 c = search needs
 
 label-in-requires : tie.Need-label-in-requires Inv-loop μ-loop
-label-in-requires c κs = (c .before .before .before .before .before .before .before .before .before .pre .0 .0, c .before .before .before .before .before .before .before .before .before .pre .0 .1, c .before .before .before .before .before .before .before .before .before .pre .1 .1 (c .before .before .before .loop .i) (omega arith))
+label-in-requires c κs =
+    let turn = c .before .before .before in let start = start-of-turn turn in
+    (start .pre .0 .0, start .pre .0 .1, start .pre .1 .1 (turn .loop .i) (omega arith))
 
 put-label-requires : tie.Need-put-label-requires Inv-loop μ-loop
 put-label-requires c κs = search needs
@@ -60,10 +69,11 @@ loop-less c = search needs
 loop-again : tie.Need-loop-again Inv-loop μ-loop
 unfolding labelOfUnion
 loop-again c =
-    let l = c .before .before .before .before .before .before .before .before .loop in
-    let s = c .before .before .before .before .before .before .before .before .before .before .before .before .before .before .args in
-    let is : c .before .before .before .before .label-in .result ≡ labelOfUnion (s .a .now) (s .start) (s .n) (s .left .now) (s .b .now) (s .begin) (s .right .now) (l .i) =
-    c .before .before .before .before .label-in .ensures in
+    let label = c .before .before .before .before in let turn = turn-of-label label in let start = start-of-turn turn in
+    let l = turn .loop in
+    let s = start .args in
+    let is : label .label-in .result ≡ labelOfUnion (s .a .now) (s .start) (s .n) (s .left .now) (s .b .now) (s .begin) (s .right .now) (l .i) =
+    label .label-in .ensures in
     let e : c .before .before .put-label .last .0 ≡ lay (l .out) (l .k) (normalLabelBytes (labelOfUnion (s .a .now) (s .start) (s .n) (s .left .now) (s .b .now) (s .begin) (s .right .now) (l .i))) =
     c .before .before .put-label .ensures ∙ ap (λ v. lay (l .out) (l .k) (normalLabelBytes v)) is in (
       omega arith,

@@ -8,6 +8,16 @@ use Rattle.merge_put.proofs.Steps.{file-put}
 use Rattle.merge_put.proofs.put_file.Statement.{statement}
 use Rattle.merge_put.proofs.put_file.Tie as tie
 
+-- Views: from one place of the code to an earlier one. A statement put between two of them changes one line here.
+abbrev start-of-heads : tie.After-put-heads → tie.Start
+start-of-heads c = c .before .before .before .before .before .before .before
+
+abbrev heads-of-middle : tie.After-put-middle → tie.After-put-heads
+heads-of-middle c = c .before .before .before .before
+
+abbrev middle-of-last : tie.After-put-last → tie.After-put-middle
+middle-of-last c = c .before .before .before .before .before
+
 kx : (c : tie.Start) → Known (c .args .a .now) (c .args .x)
 kx c = known _ _ (c .pre .0 .0)
 
@@ -33,7 +43,7 @@ add-middle-2 c = search needs
 
 put-middle-requires : tie.Need-put-middle-requires
 put-middle-requires c κs =
-    let p = c .before .before .before .before .before .before .before .before .before .before .pre in
+    let p = start-of-heads (c .before .before .before) .pre in
     (p .0, ((p .1 .1 .0, p .1 .0 .1), omega arith))
 
 add-last : tie.Need-add-last
@@ -62,10 +72,10 @@ same-length c = search needs
 
 returns : tie.Need-returns
 returns c =
-    let s = c .before .before .before .before .before .before .before .before .before .before .before .before .before .before .before .before .before .before in
+    let last = c .before .before in let middle = middle-of-last last in let heads = heads-of-middle middle in let s = start-of-heads heads in
     let p = s .pre in
-    file-put _ _ (kx s) _ _ (ky s) _ _ _ (p .1 .0 .1) _ (p .1 .0 .0) _ _ _ _ _ _ refl (omega (arith, c .before .before .before .before .triangle .ensures .0))
-    (c .before .before .before .before .before .before .before .before .before .before .before .put-heads .ensures) (c .before .before .before .before .before .before .before .put-middle .ensures) (c .before .before .put-last .ensures)
+    file-put _ _ (kx s) _ _ (ky s) _ _ _ (p .1 .0 .1) _ (p .1 .0 .0) _ _ _ _ _ _ refl (omega (arith, last .before .before .triangle .ensures .0))
+    (heads .put-heads .ensures) (middle .put-middle .ensures) (last .put-last .ensures)
 
 pub put-file-spec : {M : Type 1} → statement M
 put-file-spec =

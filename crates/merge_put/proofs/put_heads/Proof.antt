@@ -8,6 +8,22 @@ use borrow.Author.Needs.{needs}
 use Rattle.merge_put.proofs.put_heads.Statement.{statement}
 use Rattle.merge_put.proofs.put_heads.Tie as tie
 
+-- Views: from one place of the code to an earlier one. A statement put between two of them changes one line here.
+abbrev start-of-arc-count : tie.After-write-u32 → tie.Start
+start-of-arc-count c = c .before .before .before .before .before .before .before
+
+abbrev arc-count-of-arcs : tie.After-put-arcs → tie.After-write-u32
+arc-count-of-arcs c = c .before .before .before .before
+
+abbrev arcs-of-label-count : tie.After-write-u322 → tie.After-put-arcs
+arcs-of-label-count c = c .before .before .before .before
+
+abbrev start-of-label-count : tie.After-write-u322 → tie.Start
+start-of-label-count c = start-of-arc-count (arc-count-of-arcs (arcs-of-label-count c))
+
+abbrev label-count-of-labels : tie.After-put-labels → tie.After-write-u322
+label-count-of-labels c = c .before .before .before .before .before .before
+
 kx : (c : tie.Start) → Known (c .args .a .now) (c .args .x)
 kx c = known _ _ (c .pre .0 .0)
 
@@ -39,24 +55,24 @@ add-put-labels : tie.Need-add-put-labels
 add-put-labels c = search needs
 
 mul-put-labels : tie.Need-mul-put-labels
-mul-put-labels c = omega (arith, kx (c .before .before .before .before .before .before .before .before .before .before .before .before .before .before .before .before .before .before .before) .few-arcs)
+mul-put-labels c = omega (arith, kx (start-of-label-count (c .before .before .before .before)) .few-arcs)
 
 add-put-labels-2 : tie.Need-add-put-labels-2
-add-put-labels-2 c = omega (arith, kx (c .before .before .before .before .before .before .before .before .before .before .before .before .before .before .before .before .before .before .before) .few-arcs)
+add-put-labels-2 c = omega (arith, kx (start-of-label-count (c .before .before .before .before)) .few-arcs)
 
 mul-put-labels-2 : tie.Need-mul-put-labels-2
-mul-put-labels-2 c = omega (arith, ky (c .before .before .before .before .before .before .before .before .before .before .before .before .before .before .before .before .before .before .before .before) .few-arcs)
+mul-put-labels-2 c = omega (arith, ky (start-of-label-count (c .before .before .before .before .before)) .few-arcs)
 
 add-put-labels-3 : tie.Need-add-put-labels-3
-add-put-labels-3 c = omega (arith, ky (c .before .before .before .before .before .before .before .before .before .before .before .before .before .before .before .before .before .before .before .before) .few-arcs)
+add-put-labels-3 c = omega (arith, ky (start-of-label-count (c .before .before .before .before .before)) .few-arcs)
 
 put-labels-requires : tie.Need-put-labels-requires
 put-labels-requires c κs =
-    let k = kx (c .before .before .before .before .before .before .before .before .before .before .before .before .before .before .before .before .before .before .before .before) in
-    let l = ky (c .before .before .before .before .before .before .before .before .before .before .before .before .before .before .before .before .before .before .before .before) in
-    let j = c .before .before .before .before .before .before .before .before .before .before .before .before .before .before .before .before .before .before .before .before .pre .1 .0 .1 in (
+    let k = kx (start-of-label-count (c .before .before .before .before .before)) in
+    let l = ky (start-of-label-count (c .before .before .before .before .before)) in
+    let j = start-of-label-count (c .before .before .before .before .before) .pre .1 .0 .1 in (
       (k .labels-end, l .labels-end),
-      ((j .left-long, j .right-long, omega (arith, c .before .before .before .before .before .before .before .before .before .before .before .before .before .before .before .before .before .before .before .before .pre .1 .1 .1)), labels-somewhere _ _ k _ _ l _ _ _ j),
+      ((j .left-long, j .right-long, omega (arith, start-of-label-count (c .before .before .before .before .before) .pre .1 .1 .1)), labels-somewhere _ _ k _ _ l _ _ _ j),
     )
 
 same-length : tie.Need-same-length
@@ -64,10 +80,10 @@ same-length c = search needs
 
 returns : tie.Need-returns
 returns c =
-    let s = c .before .before .before .before .before .before .before .before .before .before .before .before .before .before .before .before .before .before .before .before .before .before .before in
+    let labels = c .before .before in let label-count = label-count-of-labels labels in let arcs = arcs-of-label-count label-count in let arc-count = arc-count-of-arcs arcs in let s = start-of-arc-count arc-count in
     let p = s .pre in
     heads-put _ _ (kx s) _ _ (ky s) _ _ _ (p .1 .0 .1) _ (p .1 .0 .0) _ _ _ _ _
-    (c .before .before .before .before .before .before .before .before .before .before .before .before .before .before .before .before .write-u32 .ensures) (c .before .before .before .before .before .before .before .before .before .before .before .before .put-arcs .ensures) (c .before .before .before .before .before .before .before .before .write-u322 .ensures) (c .before .before .put-labels .ensures)
+    (arc-count .write-u32 .ensures) (arcs .put-arcs .ensures) (label-count .write-u322 .ensures) (labels .put-labels .ensures)
 
 pub put-heads-spec : {M : Type 1} → statement M
 put-heads-spec =

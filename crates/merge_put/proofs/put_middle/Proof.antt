@@ -11,6 +11,28 @@ use borrow.Author.Needs.{needs}
 use Rattle.merge_put.proofs.put_middle.Statement.{statement}
 use Rattle.merge_put.proofs.put_middle.Tie as tie
 
+-- Views: from one place of the code to an earlier one. A statement put between two of them changes one line here.
+abbrev start-of-sums : tie.After-triangle → tie.Start
+start-of-sums c = c .before .before .before .before .before .before
+
+abbrev sums-of-sum-count : tie.After-write-u32 → tie.After-triangle
+sums-of-sum-count c = c .before .before
+
+abbrev sum-count-of-columns : tie.After-put-columns → tie.After-write-u32
+sum-count-of-columns c = c .before .before .before .before
+
+abbrev columns-of-right-count : tie.After-write-u322 → tie.After-put-columns
+columns-of-right-count c = c .before .before .before .before
+
+abbrev sums-of-right-count : tie.After-write-u322 → tie.After-triangle
+sums-of-right-count c = sums-of-sum-count (sum-count-of-columns (columns-of-right-count c))
+
+abbrev start-of-right-count : tie.After-write-u322 → tie.Start
+start-of-right-count c = start-of-sums (sums-of-right-count c)
+
+abbrev right-count-of-rights : tie.After-put-sums → tie.After-write-u322
+right-count-of-rights c = c .before .before .before .before
+
 kx : (c : tie.Start) → Known (c .args .a .now) (c .args .x)
 kx c = known _ _ (c .pre .0 .0)
 
@@ -34,7 +56,7 @@ add-put-columns c = search needs
 
 put-columns-requires : tie.Need-put-columns-requires
 put-columns-requires c κs =
-    let s = c .before .before .before .before .before .before .before .before .before .before .before in
+    let s = start-of-sums (sums-of-sum-count (c .before .before .before)) in
     let k = kx s in
     let l = ky s in
     let j = s .pre .1 .0 .1 in
@@ -53,7 +75,7 @@ add-next-2 : tie.Need-add-next-2
 add-next-2 c = search needs
 
 cast-write-u32-2 : tie.Need-cast-write-u32-2
-cast-write-u32-2 c = omega (arith, few (c .before .before .before .before .before .before .before .before .before .before .before .before .before .before .before))
+cast-write-u32-2 c = omega (arith, few (start-of-sums (sums-of-sum-count (sum-count-of-columns (c .before .before .before)))))
 
 write-u32-requires-2 : tie.Need-write-u32-requires-2
 write-u32-requires-2 c κs = search needs
@@ -63,13 +85,12 @@ add-put-sums c = search needs
 
 put-sums-requires : tie.Need-put-sums-requires
 put-sums-requires c κs =
-    let s = c .before .before .before .before .before .before .before .before .before .before .before .before .before .before .before .before .before .before .before in
-    let k = kx s in
-    let l = ky s in
-    let j = s .pre .1 .0 .1 in
-    let small = rights-small _ _ k _ _ l (s .pre .1 .0 .0) in (
+    let k = kx (start-of-right-count (c .before .before .before)) in
+    let l = ky (start-of-right-count (c .before .before .before)) in
+    let j = start-of-right-count (c .before .before .before) .pre .1 .0 .1 in
+    let small = rights-small _ _ k _ _ l (start-of-right-count (c .before .before .before) .pre .1 .0 .0) in (
       (k .rights-end, l .rights-end),
-      (small, (j .left-long, j .right-long, omega (arith, c .before .before .before .before .before .before .before .before .before .before .before .before .before .triangle .ensures .0))),
+      (small, (j .left-long, j .right-long, omega (arith, sums-of-right-count (c .before .before .before) .triangle .ensures .0))),
     )
 
 same-length : tie.Need-same-length
@@ -77,9 +98,9 @@ same-length c = search needs
 
 returns : tie.Need-returns
 returns c =
-    let s = c .before .before .before .before .before .before .before .before .before .before .before .before .before .before .before .before .before .before .before .before .before .before in
-    middle-put _ _ (kx s) _ _ (ky s) _ _ _ (s .pre .1 .0 .1) _ _ _ _ _ _ _ _ (c .before .before .before .before .before .before .before .before .before .before .before .before .before .before .before .before .triangle .ensures .0) refl
-    (c .before .before .before .before .before .before .before .before .before .before .before .before .before .before .write-u32 .ensures) (c .before .before .before .before .before .before .before .before .before .before .put-columns .ensures) (c .before .before .before .before .before .before .write-u322 .ensures) (c .before .before .put-sums .ensures)
+    let rights = c .before .before in let right-count = right-count-of-rights rights in let columns = columns-of-right-count right-count in let sum-count = sum-count-of-columns columns in let sums = sums-of-sum-count sum-count in let s = start-of-sums sums in
+    middle-put _ _ (kx s) _ _ (ky s) _ _ _ (s .pre .1 .0 .1) _ _ _ _ _ _ _ _ (sums .triangle .ensures .0) refl
+    (sum-count .write-u32 .ensures) (columns .put-columns .ensures) (right-count .write-u322 .ensures) (rights .put-sums .ensures)
 
 pub put-middle-spec : {M : Type 1} → statement M
 put-middle-spec =

@@ -13,6 +13,10 @@ use borrow.Author.Needs.{needs}
 use Rattle.merge_sums.proofs.put_column.Statement.{statement}
 use Rattle.merge_sums.proofs.put_column.Tie as tie
 
+-- Views: from one place of the code to an earlier one. A statement put between two of them changes one line here.
+abbrev start-of-column : tie.After-column-at → tie.Start
+start-of-column c = c .before .before .before .before .before .before .before
+
 mul-column-at : tie.Need-mul-column-at
 mul-column-at c = search needs
 
@@ -36,7 +40,7 @@ add-put-sums c = search needs
 
 put-sums-requires : tie.Need-put-sums-requires
 put-sums-requires c κs =
-    let p = c .before .before .before .before .before .before .before .before .before .before .pre in
+    let p = start-of-column (c .before .before .before) .pre in
     let x = c .before .before .before .column-at in
     let y = c .before .column-at2 in (
       (column-fits _ _ _ (x .result) _ (x .ensures) (p .0 .1), column-fits _ _ _ (y .result) _ (y .ensures) (p .1 .0 .1)),
@@ -52,7 +56,7 @@ same-length c = search needs
 returns : tie.Need-returns
 unfolding crossAt
 returns c =
-    let s = c .before .before .before .before .before .before .before .before .before .before .before .before .before .args in
+    let s = start-of-column (c .before .before .before .before .before .before) .args in
     c .before .before .put-sums .ensures
     ∙ (λ t. lay (s .out .now) (s .at) (encoded (signedBytes w64)
     (rowsOf (bothAt (s .a .now) (c .before .before .before .before .before .before .column-at .ensures t) (s .left .now) (s .b .now) (c .before .before .before .before .column-at2 .ensures t) (s .right .now)) 0 (s .j + 1))))

@@ -26,9 +26,13 @@ Inv-loop out₀ at count a start n left b begin m right k₀ j₀ out k j =
 abbrev μ-loop : tie.MeasureT-loop
 μ-loop out₀ at count a start n left b begin m right k₀ j₀ out k j = count - j
 
+-- Views: from one place of the code to an earlier one. A statement put between two of them changes one line here.
+abbrev start-of-turn : tie.At-loop Inv-loop μ-loop → tie.Start Inv-loop μ-loop
+start-of-turn c = c .before .before .before .before .before .before
+
 -- column j ends within the buffer
 room : (c : tie.In-loop Inv-loop μ-loop) → c .before .loop .k + 8 * (c .before .loop .j + 1) ≤ length (c .before .loop .out)
-room c = omega (arith, tri-within (c .before .loop .j) (c .before .before .before .before .before .before .before .args .count) (omega arith))
+room c = omega (arith, tri-within (c .before .loop .j) (start-of-turn (c .before) .args .count) (omega arith))
 
 loop-holds : tie.Need-loop-holds Inv-loop μ-loop
 unfolding tri
@@ -36,7 +40,7 @@ loop-holds c = (omega arith, omega arith, refl, rw sub-zero)
 
 put-column-requires : tie.Need-put-column-requires Inv-loop μ-loop
 put-column-requires c κs =
-    let p = c .before .before .before .before .before .before .before .before .pre in
+    let p = start-of-turn (c .before .before) .pre in
     (p .0, (p .1 .0, (omega arith, omega arith, omega (arith, room (c .before)))))
 
 add-k : tie.Need-add-k Inv-loop μ-loop

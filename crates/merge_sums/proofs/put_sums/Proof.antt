@@ -28,6 +28,13 @@ Inv-loop out₀ at count a c left b d right k₀ i₀ out k i =
 abbrev μ-loop : tie.MeasureT-loop
 μ-loop out₀ at count a c left b d right k₀ i₀ out k i = count - i
 
+-- Views: from one place of the code to an earlier one. A statement put between two of them changes one line here.
+abbrev start-of-turn : tie.At-loop Inv-loop μ-loop → tie.Start Inv-loop μ-loop
+start-of-turn c = c .before .before .before .before .before .before
+
+abbrev turn-of-sums : tie.After-sum-at2 Inv-loop μ-loop → tie.At-loop Inv-loop μ-loop
+turn-of-sums c = c .before .before .before .before .before
+
 loop-holds : tie.Need-loop-holds Inv-loop μ-loop
 loop-holds c = (omega arith, omega arith, refl, rw sub-zero)
 
@@ -51,7 +58,7 @@ sum-at-requires-2 c κs = search needs
 
 plus-requires : tie.Need-plus-requires Inv-loop μ-loop
 plus-requires c κs =
-    let small = c .before .before .before .before .before .before .before .before .before .before .before .before .pre .1 .0 in
+    let small = start-of-turn (turn-of-sums (c .before)) .pre .1 .0 in
     let x = c .before .before .before .sum-at in
     let y = c .before .sum-at2 in (
       rw (toZ-ofZ w64 (x .result) (search needs), x .ensures) (held-small _ _ _ (small .0)),
@@ -72,10 +79,11 @@ loop-less c = search needs
 
 loop-again : tie.Need-loop-again Inv-loop μ-loop
 loop-again c =
-    let l = c .before .before .before .before .before .before .before .before .before .before .loop in
-    let s = c .before .before .before .before .before .before .before .before .before .before .before .before .before .before .before .before .args in
-    let x = c .before .before .before .before .before .before .before .sum-at in
-    let y = c .before .before .before .before .before .sum-at2 in
+    let sums = c .before .before .before .before .before in let turn = turn-of-sums sums in let start = start-of-turn turn in
+    let l = turn .loop in
+    let s = start .args in
+    let x = sums .before .before .sum-at in
+    let y = sums .sum-at2 in
     let z = c .before .before .before .plus in
     let is : toZ w64 (ofZ w64 (z .result)) ≡ bothAt (s .a .now) (s .c) (s .left .now) (s .b .now) (s .d) (s .right .now) (l .i) =
     both-is _ _ _ _ _ _ _

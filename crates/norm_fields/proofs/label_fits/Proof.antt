@@ -7,6 +7,10 @@ use Rattle.norm_fields.proofs.Fields.{small, bare-ok, not-small}
 use Rattle.norm_fields.proofs.label_fits.Statement.{statement}
 use Rattle.norm_fields.proofs.label_fits.Tie as tie
 
+-- Views: from one place of the code to an earlier one. A statement put between two of them changes one line here.
+abbrev start-of-small : tie.After-is-small → tie.Start
+start-of-small c = c .before .before .before .before .before .before .before
+
 mul-is-small : tie.Need-mul-is-small
 mul-is-small c = search needs
 
@@ -50,10 +54,10 @@ label-ok-requires : tie.Need-label-ok-requires
 label-ok-requires c κs = search needs
 
 returns : tie.Need-returns
-returns c = c .label-ok .ensures ∙ ap (normalLabelOk (c .before .before .before .before .before .before .before .before .before .before .args .arcs .now)) (c .before .label-at .ensures) ∙ bare-ok _ _ _
+returns c = c .label-ok .ensures ∙ ap (normalLabelOk (start-of-small (c .before .before .before) .args .arcs .now)) (c .before .label-at .ensures) ∙ bare-ok _ _ _
 
 returns-2 : tie.Need-returns-2
-returns-2 c = not-small _ _ _ (c .before .before .before .before .before .before .before .before .pre .1) (sym (c .before .is-small .ensures) ∙ c .if1 .left)
+returns-2 c = not-small _ _ _ (start-of-small (c .before) .pre .1) (sym (c .before .is-small .ensures) ∙ c .if1 .left)
 
 pub label-fits-spec : {M : Type 1} → statement M
 label-fits-spec =

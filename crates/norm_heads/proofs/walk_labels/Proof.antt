@@ -18,6 +18,10 @@ Inv-loop s start count arcs at₀ floor₀ i₀ at floor i = (i ≤ count) × (a
 abbrev μ-loop : tie.MeasureT-loop
 μ-loop s start count arcs at₀ floor₀ i₀ at floor i = count - i
 
+-- Views: from one place of the code to an earlier one. A statement put between two of them changes one line here.
+abbrev start-of-turn : tie.At-loop Inv-loop μ-loop → tie.Start Inv-loop μ-loop
+start-of-turn c = c .before .before .before
+
 loop-holds : tie.Need-loop-holds Inv-loop μ-loop
 loop-holds c = (search needs, search needs, reach-start (normalLabelKind (c .before .before .args .arcs .now)) _ _ _)
 
@@ -39,7 +43,7 @@ loop-less c = search needs
 loop-again : tie.Need-loop-again Inv-loop μ-loop
 loop-again c =
     let e = sym (c .before .before .before .read-label .ensures) ∙ ap toldFloor (c .before .next .given .1) in
-    (search needs, search needs, c .before .before .before .before .before .loop .inv .2 ∙ reach-good (normalLabelKind (c .before .before .before .before .before .before .before .before .args .arcs .now)) _ _ _ _ _ (omega arith) _ e)
+    (search needs, search needs, c .before .before .before .before .before .loop .inv .2 ∙ reach-good (normalLabelKind (start-of-turn (c .before .before .before .before .before) .args .arcs .now)) _ _ _ _ _ (omega arith) _ e)
 
 enum-known-r : tie.Need-enum-known-r Inv-loop μ-loop
 enum-known-r c = search needs
@@ -47,7 +51,7 @@ enum-known-r c = search needs
 returns : tie.Need-returns Inv-loop μ-loop
 returns c =
     let e = sym (c .before .before .before .read-label .ensures) ∙ ap toldFloor (c .before .r .given .1) in
-    sym (c .before .before .before .before .before .loop .inv .2 ∙ reach-bad (normalLabelKind (c .before .before .before .before .before .before .before .before .args .arcs .now)) _ _ _ _ _ (omega arith) _ _ e)
+    sym (c .before .before .before .before .before .loop .inv .2 ∙ reach-bad (normalLabelKind (start-of-turn (c .before .before .before .before .before) .args .arcs .now)) _ _ _ _ _ (omega arith) _ _ e)
 
 returns-2 : tie.Need-returns-2 Inv-loop μ-loop
 returns-2 c = sym (c .before .loop .inv .2 ∙ reach-end (normalLabelKind (c .before .before .before .before .args .arcs .now)) _ _ _ _ _ (omega arith))

@@ -13,9 +13,19 @@ use borrow.Author.Needs.{needs}
 use Rattle.norm_kinds.proofs.read_label.Statement.{statement}
 use Rattle.norm_kinds.proofs.read_label.Tie as tie
 
+-- Views: from one place of the code to an earlier one. A statement put between two of them changes one line here.
+abbrev start-of-left : tie.After-left → tie.Start
+start-of-left c = c .before .before .before
+
+abbrev left-of-label : tie.After-load-label → tie.After-left
+left-of-label c = c .before .before .before .before
+
+abbrev start-of-label : tie.After-load-label → tie.Start
+start-of-label c = start-of-left (left-of-label c)
+
 -- what the tests of the fields say
 fields : (c : tie.After-label-ok) (t : Bool) → c .label-ok .result ≡ t
-    → let a = c .before .before .before .before .before .before .before .before .args in normalLabelAtOk (a .arcs .now) (a .s .now) (a .at) ≡ t
+    → let a = start-of-label (c .before) .args in normalLabelAtOk (a .arcs .now) (a .s .now) (a .at) ≡ t
 fields c t e =
     let z = c .before .before in
     label-ok _ _ _ _ (sym (z .before .read-u32 .ensures) ∙ z .if2 .left) (c .before .load-label .ensures) (sym (c .label-ok .ensures) ∙ e)
@@ -51,19 +61,19 @@ add-t18 c = omega (arith, label-kind _ _ (sym (c .before .before .before .label-
 
 returns-3 : tie.Need-returns-3
 returns-3 c =
-    let d = c .before .before .before .before .before .before .before .before .before .before .before .args in
+    let d = start-of-label (c .before .before .before .before) .args in
     let o = c .before .before .before in
     ap (λ k. good (k + 1)) (c .before .label-key .ensures .0)
     ∙ floor-next (normalLabelKind (d .arcs .now)) _ _ _ (omega arith) (fields o _ (c .before .before .if3 .taken)) _ (o .before .load-label .ensures) (omega arith)
 
 returns-4 : tie.Need-returns-4
 returns-4 c =
-    let d = c .before .before .before .before .before .before .before .before .before .before .before .args in
+    let d = start-of-label (c .before .before .before .before) .args in
     let o = c .before .before .before in
     floor-order (normalLabelKind (d .arcs .now)) _ _ _ (omega arith) (fields o _ (c .before .before .if3 .taken)) _ (o .before .load-label .ensures) (omega arith)
 
 returns-5 : tie.Need-returns-5
-returns-5 c = floor-limits (normalLabelKind (c .before .before .before .before .before .before .before .before .before .args .arcs .now)) _ _ _ (omega arith) (fields (c .before) _ (c .if3 .left))
+returns-5 c = floor-limits (normalLabelKind (start-of-label (c .before .before) .args .arcs .now)) _ _ _ (omega arith) (fields (c .before) _ (c .if3 .left))
 
 pub read-label-spec : {M : Type 1} → statement M
 read-label-spec =

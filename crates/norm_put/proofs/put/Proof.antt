@@ -57,12 +57,16 @@ put-tail-requires c κs = search needs
 same-length : tie.Need-same-length
 same-length c = search needs
 
+-- Each `let` of a place leads from a later one to an earlier one; they stand here since `rw` takes no view.
 returns : tie.Need-returns
 unfolding systemInRooms
 returns c =
-    let start = c .before .before .before .before .before .before .before .before .before .before .before .before .before .before .before .before in
+    let tail = c .before .before in
+    let labels = tail .before .before .before .before .before .before in
+    let arcs = labels .before .before .before .before in
+    let start = arcs .before .before .before .before in
     let a = start .args in
-    rw (c .before .before .put-tail .ensures, c .before .before .before .before .before .before .before .before .put-labels .ensures, c .before .before .before .before .before .before .before .before .before .before .before .before .put-arcs .ensures)
+    rw (tail .put-tail .ensures, labels .put-labels .ensures, arcs .put-arcs .ensures)
     (file-laid _ _ (systemInRooms (a .arcs) (a .parameters) (a .heads .now) (a .matrix .now) (a .rights .now)) (length-take-le (a .arcs) (a .heads .now) (omega arith)) (length-stands (labelInHeads (a .heads .now)) 5 (a .parameters) (a .arcs)) _)
 
 pub put-spec : {M : Type 1} → statement M

@@ -28,6 +28,10 @@ Inv-loop heads n out₀ at₀ i₀ out at i =
 abbrev μ-loop : tie.MeasureT-loop
 μ-loop heads n out₀ at₀ i₀ out at i = n - i
 
+-- Views: from one place of the code to an earlier one. A statement put between two of them changes one line here.
+abbrev start-of-turn : tie.At-loop Inv-loop μ-loop → tie.Start Inv-loop μ-loop
+start-of-turn c = c .before .before .before .before .before .before .before
+
 cast-write-u32 : tie.Need-cast-write-u32 Inv-loop μ-loop
 cast-write-u32 c = search needs
 
@@ -75,7 +79,7 @@ same-length c = search needs
 returns : tie.Need-returns Inv-loop μ-loop
 unfolding rest
 returns c =
-    let start = c .before .before .before .before .before .before .before .before .args in
+    let start = start-of-turn (c .before) .args in
     sym (c .before .loop .inv .3 ∙ laid-none arcNumberBytes _ length-arc _ _ (rest-end (start .heads .now) (start .n) (c .before .loop .i) (omega arith)))
     ∙ section-laid arcNumberBytes _ _ 0 _ _ (c .before .before .before .before .write-u32 .ensures) (length-take-le _ _ (omega arith))
 

@@ -6,6 +6,13 @@ use Rattle.norm_put.proofs.Laid.{label-laid}
 use Rattle.norm_put.proofs.put_label.Statement.{statement}
 use Rattle.norm_put.proofs.put_label.Tie as tie
 
+-- Views: from one place of the code to an earlier one. A statement put between two of them changes one line here.
+abbrev start-of-lent : tie.After-put-name-arg → tie.Start
+start-of-lent c = c .before .before .before
+
+abbrev lent-of-name : tie.After-put-name → tie.After-put-name-arg
+lent-of-name c = c .before .before .before .before .before
+
 mul-put-name : tie.Need-mul-put-name
 mul-put-name c = search needs
 
@@ -62,7 +69,7 @@ same-length c = search needs
 
 returns : tie.Need-returns
 returns c =
-    let start = c .before .before .before .before .before .before .before .before .before .before .before .before .before .before .before .args in
+    let start = start-of-lent (lent-of-name (c .before .before .before .before .before .before .before)) .args in
     rw (c .before .before .write-u64 .ensures, c .before .before .before .before .before .before .before .put-name .ensures)
     (label-laid (start .heads .now) (start .k) _ _ (c .before .before .before .shared-slice-known6 .given (start .k + 4) .fits))
 

@@ -47,18 +47,24 @@ write-u32-requires-3 c κs = search needs
 same-length : tie.Need-same-length
 same-length c = search needs
 
+-- Each `let` of a place leads from a later one to an earlier one; they stand here since `rw` takes no view.
 returns : tie.Need-returns
 returns c =
+    let zero = c .before .before in
+    let weight = zero .before .before .before .before in
+    let arc = weight .before .before .before .before .before in
+    let index = arc .before .before .before .before .before in
+    let kind = index .before .before .before .before .before in
     rw (
-      c .before .before .write-u323 .ensures,
-      c .before .before .before .before .before .before .write-u322 .ensures,
-      c .before .before .before .before .before .before .before .low322 .ensures,
-      c .before .before .before .before .before .before .before .before .before .before .before .write-u32 .ensures,
-      c .before .before .before .before .before .before .before .before .before .before .before .before .low32 .ensures,
-      c .before .before .before .before .before .before .before .before .before .before .before .before .before .before .before .before .write-u162 .ensures,
-      c .before .before .before .before .before .before .before .before .before .before .before .before .before .before .before .before .before .low162 .ensures,
-      c .before .before .before .before .before .before .before .before .before .before .before .before .before .before .before .before .before .before .before .before .before .write-u16 .ensures,
-      c .before .before .before .before .before .before .before .before .before .before .before .before .before .before .before .before .before .before .before .before .before .before .low16 .ensures,
+      zero .write-u323 .ensures,
+      weight .write-u322 .ensures,
+      weight .before .low322 .ensures,
+      arc .write-u32 .ensures,
+      arc .before .low32 .ensures,
+      index .write-u162 .ensures,
+      index .before .low162 .ensures,
+      kind .write-u16 .ensures,
+      kind .before .low16 .ensures,
     )
     (name-laid _ _ _ _ _ _)
 

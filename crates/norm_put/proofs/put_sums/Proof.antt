@@ -31,6 +31,10 @@ Inv-loop sums n out₀ start at₀ i₀ out at i =
 abbrev μ-loop : tie.MeasureT-loop
 μ-loop sums n out₀ start at₀ i₀ out at i = n - i
 
+-- Views: from one place of the code to an earlier one. A statement put between two of them changes one line here.
+abbrev start-of-turn : tie.At-loop Inv-loop μ-loop → tie.Start Inv-loop μ-loop
+start-of-turn c = c .before .before .before .before .before .before
+
 cast-write-u32 : tie.Need-cast-write-u32 Inv-loop μ-loop
 cast-write-u32 c = search needs
 
@@ -65,7 +69,7 @@ loop-again : tie.Need-loop-again Inv-loop μ-loop
 unfolding sumBytes
 loop-again c =
     let l = c .before .before .before .before .before .before .loop in
-    let e = rw (toZ-ofZ w64 (getD (c .before .before .before .before .before .before .before .before .before .before .before .before .args .sums .now) (l .i) (pos 0)) (search needs)) at (c .before .before .write-i64 .ensures) in (
+    let e = rw (toZ-ofZ w64 (getD (start-of-turn (c .before .before .before .before .before .before) .args .sums .now) (l .i) (pos 0)) (search needs)) at (c .before .before .write-i64 .ensures) in (
       omega arith,
       omega arith,
       rw e (length-lay _ _ _ ∙ l .inv .2),
@@ -78,7 +82,7 @@ same-length c = search needs
 returns : tie.Need-returns Inv-loop μ-loop
 unfolding rest
 returns c =
-    let start = c .before .before .before .before .before .before .before .args in
+    let start = start-of-turn (c .before) .args in
     sym (c .before .loop .inv .3 ∙ laid-none sumBytes _ length-sum _ _ (rest-end (start .sums .now) (start .n) (c .before .loop .i) (omega arith)))
     ∙ section-laid sumBytes _ _ _ _ _ (c .before .before .before .before .write-u32 .ensures) (length-take-le _ _ (omega arith))
 

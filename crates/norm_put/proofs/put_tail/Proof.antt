@@ -39,10 +39,15 @@ put-totals-requires c κs = search needs
 same-length : tie.Need-same-length
 same-length c = search needs
 
+-- Each `let` of a place leads from a later one to an earlier one; they stand here since `rw` takes no view.
 returns : tie.Need-returns
 returns c =
-    let start = c .before .before .before .before .before .before .before .before .before .before .before .before .before .before in
-    rw (c .before .before .put-totals .ensures, c .before .before .before .before .before .before .put-sums2 .ensures, c .before .before .before .before .before .before .before .before .before .before .put-sums .ensures, c .before .before .before .before .before .before .before .before .before .before .before .before .triangle .ensures .0)
+    let totals = c .before .before in
+    let rights = totals .before .before .before .before in
+    let matrix = rights .before .before .before .before in
+    let sums = matrix .before .before in
+    let start = sums .before .before in
+    rw (totals .put-totals .ensures, rights .put-sums2 .ensures, matrix .put-sums .ensures, sums .triangle .ensures .0)
     (tail-laid _ _ _ _ _ (length-take-le _ _ (start .pre .0 .1)) (length-take-le _ _ (start .pre .0 .2)) _ _)
 
 pub put-tail-spec : {M : Type 1} → statement M

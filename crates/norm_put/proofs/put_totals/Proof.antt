@@ -7,6 +7,10 @@ use Rattle.byte_words.proofs.Words.{lay-append, length-bytesOf}
 use Rattle.norm_put.proofs.put_totals.Statement.{statement}
 use Rattle.norm_put.proofs.put_totals.Tie as tie
 
+-- Views: from one place of the code to an earlier one. A statement put between two of them changes one line here.
+abbrev count-of-accepted : tie.After-write-u64 → tie.After-write-u32
+count-of-accepted c = c .before .before .before .before
+
 write-u32-requires : tie.Need-write-u32-requires
 write-u32-requires c κs = search needs
 
@@ -27,7 +31,7 @@ same-length c = search needs
 
 returns : tie.Need-returns
 returns c =
-    rw (c .before .before .write-u642 .ensures, c .before .before .before .before .before .before .write-u64 .ensures, c .before .before .before .before .before .before .before .before .before .before .write-u32 .ensures)
+    rw (c .before .before .write-u642 .ensures, c .before .before .before .before .before .before .write-u64 .ensures, count-of-accepted (c .before .before .before .before .before .before) .write-u32 .ensures)
     (lay-append _ _ _ _ _ (simp length-bytesOf (omega arith)) ∙ lay-append _ _ _ _ _ (simp length-bytesOf))
 
 pub put-totals-spec : {M : Type 1} → statement M

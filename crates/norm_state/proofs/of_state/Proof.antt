@@ -16,6 +16,10 @@ use Rattle.norm_state.proofs.Laid.{state-long}
 use Rattle.norm_state.proofs.of_state.Statement.{statement}
 use Rattle.norm_state.proofs.of_state.Tie as tie
 
+-- Views: from one place of the code to an earlier one. A statement put between two of them changes one line here.
+abbrev start-of-needed : tie.After-needed → tie.Start
+start-of-needed c = c .before .before .before .before .before
+
 -- the state that is handed in
 abbrev held : tie.Start → State
 held s = stateOf (s .args .matrix .now) (s .args .rights .now) (s .args .t)
@@ -57,7 +61,7 @@ returns c =
 returns-2 : tie.Need-returns-2
 unfolding fileOf fileNumber stateLeftIn
 returns-2 c =
-    let s = c .before .before .before .before .before .before in
+    let s = start-of-needed (c .before) in
     on-short _ (stateBytes (s .args .h) (held s)) (s .args .out .now) (sound (c .before .before)) (omega (arith, long (c .before .before), c .before .needed .ensures))
 
 same-length : tie.Need-same-length
@@ -66,7 +70,7 @@ same-length c = search needs
 returns-3 : tie.Need-returns-3
 unfolding fileOf fileNumber stateLeftIn
 returns-3 c =
-    let s = c .before .before .before .before .before .before .before .before .before .before in
+    let s = start-of-needed (c .before .before .before .before .before) in
     let told = on-written _ (stateBytes (s .args .h) (held s)) (s .args .out .now) (sound (c .before .before .before .before .before .before)) (omega (arith, long (c .before .before .before .before .before .before), c .before .before .before .before .before .needed .ensures)) in
     (ap given (c .before .before .before .before .before .needed .ensures ∙ sym (long (c .before .before .before .before .before .before))) ∙ told .0, c .before .before .put-file .ensures ∙ told .1)
 

@@ -32,17 +32,23 @@ put-tail-requires c κs = search needs
 same-length : tie.Need-same-length
 same-length c = search needs
 
+-- Each `let` of a place leads from a later one to an earlier one; they stand here since `rw` takes no view.
 returns : tie.Need-returns
 returns c =
-    let start = c .before .before .before .before .before .before .before .before .before .before .before .before .before .before .before .before .before .before .before .before in
+    let tail = c .before .before in
+    let labels = tail .before .before .before .before in
+    let arc = labels .before .before .before .before in
+    let count = arc .before .before .before .before in
+    let accepted = count .before .before in
+    let start = accepted .before .before .before .before in
     let a = start .args in
     let long = simp length-map at (start .good .0 .1 .1 .1 .1 .1 .0 .1 .0 .1) in
     rw (
-      c .before .before .put-tail .ensures,
-      c .before .before .before .before .before .before .put-labels .ensures,
-      c .before .before .before .before .before .before .before .before .before .before .write-u322 .ensures,
-      c .before .before .before .before .before .before .before .before .before .before .before .before .before .before .write-u32 .ensures,
-      c .before .before .before .before .before .before .before .before .before .before .before .before .before .before .before .before .accepted .ensures .0,
+      tail .put-tail .ensures,
+      labels .put-labels .ensures,
+      arc .write-u322 .ensures,
+      count .write-u32 .ensures,
+      accepted .accepted .ensures .0,
       arc-laid (a .out .now) (a .h .settings .arc),
     )
     (state-laid (a .h) (stateOf (a .matrix .now) (a .rights .now) (a .t)) (omega (arith, start .pre .0 .0)) (a .out .now))

@@ -7,6 +7,13 @@ use Rattle.norm_state.proofs.Laid.{label-laid}
 use Rattle.norm_state.proofs.put_label.Statement.{statement}
 use Rattle.norm_state.proofs.put_label.Tie as tie
 
+-- Views: from one place of the code to an earlier one. A statement put between two of them changes one line here.
+abbrev start-of-arc : tie.After-arc-for → tie.Start
+start-of-arc c = c .before .before
+
+abbrev arc-of-name : tie.After-put-name → tie.After-arc-for
+arc-of-name c = c .before .before .before .before .before
+
 arc-for-requires : tie.Need-arc-for-requires
 arc-for-requires c κs = search needs
 
@@ -36,9 +43,10 @@ same-length c = search needs
 
 returns : tie.Need-returns
 returns c =
-    let l = c .before .before .before .before .before .before .before .before .before .before .before .before .before .before .args .l in
+    let name = c .before .before .before .before .before .before .before in let arc = arc-of-name name in let start = start-of-arc arc in
+    let l = start .args .l in
     let back = toZ-ofZ w64 (l .estimate) (record { sfits = c .before .before .before .struct-told .given .1 .1 .1 .0 .1 }) in
-    rw (c .before .before .write-i64 .ensures, c .before .before .before .before .before .before .before .put-name .ensures, c .before .before .before .before .before .before .before .before .before .before .before .before .arc-for .ensures, back) (label-laid _ _ _ l)
+    rw (c .before .before .write-i64 .ensures, name .put-name .ensures, arc .arc-for .ensures, back) (label-laid _ _ _ l)
 
 pub put-label-spec : {M : Type 1} → statement M
 put-label-spec =

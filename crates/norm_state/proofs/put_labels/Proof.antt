@@ -33,6 +33,10 @@ Inv-loop out₀ start h n s at₀ i₀ out at i =
 abbrev μ-loop : tie.MeasureT-loop
 μ-loop out₀ start h n s at₀ i₀ out at i = n - i
 
+-- Views: from one place of the code to an earlier one. A statement put between two of them changes one line here.
+abbrev start-of-turn : tie.At-loop Inv-loop μ-loop → tie.Start Inv-loop μ-loop
+start-of-turn c = c .before .before .before .before .before .before .before
+
 cast-write-u32 : tie.Need-cast-write-u32 Inv-loop μ-loop
 cast-write-u32 c = search needs
 
@@ -81,7 +85,7 @@ same-length c = search needs
 returns : tie.Need-returns Inv-loop μ-loop
 returns c =
     let l = c .before .loop in
-    let h = c .before .before .before .before .before .before .before .before .args .t1 in
+    let h = start-of-turn (c .before) .args .t1 in
     let none = ap (map (labelOfArc (h .settings .arc))) (rest-end (h .labels) (h .parameters) (l .i) (omega arith)) in
     sym (l .inv .4 ∙ laid-none normalLabelBytes _ length-label _ _ none)
     ∙ section-laid normalLabelBytes _ _ _ _ _ (c .before .before .before .before .write-u32 .ensures) (labels-long h (omega (arith, l .inv .1)))

@@ -15,6 +15,16 @@ use borrow.Author.Needs.{needs}
 use Rattle.norm_sum.proofs.is_broken.Statement.{statement}
 use Rattle.norm_sum.proofs.is_broken.Tie as tie
 
+-- Views: from one place of the code to an earlier one. A statement put between two of them changes one line here.
+abbrev start-of-sum : tie.After-sum-at → tie.Start
+start-of-sum c = c .before .before .before
+
+abbrev sum-of-row : tie.After-place2 → tie.After-sum-at
+sum-of-row c = c .before .before .before .before .before .before
+
+abbrev start-of-row : tie.After-place2 → tie.Start
+start-of-row c = start-of-sum (sum-of-row c)
+
 -- the entry that is tested, where it stands among n sums
 here : (c : tie.After-sum-at) → let a = c .before .before .before .args in (n : ℕ) → tri (a .j + 1) ≤ n
     → toZ w64 (ofZ w64 (c .sum-at .result)) ≡ entry (sumsAt (a .s .now) (a .start) n) (a .i) (a .j)
@@ -29,19 +39,19 @@ other : (c : tie.Else3) → isZero (toZ w64 (ofZ w64 (c .before .before .before 
 other c = sym (c .before .is-zero .ensures) ∙ c .if3 .left
 
 -- the diagonal of its row, and that of its column
-row-test : (c : tie.After-is-zero2) → let a = c .before .before .before .before .before .before .before .before .before .before .before .args in (n : ℕ) → tri (a .j + 1) ≤ n
+row-test : (c : tie.After-is-zero2) → let a = start-of-row (c .before .before) .args in (n : ℕ) → tri (a .j + 1) ≤ n
     → (t : Bool) → c .is-zero2 .result ≡ t → isZero (entry (sumsAt (a .s .now) (a .start) n) (a .i) (a .i)) ≡ t
 row-test c n h t e =
-    let a = c .before .before .before .before .before .before .before .before .before .before .before .args in
+    let a = start-of-row (c .before .before) .args in
     let d = c .before in
     let row = entry-read (a .s .now) (a .start) n _ _ (record { sfits = d .sum-at2 .ok }) (d .sum-at2 .ensures) (a .i) (a .i) (d .before .place2 .ensures)
     (omega (arith, tri-within (a .i) (a .j + 1) (omega arith))) in
     ap isZero (sym row) ∙ sym (c .is-zero2 .ensures) ∙ e
 
-column : (c : tie.After-sum-at3) → let a = c .before .before .before .before .before .before .before .before .before .before .before .before .before .before .args in (n : ℕ) → tri (a .j + 1) ≤ n
+column : (c : tie.After-sum-at3) → let a = start-of-row (c .before .before .before .before .before) .args in (n : ℕ) → tri (a .j + 1) ≤ n
     → toZ w64 (ofZ w64 (c .sum-at3 .result)) ≡ entry (sumsAt (a .s .now) (a .start) n) (a .j) (a .j)
 column c n h =
-    let a = c .before .before .before .before .before .before .before .before .before .before .before .before .before .before .args in
+    let a = start-of-row (c .before .before .before .before .before) .args in
     entry-read _ _ n _ _ (record { sfits = c .sum-at3 .ok }) (c .sum-at3 .ensures) _ _ (c .before .place3 .ensures) (omega (arith, tri-next (a .j)))
 
 place-requires : tie.Need-place-requires
@@ -77,7 +87,7 @@ place-requires-2 c κs = search needs
 
 sum-at-requires-2 : tie.Need-sum-at-requires-2
 sum-at-requires-2 c κs =
-    let a = c .before .before .before .before .before .before .before .before .before .args in
+    let a = start-of-row c .args in
     omega (arith, tri-next (a .j), c .place2 .ensures, tri-within (a .i) (a .j + 1) (omega arith))
 
 is-zero-requires-2 : tie.Need-is-zero-requires-2
@@ -93,7 +103,7 @@ place-requires-3 : tie.Need-place-requires-3
 place-requires-3 c κs = search needs
 
 sum-at-requires-3 : tie.Need-sum-at-requires-3
-sum-at-requires-3 c κs = omega (arith, tri-next (c .before .before .before .before .before .before .before .before .before .before .before .before .before .args .j), c .place3 .ensures)
+sum-at-requires-3 c κs = omega (arith, tri-next (start-of-row (c .before .before .before .before) .args .j), c .place3 .ensures)
 
 is-zero-requires-3 : tie.Need-is-zero-requires-3
 is-zero-requires-3 c κs = search needs

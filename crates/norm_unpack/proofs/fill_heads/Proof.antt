@@ -7,6 +7,10 @@ use borrow.Author.Needs.{needs}
 use Rattle.norm_unpack.proofs.fill_heads.Statement.{statement}
 use Rattle.norm_unpack.proofs.fill_heads.Tie as tie
 
+-- Views: from one place of the code to an earlier one. A statement put between two of them changes one line here.
+abbrev arcs-of-labels : tie.After-fill-labels → tie.After-load-arcs
+arcs-of-labels c = c .before .before .before .before
+
 load-arcs-requires : tie.Need-load-arcs-requires
 load-arcs-requires c κs = search needs
 
@@ -53,7 +57,7 @@ same-length : tie.Need-same-length
 same-length c = simp length-set (search needs)
 
 returns : tie.Need-returns
-returns c = rw (c .before .before .before .before .fill-labels .ensures, c .before .before .before .before .before .before .before .before .load-arcs .ensures) (heads-laid _ _ _ _ _ _ _ (c .before .read-u64 .ensures) (c .read-u642 .ensures))
+returns c = rw (c .before .before .before .before .fill-labels .ensures, arcs-of-labels (c .before .before .before .before) .load-arcs .ensures) (heads-laid _ _ _ _ _ _ _ (c .before .read-u64 .ensures) (c .read-u642 .ensures))
 
 pub fill-heads-spec : {M : Type 1} → statement M
 fill-heads-spec =

@@ -12,28 +12,40 @@ use borrow.Author.Needs.{needs}
 use Rattle.norm_unpack.proofs.unpack_read.Statement.{statement}
 use Rattle.norm_unpack.proofs.unpack_read.Tie as tie
 
+-- Views: from one place of the code to an earlier one. A statement put between two of them changes one line here.
+abbrev start-of-roomy : tie.Then1 → tie.Start
+start-of-roomy c = c .before .before .before .before
+
+abbrev roomy-of-heads : tie.After-fill-heads → tie.Then1
+roomy-of-heads c = c .before .before
+
+abbrev heads-of-matrix : tie.After-fill-sums → tie.After-fill-heads
+heads-of-matrix c = c .before .before .before .before .before
+
 -- the file's numbers, from its reading
 few : (c : tie.Start) → Known _ _ _ _ _ _ (c .pre)
 few c = known _ _ _ _ _ _ (c .pre)
 
 -- the rooms' lengths, from the test
-room : (c : tie.Then1) → Roomy (c .before .before .before .before .args .arcs) (c .before .before .before .before .args .parameters) (length (c .before .before .before .before .args .heads .now)) (length (c .before .before .before .before .args .matrix .now)) (length (c .before .before .before .before .args .rights .now))
+room : (c : tie.Then1) → Roomy (start-of-roomy c .args .arcs) (start-of-roomy c .args .parameters) (length (start-of-roomy c .args .heads .now)) (length (start-of-roomy c .args .matrix .now)) (length (start-of-roomy c .args .rights .now))
 room c = roomy _ _ _ _ _ (sym (c .before .is-roomy .ensures) ∙ c .if1 .taken)
 
 is-roomy-requires : tie.Need-is-roomy-requires
 is-roomy-requires c κs = (few (c .before .before) .few-arcs, few (c .before .before) .few)
 
 fill-heads-requires : tie.Need-fill-heads-requires
-fill-heads-requires c κs = ((few (c .before .before .before .before .before) .labels-end, few (c .before .before .before .before .before) .totals-end), room (c .before) .heads-fit)
+fill-heads-requires c κs = ((few (start-of-roomy (c .before)) .labels-end, few (start-of-roomy (c .before)) .totals-end), room (c .before) .heads-fit)
 
 triangle-requires : tie.Need-triangle-requires
-triangle-requires c κs = few (c .before .before .before .before .before .before .before .before) .few
+triangle-requires c κs = few (start-of-roomy (roomy-of-heads (c .before .before))) .few
 
 fill-sums-requires : tie.Need-fill-sums-requires
-fill-sums-requires c κs = (omega (arith, c .before .triangle .ensures .0, few (c .before .before .before .before .before .before .before .before .before .before) .matrix-end), omega (arith, c .before .triangle .ensures .0, room (c .before .before .before .before .before .before) .matrix-fits))
+fill-sums-requires c κs = (omega (arith, c .before .triangle .ensures .0, few (start-of-roomy (roomy-of-heads (c .before .before .before .before))) .matrix-end), omega (arith, c .before .triangle .ensures .0, room (c .before .before .before .before .before .before) .matrix-fits))
 
 fill-sums-requires-2 : tie.Need-fill-sums-requires-2
-fill-sums-requires-2 c κs = (few (c .before .before .before .before .before .before .before .before .before .before .before .before .before) .rights-end, room (c .before .before .before .before .before .before .before .before .before) .rights-fit)
+fill-sums-requires-2 c κs =
+    let roomy-at = roomy-of-heads (heads-of-matrix (c .before .before)) in let start = start-of-roomy roomy-at in
+    (few start .rights-end, room roomy-at .rights-fit)
 
 same-length : tie.Need-same-length
 same-length c = search needs
@@ -46,14 +58,14 @@ same-length-3 c = search needs
 
 returns : tie.Need-returns
 returns c =
-    let s = c .before .before .before .before .before .before .before .before .before .before .before .before .before .before .before in
-    let k = room (c .before .before .before .before .before .before .before .before .before .before .before) in
-    let e = unpack-good _ _ _ _ _ _ (s .pre) _ _ _ (sym (c .before .before .before .before .before .before .before .before .before .before .before .before .is-roomy .ensures) ∙ c .before .before .before .before .before .before .before .before .before .before .before .if1 .taken) in (
+    let matrix = c .before .before .before .before in let heads = heads-of-matrix matrix in let roomy-at = roomy-of-heads heads in let s = start-of-roomy roomy-at in
+    let k = room roomy-at in
+    let e = unpack-good _ _ _ _ _ _ (s .pre) _ _ _ (sym (roomy-at .before .is-roomy .ensures) ∙ roomy-at .if1 .taken) in (
       told-good _ _ _ _ _ _ (s .pre) ∙ ap shownNormal (sym e),
       (
-        c .before .before .before .before .before .before .before .before .before .fill-heads .ensures ∙ heads-left _ _ _ _ _ _ (s .pre) _ (k .heads-fit) ∙ ap (λ j. filled headsOf j (s .args .heads .now)) (sym e),
+        heads .fill-heads .ensures ∙ heads-left _ _ _ _ _ _ (s .pre) _ (k .heads-fit) ∙ ap (λ j. filled headsOf j (s .args .heads .now)) (sym e),
         (
-          c .before .before .before .before .fill-sums .ensures ∙ matrix-left _ _ _ _ _ _ (s .pre) _ (c .before .before .before .before .before .before .triangle .ensures .0) _ (k .matrix-fits) ∙ ap (λ j. filled matrixOf j (s .args .matrix .now)) (sym e),
+          matrix .fill-sums .ensures ∙ matrix-left _ _ _ _ _ _ (s .pre) _ (matrix .before .before .triangle .ensures .0) _ (k .matrix-fits) ∙ ap (λ j. filled matrixOf j (s .args .matrix .now)) (sym e),
           c .before .fill-sums2 .ensures ∙ rights-left _ _ _ _ _ _ (s .pre) _ (k .rights-fit) ∙ ap (λ j. filled rightsOf j (s .args .rights .now)) (sym e),
         ),
       ),

@@ -38,11 +38,15 @@ Inv-all s start p bound found₀ j₀ found j = (j ≤ p) × (found ≡ Sound) �
 abbrev μ-all : tie.MeasureT-all
 μ-all s start p bound found₀ j₀ found j = p - j
 
+-- Views: from one place of the code to an earlier one. A statement put between two of them changes one line here.
+abbrev start-of-loop-turn : tie.At-loop Inv-loop μ-loop Inv-all μ-all → tie.Start Inv-loop μ-loop Inv-all μ-all
+start-of-loop-turn c = c .before .before .before .before
+
 test : (c : tie.After-is-broken Inv-loop μ-loop Inv-all μ-all) (t : Bool) → c .is-broken .result ≡ t
-    → let a = c .before .before .before .before .before .before .args in
+    → let a = start-of-loop-turn (c .before .before) .args in
     entries (a .s .now) (a .start) (a .p) (a .bound) (c .before .before .loop .i) (c .before .before .before .before .all .j) ≡ t
 test c t e =
-    let a = c .before .before .before .before .before .before .args in
+    let a = start-of-loop-turn (c .before .before) .args in
     let j = c .before .before .before .before .all .j in
     sym (c .is-broken .ensures _ (omega (arith, tri-next j, tri-within j (a .p) (omega arith)))) ∙ e
 
@@ -54,7 +58,7 @@ loop-holds c = (search needs, refl, rw sub-zero)
 
 is-broken-requires : tie.Need-is-broken-requires Inv-loop μ-loop Inv-all μ-all
 is-broken-requires c κs =
-    let a = c .before .before .before .before .before .args in
+    let a = start-of-loop-turn (c .before) .args in
     let j = c .before .before .before .all .j in
     (omega arith, (omega (arith, tri-next j, tri-within j (a .p) (omega arith)), omega arith))
 
@@ -71,7 +75,7 @@ loop-again : tie.Need-loop-again Inv-loop μ-loop Inv-all μ-all
 loop-again c =
     let l = c .before .before .before .loop in
     let j = c .before .before .before .before .before .all .j in
-    let a = c .before .before .before .before .before .before .before .args in
+    let a = start-of-loop-turn (c .before .before .before) .args in
     let f = entries (a .s .now) (a .start) (a .p) (a .bound) in
     (omega arith, l .inv .1, l .inv .2 ∙ first-on (λ v. f v j) (j + 1) (l .i) (omega arith) (test (c .before) _ (c .if1 .left)))
 
@@ -85,7 +89,7 @@ all-again : tie.Need-all-again Inv-loop μ-loop Inv-all μ-all
 all-again c =
     let l = c .before .loop in
     let w = c .before .before .before .all in
-    let a = c .before .before .before .before .before .args in
+    let a = start-of-loop-turn (c .before) .args in
     let f = entries (a .s .now) (a .start) (a .p) (a .bound) in (
       omega arith,
       l .inv .1 ∙ w .inv .1,
@@ -101,7 +105,7 @@ returns-2 : tie.Need-returns-2 Inv-loop μ-loop Inv-all μ-all
 returns-2 c =
     let l = c .before .before .before .before .loop in
     let w = c .before .before .before .before .before .before .all in
-    let a = c .before .before .before .before .before .before .before .before .args in
+    let a = start-of-loop-turn (c .before .before .before .before) .args in
     let f = entries (a .s .now) (a .start) (a .p) (a .bound) in
     let found = l .inv .2 ∙ first-here (λ v. f v (w .j)) (w .j + 1) (l .i) (omega arith) (test (c .before .before) _ (c .before .if1 .taken)) in
     ap at (c .place .ensures) ∙ sym (w .inv .2 ∙ columns-here f _ (w .j) (omega arith) (l .i) found)

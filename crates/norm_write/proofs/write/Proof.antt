@@ -16,6 +16,10 @@ use Rattle.norm_write.proofs.Sound.{Written, number-sound, room-long}
 use Rattle.norm_write.proofs.write.Statement.{statement}
 use Rattle.norm_write.proofs.write.Tie as tie
 
+-- Views: from one place of the code to an earlier one. A statement put between two of them changes one line here.
+abbrev start-of-needed : tie.After-needed → tie.Start
+start-of-needed c = c .before .before .before .before .before .before
+
 -- the bytes of the file
 abbrev bytes : tie.Start → List ℕ
 bytes s = roomBytes (s .args .arcs) (s .args .parameters) (s .args .heads .now) (s .args .matrix .now) (s .args .rights .now)
@@ -54,7 +58,7 @@ returns c = on-refused _ (bytes (c .before .before .before .before .before .befo
 returns-2 : tie.Need-returns-2
 unfolding writeNormal writeNumber normalLeftIn
 returns-2 c =
-    on-short _ (bytes (c .before .before .before .before .before .before .before)) (c .before .before .before .before .before .before .before .args .out .now) (sound (c .before .before)) (omega (arith, long (c .before .before), c .before .needed .ensures))
+    on-short _ (bytes (start-of-needed (c .before))) (start-of-needed (c .before) .args .out .now) (sound (c .before .before)) (omega (arith, long (c .before .before), c .before .needed .ensures))
 
 same-length : tie.Need-same-length
 same-length c = search needs
@@ -62,7 +66,7 @@ same-length c = search needs
 returns-3 : tie.Need-returns-3
 unfolding writeNormal writeNumber normalLeftIn roomBytes
 returns-3 c =
-    let told = on-written _ (bytes (c .before .before .before .before .before .before .before .before .before .before .before)) (c .before .before .before .before .before .before .before .before .before .before .before .args .out .now) (sound (c .before .before .before .before .before .before)) (omega (arith, long (c .before .before .before .before .before .before), c .before .before .before .before .before .needed .ensures)) in
+    let told = on-written _ (bytes (start-of-needed (c .before .before .before .before .before))) (start-of-needed (c .before .before .before .before .before) .args .out .now) (sound (c .before .before .before .before .before .before)) (omega (arith, long (c .before .before .before .before .before .before), c .before .before .before .before .before .needed .ensures)) in
     (ap given (c .before .before .before .before .before .needed .ensures ∙ sym (long (c .before .before .before .before .before .before))) ∙ told .0, c .before .before .put .ensures ∙ told .1)
 
 pub write-spec : {M : Type 1} → statement M

@@ -19,6 +19,16 @@ use borrow.Author.Needs.{needs}
 use Rattle.num_packed.proofs.is_broken.Statement.{statement}
 use Rattle.num_packed.proofs.is_broken.Tie as tie
 
+-- Views: from one place of the code to an earlier one. A statement put between two of them changes one line here.
+abbrev start-of-x : tie.After-x → tie.Start
+start-of-x c = c .before .before
+
+abbrev x-of-p : tie.After-p → tie.After-x
+x-of-p c = c .before .before .before .before .before .before
+
+abbrev start-of-p : tie.After-p → tie.Start
+start-of-p c = start-of-x (x-of-p c)
+
 place-requires : tie.Need-place-requires
 place-requires c κs = search needs
 
@@ -90,8 +100,8 @@ place-requires-2 c κs = search needs
 diag : (c : tie.After-place2) → let s = c .before .before .before .before .before .before .before in tri (s .args .i) + s .args .i + 1 ≤ tri (s .args .j + 1)
 diag c = let s = c .before .before .before .before .before .before .before in tri-within (s .args .i) (s .args .j + 1) (omega arith)
 
-zero-p : (c : tie.After-p) (t : Bool) → let s = c .before .before .before .before .before .before .before .before in (SFits w64 (getD (s .args .s .now) (c .before .place2 .result) (pos 0)) → isZero (getD (s .args .s .now) (c .before .place2 .result) (pos 0)) ≡ t) → isZero (entry (s .args .s .now) (s .args .i) (s .args .i)) ≡ t
-zero-p c t e = let s = c .before .before .before .before .before .before .before .before in subst (λ k. isZero (getD (s .args .s .now) k (pos 0)) ≡ t) (c .before .place2 .ensures) (e (search needs))
+zero-p : (c : tie.After-p) (t : Bool) → let s = start-of-p c in (SFits w64 (getD (s .args .s .now) (c .before .place2 .result) (pos 0)) → isZero (getD (s .args .s .now) (c .before .place2 .result) (pos 0)) ≡ t) → isZero (entry (s .args .s .now) (s .args .i) (s .args .i)) ≡ t
+zero-p c t e = let s = start-of-p c in subst (λ k. isZero (getD (s .args .s .now) k (pos 0)) ≡ t) (c .before .place2 .ensures) (e (search needs))
 
 mul-p : tie.Need-mul-p
 mul-p c = omega (arith, tri-next (c .before .before .before .before .before .before .before .args .j), diag c)
@@ -106,15 +116,15 @@ place-requires-3 : tie.Need-place-requires-3
 place-requires-3 c κs = search needs
 
 mul-q : tie.Need-mul-q
-mul-q c = omega (arith, tri-next (c .before .before .before .before .before .before .before .before .before .before .args .j))
+mul-q c = omega (arith, tri-next (start-of-p (c .before .before) .args .j))
 
 shared-slice-copy-out-q : tie.Need-shared-slice-copy-out-q
-shared-slice-copy-out-q c = omega (arith, tri-next (c .before .before .before .before .before .before .before .before .before .before .args .j))
+shared-slice-copy-out-q c = omega (arith, tri-next (start-of-p (c .before .before) .args .j))
 
 returns-6 : tie.Need-returns-6
 returns-6 c =
     let e5 = c .before .before in
-    let s = e5 .before .before .before .before .before .before .before .before .before in
+    let s = start-of-p (e5 .before) in
     tested (e5 .before .before .before) _ (simp (zero-p (e5 .before) false (λ f. not-zero _ f (e5 .if5 .left)))
     (zero-bits (getD (s .args .s .now) (c .before .place3 .result) (pos 0)) (search needs) ∙ ap (λ k. isZero (getD (s .args .s .now) k (pos 0))) (c .before .place3 .ensures)))
 

@@ -9,6 +9,10 @@ use borrow.Author.Needs.{needs}
 use Rattle.take.proofs.take.Statement.{statement}
 use Rattle.take.proofs.take.Tie as tie
 
+-- Views: from one place of the code to an earlier one. A statement put between two of them changes one line here.
+abbrev start-of-sound : tie.After-enum-told → tie.Start
+start-of-sound c = c .before .before .before .before .before .before
+
 judge-state-requires : tie.Need-judge-state-requires
 judge-state-requires c κs = search needs
 
@@ -29,7 +33,7 @@ same-length-2 c = search needs
 
 returns : tie.Need-returns
 returns c =
-    let a = c .before .before .before .before .before .before .before .before .before .before .before .args in
+    let a = start-of-sound (c .before .before .before .before .before) .args in
     let s = stateOf (a .matrix .now) (a .rights .now) (a .t) in
     let e = none-by _ _ (c .before .before .before .before .before .before .before .judge-state .ensures) (c .before .before .before .before .before .enum-told .given .1) in
     (c .before .before .take-sound .ensures .0 ∙ ap (λ k. answered k tt) (sym (sound-answer (a .h) (a .bytes .now) s e)), c .before .before .take-sound .ensures .1 ∙ sym (sound-step (a .h) (a .bytes .now) s e))

@@ -10,6 +10,16 @@ use borrow.Author.Needs.{needs}
 use Rattle.take.proofs.take_run.Statement.{statement}
 use Rattle.take.proofs.take_run.Tie as tie
 
+-- Views: from one place of the code to an earlier one. A statement put between two of them changes one line here.
+abbrev start-of-judged : tie.After-judge-run → tie.Start
+start-of-judged c = c .before .before .before .before .before
+
+abbrev judged-of-sound : tie.After-enum-told → tie.After-judge-run
+judged-of-sound c = c .before .before
+
+abbrev sound-of-taken : tie.After-run-sound → tie.After-enum-told
+sound-of-taken c = c .before .before .before .before
+
 judge-run-requires : tie.Need-judge-run-requires
 judge-run-requires c κs = search needs
 
@@ -32,7 +42,9 @@ same-length-3 : tie.Need-same-length-3
 same-length-3 c = search needs
 
 returns : tie.Need-returns
-returns c = (answered-given _ tt (none-by _ _ (c .before .before .before .before .before .before .before .before .before .before .judge-run .ensures) (c .before .before .before .before .before .before .before .before .enum-told .given .1)), (c .before .before .before .before .run-sound .ensures .0, c .before .before .before .before .run-sound .ensures .1))
+returns c =
+    let taken = c .before .before .before .before in let sound = sound-of-taken taken in let judged = judged-of-sound sound in
+    (answered-given _ tt (none-by _ _ (judged .judge-run .ensures) (sound .enum-told .given .1)), (taken .run-sound .ensures .0, taken .run-sound .ensures .1))
 
 same-length-4 : tie.Need-same-length-4
 same-length-4 c = search needs
@@ -42,7 +54,7 @@ same-length-5 c = search needs
 
 returns-2 : tie.Need-returns-2
 returns-2 c =
-    let a = c .before .before .before .before .before .before .before .before .args in
+    let a = start-of-judged (c .before .before .before) .args in
     let s = stateOf (a .matrix .now) (a .rights .now) (a .t) in
     let r = c .before .e .given .0 .0 in
     let e = some-by _ _ r (c .before .before .before .judge-run .ensures) (c .before .e .given .1) in

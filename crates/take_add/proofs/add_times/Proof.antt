@@ -20,6 +20,10 @@ Inv-loop part₀ f a n i₀ part i = (i ≤ n) × Adding (plus part₀ (times (t
 abbrev μ-loop : tie.MeasureT-loop
 μ-loop part₀ f a n i₀ part i = n - i
 
+-- Views: from one place of the code to an earlier one. A statement put between two of them changes one line here.
+abbrev start-of-turn : tie.At-loop Inv-loop μ-loop → tie.Start Inv-loop μ-loop
+start-of-turn c = c .before
+
 loop-holds : tie.Need-loop-holds Inv-loop μ-loop
 loop-holds c = (omega arith, adding-starts (c .args .part .now) (times (toZ w64 (ofZ w64 (c .args .f))) (c .args .a .now)))
 
@@ -58,7 +62,7 @@ loop-less c = omega arith
 loop-again : tie.Need-loop-again Inv-loop μ-loop
 loop-again c =
     let l = c .before .before .before .before .before .before .before .loop in
-    let s = c .before .before .before .before .before .before .before .before in
+    let s = start-of-turn (c .before .before .before .before .before .before .before) in
     let f = toZ w64 (ofZ w64 (s .args .f)) in
     let one = first (c .before .before) in
     let both = times-turn f (s .args .a .now) _ (s .args .part .now) (c .before .before .before .before .add-at .last .0) (c .before .add-at2 .last .0) (l .i + 1) (omega arith) (omega (arith, one .0)) (c .before .add-at2 .ensures) one in

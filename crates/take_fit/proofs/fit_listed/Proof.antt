@@ -16,6 +16,13 @@ use borrow.Author.Needs.{needs}
 use Rattle.take_fit.proofs.fit_listed.Statement.{statement}
 use Rattle.take_fit.proofs.fit_listed.Tie as tie
 
+-- Views: from one place of the code to an earlier one. A statement put between two of them changes one line here.
+abbrev start-of-timed : tie.After-time-of → tie.Start
+start-of-timed c = c .before .before .before
+
+abbrev timed-of-residual : tie.After-residual-of → tie.After-time-of
+timed-of-residual c = c .before .before .before .before
+
 sigma-ok-requires : tie.Need-sigma-ok-requires
 sigma-ok-requires c κs = search needs
 
@@ -33,7 +40,7 @@ enum-known-residual c = search needs
 
 sub-t15 : tie.Need-sub-t15
 unfolding isType
-sub-t15 c = between-true _ _ _ (c .before .before .before .before .before .before .before .before .before .before .before .pre .1) .0
+sub-t15 c = between-true _ _ _ (start-of-timed (timed-of-residual (c .before .before .before .before)) .pre .1) .0
 
 cast-t16 : tie.Need-cast-t16
 cast-t16 c = search needs
@@ -46,20 +53,22 @@ enum-known-e-2 c = search needs
 
 returns : tie.Need-returns
 returns c f b s l g k e =
-    let a = c .before .before .before .before .before .before .before .before .before .before .before .args in
-    let type : isType (recordIn b .kind) ≡ true = sym (type-is f b (a .r) e) ∙ c .before .before .before .before .before .before .before .before .before .before .before .pre .1 in
-    let sigma : sigmaOk (recordIn b .sigma) ≡ true = sym (sigma-is f b (a .r) e) ∙ sym (c .before .before .before .before .before .before .before .before .before .before .sigma-ok .ensures) ∙ c .before .before .before .before .before .before .before .before .before .if1 .taken in
-    let time = sym (time-is f b (a .r) e (a .place) l (a .correction) g (a .settings) s) ∙ ap (λ z. timed (a .settings) (a .r .day) (a .r .ms) z) (sym (toZ-ofZ w32 (a .correction) (c .before .before .before .before .before .before .before .before .before .before .before .fits .correction))) ∙ sym (c .before .before .before .before .before .before .before .before .time-of .ensures) ∙ ap toldTime (c .before .before .before .before .before .before .time .given .1) in
-    let left = sym (residual-is f b (a .r) e) ∙ yes _ _ _ (c .before .before .before .before .before .before .before .before .before .before .before .pre .1) refl ∙ sym (c .before .before .before .before .residual-of .ensures) ∙ ap toldUnit (c .before .before .residual .given .1) ∙ ap given (sym (toZ-ofZ w64 (c .before .before .residual .given .0 .0) (record { sfits = c .before .known-told2 .given .0 .1 }))) in
+    let residual = c .before .before .before .before in let timed-at = timed-of-residual residual in let start = start-of-timed timed-at in
+    let a = start .args in
+    let type : isType (recordIn b .kind) ≡ true = sym (type-is f b (a .r) e) ∙ start .pre .1 in
+    let sigma : sigmaOk (recordIn b .sigma) ≡ true = sym (sigma-is f b (a .r) e) ∙ sym (timed-at .before .before .sigma-ok .ensures) ∙ timed-at .before .if1 .taken in
+    let time = sym (time-is f b (a .r) e (a .place) l (a .correction) g (a .settings) s) ∙ ap (λ z. timed (a .settings) (a .r .day) (a .r .ms) z) (sym (toZ-ofZ w32 (a .correction) (start .fits .correction))) ∙ sym (timed-at .time-of .ensures) ∙ ap toldTime (residual .before .before .time .given .1) in
+    let left = sym (residual-is f b (a .r) e) ∙ yes _ _ _ (start .pre .1) refl ∙ sym (residual .residual-of .ensures) ∙ ap toldUnit (c .before .before .residual .given .1) ∙ ap given (sym (toZ-ofZ w64 (c .before .before .residual .given .0 .0) (record { sfits = c .before .known-told2 .given .0 .1 }))) in
     ap given (fit-is f b (a .r) e (a .place) l (a .row) k _ time _ left) ∙ it-fits f b (a .place) l type sigma _ time _ left
 
 returns-2 : tie.Need-returns-2
 returns-2 c f b s l g k e =
-    let a = c .before .before .before .before .before .before .before .before .before .before .args in
-    let type : isType (recordIn b .kind) ≡ true = sym (type-is f b (a .r) e) ∙ c .before .before .before .before .before .before .before .before .before .before .pre .1 in
-    let sigma : sigmaOk (recordIn b .sigma) ≡ true = sym (sigma-is f b (a .r) e) ∙ sym (c .before .before .before .before .before .before .before .before .before .sigma-ok .ensures) ∙ c .before .before .before .before .before .before .before .before .if1 .taken in
-    let time = sym (time-is f b (a .r) e (a .place) l (a .correction) g (a .settings) s) ∙ ap (λ z. timed (a .settings) (a .r .day) (a .r .ms) z) (sym (toZ-ofZ w32 (a .correction) (c .before .before .before .before .before .before .before .before .before .before .fits .correction))) ∙ sym (c .before .before .before .before .before .before .before .time-of .ensures) ∙ ap toldTime (c .before .before .before .before .before .time .given .1) in
-    let left = sym (residual-is f b (a .r) e) ∙ yes _ _ _ (c .before .before .before .before .before .before .before .before .before .before .pre .1) refl ∙ sym (c .before .before .before .residual-of .ensures) ∙ ap toldUnit (c .before .e .given .1) in
+    let residual = c .before .before .before in let timed-at = timed-of-residual residual in let start = start-of-timed timed-at in
+    let a = start .args in
+    let type : isType (recordIn b .kind) ≡ true = sym (type-is f b (a .r) e) ∙ start .pre .1 in
+    let sigma : sigmaOk (recordIn b .sigma) ≡ true = sym (sigma-is f b (a .r) e) ∙ sym (timed-at .before .before .sigma-ok .ensures) ∙ timed-at .before .if1 .taken in
+    let time = sym (time-is f b (a .r) e (a .place) l (a .correction) g (a .settings) s) ∙ ap (λ z. timed (a .settings) (a .r .day) (a .r .ms) z) (sym (toZ-ofZ w32 (a .correction) (start .fits .correction))) ∙ sym (timed-at .time-of .ensures) ∙ ap toldTime (residual .before .before .time .given .1) in
+    let left = sym (residual-is f b (a .r) e) ∙ yes _ _ _ (start .pre .1) refl ∙ sym (residual .residual-of .ensures) ∙ ap toldUnit (c .before .e .given .1) in
     no-residual f b (a .place) l type sigma _ time (c .before .e .given .0 .0) left
 
 returns-3 : tie.Need-returns-3

@@ -13,12 +13,16 @@ use borrow.Author.Needs.{needs}
 use Rattle.take_judge.proofs.judge.Statement.{statement}
 use Rattle.take_judge.proofs.judge.Tie as tie
 
+-- Views: from one place of the code to an earlier one. A statement put between two of them changes one line here.
+abbrev start-of-edit : tie.After-passes-edit → tie.Start
+start-of-edit c = c .before .before .before .before
+
 passes-edit-requires : tie.Need-passes-edit-requires
 passes-edit-requires c κs = search needs
 
 terms-of-requires : tie.Need-terms-of-requires
 terms-of-requires c κs =
-    let s = c .before .before .before .before .before .before .before in
+    let s = start-of-edit (c .before .before .before) in
     let x = s .args .x in
     let z = toZ-ofZ w64 (x .residual) (search needs) in
     let edit = ap (passesEdit _ _ _) (sym z) ∙ sym (c .before .before .before .passes-edit .ensures) ∙ c .before .before .if2 .taken in
@@ -26,7 +30,7 @@ terms-of-requires c κs =
 
 returns : tie.Need-returns
 returns c =
-    let x = c .before .before .before .before .before .before .before .before .args .x in
+    let x = start-of-edit (c .before .before .before .before) .args .x in
     ap given (c .terms-of .ensures ∙ ap (λ z. termsBy (x .sigma) z (x .factor)) (toZ-ofZ w64 (x .residual) (search needs)))
     ∙ taken _ _ _ _ (omega arith) (ap (passesEdit _ _ _) (sym (toZ-ofZ w64 _ (search needs))) ∙ sym (c .before .before .before .before .passes-edit .ensures) ∙ c .before .before .before .if2 .taken) (omega arith)
 

@@ -14,6 +14,13 @@ use borrow.Author.Needs.{needs}
 use Rattle.take_steps.proofs.add_record.Statement.{statement}
 use Rattle.take_steps.proofs.add_record.Tie as tie
 
+-- Views: from one place of the code to an earlier one. A statement put between two of them changes one line here.
+abbrev start-of-partials : tie.After-partials → tie.Start
+start-of-partials c = c .before .before .before
+
+abbrev partials-of-matrix : tie.After-add-matrix → tie.After-partials
+partials-of-matrix c = c .before .before .before .before
+
 -- the partials laid out
 laid : (c : tie.After-partials) → let a = c .before .before .before .args in c .partials .last .1 .0 ≡ partialsIn (length (a .rights .now)) (a .bytes .now)
 laid c = let s = c .before .before .before in c .partials .ensures ∙ ap (λ n. partialsIn n (s .args .bytes .now)) (s .pre .0 .2)
@@ -41,9 +48,9 @@ same-length-3 c = search needs
 
 returns : tie.Need-returns
 returns c =
-    let l = laid (c .before .before .before .before .before .before .before .before .before) in
-    let s = c .before .before .before .before .before .before .before .before .before .before .before .before in (
-      c .before .before .before .before .before .add-matrix .ensures ∙ ap (λ a. plus (s .args .matrix .now) (triangleTerms (pos (s .args .weight)) a)) l,
+    let matrix = c .before .before .before .before .before in let partials = partials-of-matrix matrix in let s = start-of-partials partials in
+    let l = laid partials in (
+      matrix .add-matrix .ensures ∙ ap (λ a. plus (s .args .matrix .now) (triangleTerms (pos (s .args .weight)) a)) l,
       c .before .add-times .ensures ∙ ap₂ (λ f a. plus (s .args .rights .now) (times f a)) (toZ-ofZ w64 (s .args .side) (s .fits .side)) l,
     )
 

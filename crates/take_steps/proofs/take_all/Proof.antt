@@ -2,11 +2,12 @@
 -- Assumes nothing.
 use mathlib.Core.Path.{_≡_, sym, ap, ap₂, _∙_}
 use native.Mathlib.Omega.{arith}
-use Prim.Native.Nat.{_+_, _*_, _/_, _≤_, _<_}
-use lib.IntN.{pos}
+use Prim.Native.Nat.{ℕ, _+_, _*_, _/_, _≤_, _<_}
+use mathlib.Core.List.{List}
+use lib.IntN.{ℤ, pos}
 use lib.ListN.{length, getD, set, take, drop}
 use mir.Syntax.{w64}
-use mir.Val.{Fits}
+use mir.Val.{Fits, SFits}
 use mir.ValLaws.{toZ-ofZ}
 use Rattle.num_whole.specs.Answer.{given}
 use Rattle.num_whole.specs.Sums.{plus}
@@ -16,14 +17,14 @@ use Rattle.arc_record.specs.Record.{partialsIn}
 use Rattle.take_tally.specs.Tally.{noRow, tallyWith}
 use Rattle.take_fit.specs.Fit.{fitted, toldFit}
 use Rattle.take_judge.specs.Judged.{judgedLate, toldJudgement}
-use Rattle.take_laws.specs.Taking.{frame, recordStep}
+use Rattle.take_laws.specs.Taking.{Frame, frame, recordStep, recordAnswer}
 use Rattle.take_laws.proofs.Kept.{step-books, step-leaves}
 use Rattle.take_steps.specs.Runs.{runBy, answersBy}
 use Rattle.take_steps.proofs.Steps.{Ready, ready, fit-refused, late-refused, late-taken, booked, weight-small, side-small, square-small, seat-free, level-few, matrix-small, rights-small, square-room}
 use Rattle.take_steps.proofs.Runs.{part-size, turn-start, turn-next, going-end, part-inside}
 use Prim.Native.Nat.{_-_}
 use borrow.Author.Needs.{needs}
-use Rattle.take_state.specs.State.{stateOf}
+use Rattle.take_state.specs.State.{State, stateOf}
 use Rattle.take_steps.proofs.Runs.{Turn}
 use Rattle.take_steps.proofs.take_all.Statement.{statement}
 use Rattle.take_steps.proofs.take_all.Tie as tie
@@ -34,36 +35,98 @@ Inv-loop settings numbers corrections matrix₀ rights₀ room₀ run out₀ p s
 abbrev μ-loop : tie.MeasureT-loop
 μ-loop settings numbers corrections matrix₀ rights₀ room₀ run out₀ p size n u₀ i₀ at₀ matrix rights room out u i at = n - i
 
--- a record that fits
-fit-at : (c : tie.After-known-told Inv-loop μ-loop) → let a = c .before .before .before .before .before .before .before .before .before .before .args in let l = c .before .before .before .before .before .before .loop in
-    fitted (frame (a .settings) (length (a .rights .now)) (a .numbers .now) (a .corrections .now)) (take (32 + 2 * length (a .rights .now)) (drop (l .at) (a .run .now))) ≡ given (c .before .x .given .0 .0)
-fit-at c =
-    let a = c .before .before .before .before .before .before .before .before .before .before .args in
-    let l = c .before .before .before .before .before .before .loop in
-    ap (λ k. fitted (frame (a .settings) (length (a .rights .now)) (a .numbers .now) (a .corrections .now)) (take k (drop (l .at) (a .run .now)))) (part-size (l .at) (32 + 2 * length (a .rights .now)))
-    ∙ sym (c .before .before .before .fits2 .ensures) ∙ ap toldFit (c .before .x .given .1)
+-- Views: from one place of the code to an earlier one. A statement put between two of them changes one line here.
+abbrev start-of-inside : tie.In-loop Inv-loop μ-loop → tie.Start Inv-loop μ-loop
+start-of-inside c = c .before .before .before .before .before
 
-ready-at : (c : tie.After-known-told Inv-loop μ-loop) → Ready (length (c .before .before .before .before .before .before .before .before .before .before .args .numbers .now)) (c .before .x .given .0 .0)
-ready-at c = let a = c .before .before .before .before .before .before .before .before .before .before .args in ready (frame (a .settings) (length (a .rights .now)) (a .numbers .now) (a .corrections .now)) _ _ (fit-at c)
+abbrev inside-of-fit : tie.After-known-told Inv-loop μ-loop → tie.In-loop Inv-loop μ-loop
+inside-of-fit c = c .before .before .before .before .before
 
-place-small : (c : tie.After-known-told Inv-loop μ-loop) → c .before .x .given .0 .0 .place < 16
-place-small c = omega (arith, ready-at c .place, c .before .before .before .before .before .before .before .before .before .before .pre .0 .0 .seats)
+abbrev start-of-fit : tie.After-known-told Inv-loop μ-loop → tie.Start Inv-loop μ-loop
+start-of-fit c = start-of-inside (inside-of-fit c)
 
--- one record more can be counted
+abbrev inside-of-unfit : tie.After-code2 Inv-loop μ-loop → tie.In-loop Inv-loop μ-loop
+inside-of-unfit c = c .before .before .before .before .before .before
+
+abbrev fit-of-judged : tie.After-judge Inv-loop μ-loop → tie.After-known-told Inv-loop μ-loop
+fit-of-judged c = c .before .before .before .before
+
+abbrev judged-of-accepted : tie.After-known-told2 Inv-loop μ-loop → tie.After-judge Inv-loop μ-loop
+judged-of-accepted c = c .before .before .before
+
+abbrev fit-of-accepted : tie.After-known-told2 Inv-loop μ-loop → tie.After-known-told Inv-loop μ-loop
+fit-of-accepted c = fit-of-judged (judged-of-accepted c)
+
+abbrev judged-of-refused : tie.After-code Inv-loop μ-loop → tie.After-judge Inv-loop μ-loop
+judged-of-refused c = c .before .before .before .before
+
+abbrev inside-of-refused : tie.After-code Inv-loop μ-loop → tie.In-loop Inv-loop μ-loop
+inside-of-refused c = inside-of-fit (fit-of-judged (judged-of-refused c))
+
+abbrev accepted-of-added : tie.After-add-record Inv-loop μ-loop → tie.After-known-told2 Inv-loop μ-loop
+accepted-of-added c = c .before .before .before .before .before
+
+abbrev fit-of-added : tie.After-add-record Inv-loop μ-loop → tie.After-known-told Inv-loop μ-loop
+fit-of-added c = fit-of-accepted (accepted-of-added c)
+
+abbrev added-of-row-with : tie.After-row-with Inv-loop μ-loop → tie.After-add-record Inv-loop μ-loop
+added-of-row-with c = c .before .before .before .before .before
+
+abbrev fit-of-row-with : tie.After-row-with Inv-loop μ-loop → tie.After-known-told Inv-loop μ-loop
+fit-of-row-with c = fit-of-added (added-of-row-with c)
+
+abbrev inside-of-row-with : tie.After-row-with Inv-loop μ-loop → tie.In-loop Inv-loop μ-loop
+inside-of-row-with c = inside-of-fit (fit-of-row-with c)
+
+-- what a record is judged by, its bytes, and the state that it finds
+abbrev frame-of : tie.In-loop Inv-loop μ-loop → Frame
+frame-of c = let a = start-of-inside c .args in frame (a .settings) (length (a .rights .now)) (a .numbers .now) (a .corrections .now)
+
+abbrev bytes-of : tie.In-loop Inv-loop μ-loop → List ℕ
+bytes-of c = let a = start-of-inside c .args in take (32 + 2 * length (a .rights .now)) (drop (c .before .loop .at) (a .run .now))
+
+abbrev state-of : tie.In-loop Inv-loop μ-loop → State
+state-of c = let l = c .before .loop in stateOf (l .matrix) (l .rights) (l .u)
+
+-- one record more can be counted, its answer has a place, and the next turn stands on what it left
+out-room : (c : tie.In-loop Inv-loop μ-loop) → c .before .loop .i < length (c .before .loop .out)
+out-room c = omega (arith, c .before .loop .inv .out-long, start-of-inside c .pre .1, c .loop-test .taken)
+
 one-more : (c : tie.In-loop Inv-loop μ-loop) → Fits w64 (c .before .loop .i + 1)
 one-more c =
-    let h : c .before .loop .i < length (c .before .before .before .before .before .args .out .now) = omega (arith, c .before .before .before .before .before .pre .1, c .loop-test .taken) in
+    let h : c .before .loop .i < length (start-of-inside c .args .out .now) = omega (arith, start-of-inside c .pre .1, c .loop-test .taken) in
     search needs
 
+next : (c : tie.In-loop Inv-loop μ-loop) (s : State) (v : ℕ) (room : List ℤ) → let a = start-of-inside c .args in let l = c .before .loop in let size = 32 + 2 * length (a .rights .now) in
+    length room ≡ length (a .rights .now) → s ≡ recordStep (frame-of c) (bytes-of c) (state-of c) → v ≡ recordAnswer (frame-of c) (bytes-of c) (state-of c)
+    → Turn (a .settings) (a .numbers .now) (a .corrections .now) (length (a .rights .now)) size (length (a .run .now) / size) (a .run .now) (stateOf (a .matrix .now) (a .rights .now) (a .t)) (a .out .now) (l .i + 1) (l .at + size) s room (set (l .out) (l .i) v)
+next c s v room =
+    let a = start-of-inside c .args in let l = c .before .loop in let size = 32 + 2 * length (a .rights .now) in
+    turn-next (a .settings) (a .numbers .now) (a .corrections .now) size (length (a .run .now) / size) (a .run .now) (stateOf (a .matrix .now) (a .rights .now) (a .t)) (a .out .now) (length (a .rights .now)) (l .i) (l .at) (state-of c) (l .room) (l .out) (l .inv) (c .loop-test .taken) s v room
+
+-- a record that fits
+fit-at : (c : tie.After-known-told Inv-loop μ-loop) → fitted (frame-of (inside-of-fit c)) (bytes-of (inside-of-fit c)) ≡ given (c .before .x .given .0 .0)
+fit-at c =
+    let inside = inside-of-fit c in let a = start-of-inside inside .args in let l = inside .before .loop in
+    ap (λ k. fitted (frame-of inside) (take k (drop (l .at) (a .run .now)))) (part-size (l .at) (32 + 2 * length (a .rights .now)))
+    ∙ sym (c .before .before .before .fits2 .ensures) ∙ ap toldFit (c .before .x .given .1)
+
+ready-at : (c : tie.After-known-told Inv-loop μ-loop) → Ready (length (start-of-fit c .args .numbers .now)) (c .before .x .given .0 .0)
+ready-at c = ready (frame-of (inside-of-fit c)) _ _ (fit-at c)
+
+place-small : (c : tie.After-known-told Inv-loop μ-loop) → c .before .x .given .0 .0 .place < 16
+place-small c = omega (arith, ready-at c .place, start-of-fit c .pre .0 .0 .seats)
+
 -- a record that is accepted
-judged-at : (c : tie.After-known-told2 Inv-loop μ-loop) → let a = c .before .before .before .before .before .before .before .before .before .before .before .before .before .before .before .before .before .args in let l = c .before .before .before .before .before .before .before .before .before .before .before .before .before .loop in let x = c .before .before .before .before .before .before .before .before .x .given .0 .0 in
-    judgedLate (a .settings .level) x (getD (getD (l .u .rows) (x .place) noRow .times) (x .column) 0) (getD (l .u .counts) (x .place) 0) ≡ given (c .before .y .given .0 .0)
+judged-at : (c : tie.After-known-told2 Inv-loop μ-loop) → let fit = fit-of-accepted c in let x = fit .before .x .given .0 .0 in let u = inside-of-fit fit .before .loop .u in
+    judgedLate (start-of-fit fit .args .settings .level) x (getD (getD (u .rows) (x .place) noRow .times) (x .column) 0) (getD (u .counts) (x .place) 0) ≡ given (c .before .y .given .0 .0)
 judged-at c =
-    let a = c .before .before .before .before .before .before .before .before .before .before .before .before .before .before .before .before .before .args in
-    let l = c .before .before .before .before .before .before .before .before .before .before .before .before .before .loop in
-    let x = c .before .before .before .before .before .before .before .before .x .given .0 .0 in
-    ap (λ t. judgedLate (a .settings .level) x t (getD (l .u .counts) (x .place) 0)) (sym (c .before .before .before .before .last-of .ensures))
-    ∙ sym (c .before .before .before .judge .ensures) ∙ ap toldJudgement (c .before .y .given .1)
+    let judged = judged-of-accepted c in let fit = fit-of-judged judged in let x = fit .before .x .given .0 .0 in
+    ap (λ t. judgedLate (start-of-fit fit .args .settings .level) x t (getD (inside-of-fit fit .before .loop .u .counts) (x .place) 0)) (sym (judged .before .last-of .ensures))
+    ∙ sym (judged .judge .ensures) ∙ ap toldJudgement (c .before .y .given .1)
+
+side-fits : (c : tie.After-known-told2 Inv-loop μ-loop) → SFits w64 (c .before .y .given .0 .0 .side)
+side-fits c = search needs
 
 mul-size : tie.Need-mul-size Inv-loop μ-loop
 mul-size c = record { fits = omega (arith, c .before .before .before .pre .0 .0 .few) }
@@ -79,7 +142,7 @@ loop-holds c = let a = c .before .before .before .args in turn-start _ _ _ _ _ _
 
 add-e : tie.Need-add-e Inv-loop μ-loop
 add-e c =
-    let h : c .before .loop .at + (32 + 2 * length (c .before .before .before .before .before .args .rights .now)) ≤ length (c .before .before .before .before .before .args .run .now) = part-inside (length (c .before .before .before .before .before .args .run .now)) (32 + 2 * length (c .before .before .before .before .before .args .rights .now)) (c .before .loop .i) (c .before .loop .at) (c .loop-test .taken) (c .before .loop .inv .here) in
+    let h : c .before .loop .at + (32 + 2 * length (start-of-inside c .args .rights .now)) ≤ length (start-of-inside c .args .run .now) = part-inside (length (start-of-inside c .args .run .now)) (32 + 2 * length (start-of-inside c .args .rights .now)) (c .before .loop .i) (c .before .loop .at) (c .loop-test .taken) (c .before .loop .inv .here) in
     search needs
 
 sub-bytes : tie.Need-sub-bytes Inv-loop μ-loop
@@ -90,11 +153,11 @@ part-bytes-start c = search needs
 
 part-bytes-end : tie.Need-part-bytes-end Inv-loop μ-loop
 part-bytes-end c =
-    let h : c .before .loop .at + (32 + 2 * length (c .before .before .before .before .before .args .rights .now)) ≤ length (c .before .before .before .before .before .args .run .now) = part-inside (length (c .before .before .before .before .before .args .run .now)) (32 + 2 * length (c .before .before .before .before .before .args .rights .now)) (c .before .loop .i) (c .before .loop .at) (c .loop-test .taken) (c .before .loop .inv .here) in
+    let h : c .before .loop .at + (32 + 2 * length (start-of-inside c .args .rights .now)) ≤ length (start-of-inside c .args .run .now) = part-inside (length (start-of-inside c .args .run .now)) (32 + 2 * length (start-of-inside c .args .rights .now)) (c .before .loop .i) (c .before .loop .at) (c .loop-test .taken) (c .before .loop .inv .here) in
     h
 
 fits-requires : tie.Need-fits-requires Inv-loop μ-loop
-fits-requires c κs = let h = c .before .before .before .before .before .before .pre .0 .0 in ((h .settings, h .few), h .corrected)
+fits-requires c κs = let h = start-of-inside (c .before) .pre .0 .0 in ((h .settings, h .few), h .corrected)
 
 enum-known-x : tie.Need-enum-known-x Inv-loop μ-loop
 enum-known-x c = search needs
@@ -117,102 +180,90 @@ last-of-requires c κs = ready-at (c .before .before) .column
 judge-requires : tie.Need-judge-requires Inv-loop μ-loop
 judge-requires c κs =
     let r = ready-at (c .before .before .before) in
-    ((level-few _ _ _ _ (c .before .before .before .before .before .before .before .before .before .before .before .before .before .pre .0 .0), r .some, r .few, r .product, r .small), (r .step, r .factor))
+    ((level-few _ _ _ _ (start-of-fit (c .before .before .before) .pre .0 .0), r .some, r .few, r .product, r .small), (r .step, r .factor))
 
 enum-known-y : tie.Need-enum-known-y Inv-loop μ-loop
 enum-known-y c = search needs
 
 add-record-requires : tie.Need-add-record-requires Inv-loop μ-loop
 add-record-requires c κs =
-    let a = c .before .before .before .before .before .before .before .before .before .before .before .before .before .before .before .before .before .before .before .before .before .args in
-    let l = c .before .before .before .before .before .before .before .before .before .before .before .before .before .before .before .before .before .loop in
-    let f = frame (a .settings) (length (a .rights .now)) (a .numbers .now) (a .corrections .now) in
-    let s = stateOf (l .matrix) (l .rights) (l .u) in
-    let b = take (32 + 2 * length (a .rights .now)) (drop (l .at) (a .run .now)) in
+    let accepted = c .before .before .before .before in let fit-here = fit-of-accepted accepted in let inside = inside-of-fit fit-here in let a = start-of-inside inside .args in let l = inside .before .loop in
+    let f = frame-of inside in let b = bytes-of inside in let s = state-of inside in
     let h = l .inv .prepared in
-    let x = c .before .before .before .before .before .before .before .before .before .before .before .before .x .given .0 .0 in
-    let fit = fit-at (c .before .before .before .before .before .before .before .before .before .before .before) in
-    let y = c .before .before .before .before .before .y .given .0 .0 in
-    let j = judged-at (c .before .before .before .before) in
+    let x = fit-here .before .x .given .0 .0 in
+    let fit = fit-at fit-here in
+    let y = accepted .before .y .given .0 .0 in
+    let j = judged-at accepted in
     let v = level-few (a .settings) (a .numbers .now) (a .corrections .now) s h in (
       (h .few, h .matrix, l .inv .room-long ∙ sym (l .inv .rights-long)),
       (
-        (weight-small f b s x fit y j v, rw (toZ-ofZ w64 (y .side) (search needs)) (side-small f b s x fit y j v)),
+        (weight-small f b s x fit y j v, rw (toZ-ofZ w64 (y .side) (side-fits accepted)) (side-small f b s x fit y j v)),
         (matrix-small (a .settings) (a .numbers .now) (a .corrections .now) s h, rights-small (a .settings) (a .numbers .now) (a .corrections .now) s h),
       ),
     )
 
 add-u : tie.Need-add-u Inv-loop μ-loop
 add-u c =
-    let a = c .before .before .before .before .before .before .before .before .before .before .before .before .before .before .before .before .before .before .before .before .before .before .before .before .before .before .args in
-    let l = c .before .before .before .before .before .before .before .before .before .before .before .before .before .before .before .before .before .before .before .before .before .before .loop in
-    let f = frame (a .settings) (length (a .rights .now)) (a .numbers .now) (a .corrections .now) in
-    let s = stateOf (l .matrix) (l .rights) (l .u) in
-    let b = take (32 + 2 * length (a .rights .now)) (drop (l .at) (a .run .now)) in
+    let accepted = accepted-of-added (c .before .before .before .before) in let fit = fit-of-accepted accepted in let inside = inside-of-fit fit in let a = start-of-inside inside .args in let l = inside .before .loop in
+    let f = frame-of inside in let b = bytes-of inside in let s = state-of inside in
     let h = l .inv .prepared in
     let v = level-few (a .settings) (a .numbers .now) (a .corrections .now) s h in
-    let q = square-small f b s _ (fit-at (c .before .before .before .before .before .before .before .before .before .before .before .before .before .before .before .before)) _ (judged-at (c .before .before .before .before .before .before .before .before .before)) v in
+    let q = square-small f b s _ (fit-at fit) _ (judged-at accepted) v in
     record { fits = omega (arith, q, square-room (a .settings) (a .numbers .now) (a .corrections .now) s h) }
 
 add-u-2 : tie.Need-add-u-2 Inv-loop μ-loop
 add-u-2 c =
-    let a = c .before .before .before .before .before .before .before .before .before .before .before .before .before .before .before .before .before .before .before .before .before .before .before .before .before .before .args in
-    let l = c .before .before .before .before .before .before .before .before .before .before .before .before .before .before .before .before .before .before .before .before .before .before .loop in
-    let f = frame (a .settings) (length (a .rights .now)) (a .numbers .now) (a .corrections .now) in
-    let s = stateOf (l .matrix) (l .rights) (l .u) in
-    let b = take (32 + 2 * length (a .rights .now)) (drop (l .at) (a .run .now)) in
-    let q = seat-free f b s _ (fit-at (c .before .before .before .before .before .before .before .before .before .before .before .before .before .before .before .before)) _ (judged-at (c .before .before .before .before .before .before .before .before .before)) in
+    let accepted = accepted-of-added (c .before .before .before .before) in let fit = fit-of-accepted accepted in let inside = inside-of-fit fit in
+    let f = frame-of inside in let b = bytes-of inside in let s = state-of inside in
+    let q = seat-free f b s _ (fit-at fit) _ (judged-at accepted) in
     record { fits = omega (arith, q) }
 
 mul-u : tie.Need-mul-u Inv-loop μ-loop
-mul-u c = record { fits = omega (arith, place-small (c .before .before .before .before .before .before .before .before .before .before .before .before .before .before .before .before)) }
+mul-u c = record { fits = omega (arith, place-small (fit-of-added (c .before .before .before .before))) }
 
 element-write-u : tie.Need-element-write-u Inv-loop μ-loop
-element-write-u c = place-small (c .before .before .before .before .before .before .before .before .before .before .before .before .before .before .before .before)
+element-write-u c = place-small (fit-of-added (c .before .before .before .before))
 
 row-with-requires : tie.Need-row-with-requires Inv-loop μ-loop
-row-with-requires c κs = ready-at (c .before .before .before .before .before .before .before .before .before .before .before .before .before .before .before .before) .column
+row-with-requires c κs = ready-at (fit-of-added (c .before .before .before .before)) .column
 
 mul-t50 : tie.Need-mul-t50 Inv-loop μ-loop
-mul-t50 c = record { fits = omega (arith, place-small (c .before .before .before .before .before .before .before .before .before .before .before .before .before .before .before .before .before)) }
+mul-t50 c = record { fits = omega (arith, place-small (fit-of-row-with c)) }
 
 element-set-from-u : tie.Need-element-set-from-u Inv-loop μ-loop
-element-set-from-u c = place-small (c .before .before .before .before .before .before .before .before .before .before .before .before .before .before .before .before .before)
+element-set-from-u c = place-small (fit-of-row-with c)
 
 slice-write-out : tie.Need-slice-write-out Inv-loop μ-loop
-slice-write-out c = omega (arith, c .before .before .before .before .before .before .before .before .before .before .before .before .before .before .before .before .before .before .before .before .before .before .before .loop .inv .out-long, c .before .before .before .before .before .before .before .before .before .before .before .before .before .before .before .before .before .before .before .before .before .before .before .before .before .before .before .pre .1, c .before .before .before .before .before .before .before .before .before .before .before .before .before .before .before .before .before .before .before .before .before .before .loop-test .taken)
+slice-write-out c = out-room (inside-of-row-with c)
 
 add-i : tie.Need-add-i Inv-loop μ-loop
-add-i c = one-more (c .before .before .before .before .before .before .before .before .before .before .before .before .before .before .before .before .before .before .before .before .before .before)
+add-i c = one-more (inside-of-row-with c)
 
 loop-less : tie.Need-loop-less Inv-loop μ-loop
-loop-less c = omega (arith, c .before .before .before .before .before .before .before .before .before .before .before .before .before .before .before .before .before .before .before .before .before .before .loop-test .taken)
+loop-less c = omega (arith, inside-of-row-with c .loop-test .taken)
 
 loop-again : tie.Need-loop-again Inv-loop μ-loop
 unfolding tallyWith
 loop-again c =
-    let a = c .before .before .before .before .before .before .before .before .before .before .before .before .before .before .before .before .before .before .before .before .before .before .before .before .before .before .before .args in
-    let l = c .before .before .before .before .before .before .before .before .before .before .before .before .before .before .before .before .before .before .before .before .before .before .before .loop in
-    let f = frame (a .settings) (length (a .rights .now)) (a .numbers .now) (a .corrections .now) in
-    let s = stateOf (l .matrix) (l .rights) (l .u) in
+    let added = added-of-row-with c in let accepted = accepted-of-added added in let fit-here = fit-of-accepted accepted in let inside = inside-of-fit fit-here in let a = start-of-inside inside .args in let l = inside .before .loop in
+    let f = frame-of inside in let b = bytes-of inside in let s = state-of inside in
     let size = 32 + 2 * length (a .rights .now) in
-    let b = take size (drop (l .at) (a .run .now)) in
-    let x = c .before .before .before .before .before .before .before .before .before .before .before .before .before .before .before .before .before .before .x .given .0 .0 in
-    let fit = fit-at (c .before .before .before .before .before .before .before .before .before .before .before .before .before .before .before .before .before) in
-    let y = c .before .before .before .before .before .before .before .before .before .before .before .y .given .0 .0 in
-    let j = judged-at (c .before .before .before .before .before .before .before .before .before .before) in
+    let x = fit-here .before .x .given .0 .0 in
+    let fit = fit-at fit-here in
+    let y = accepted .before .y .given .0 .0 in
+    let j = judged-at accepted in
     let n = late-taken f b s x fit y j in
-    let add = c .before .before .before .before .before .add-record .ensures in
+    let add = added .add-record .ensures in
     let wide = l .inv .rights-long in
     let whole : take (l .at + size - l .at) (drop (l .at) (a .run .now)) ≡ b = ap (λ k. take k (drop (l .at) (a .run .now))) (sym (part-size (l .at) size)) in
     let sums = add .0 ∙ ap₂ (λ k r. plus (l .matrix) (triangleTerms (pos (y .weight)) (partialsIn k r))) wide whole in
-    let sides = add .1 ∙ ap (λ z. plus (l .rights) (times z (partialsIn (length (l .rights)) (take (l .at + size - l .at) (drop (l .at) (a .run .now)))))) (toZ-ofZ w64 (y .side) (search needs))
+    let sides = add .1 ∙ ap (λ z. plus (l .rights) (times z (partialsIn (length (l .rights)) (take (l .at + size - l .at) (drop (l .at) (a .run .now)))))) (toZ-ofZ w64 (y .side) (side-fits accepted))
     ∙ ap₂ (λ k r. plus (l .rights) (times (y .side) (partialsIn k r))) wide whole in
-    let after : stateOf (c .before .before .before .before .before .add-record .last .0) (c .before .before .before .before .before .add-record .last .1 .0) (record { square = l .u .square + y .square; counts = set (l .u .counts) (x .place) (getD (l .u .counts) (x .place) 0 + 1); rows = set (l .u .rows) (x .place) (c .row-with .result) }) ≡ recordStep f b s =
+    let after : stateOf (added .add-record .last .0) (added .add-record .last .1 .0) (record { square = l .u .square + y .square; counts = set (l .u .counts) (x .place) (getD (l .u .counts) (x .place) 0 + 1); rows = set (l .u .rows) (x .place) (c .row-with .result) }) ≡ recordStep f b s =
     (λ i. stateOf (sums i) (sides i) (record { square = l .u .square + y .square; counts = set (l .u .counts) (x .place) (getD (l .u .counts) (x .place) 0 + 1); rows = set (l .u .rows) (x .place) (c .row-with .ensures i) }))
     ∙ sym (step-books f b s n ∙ booked f b s x fit y j) in
-    turn-next (a .settings) (a .numbers .now) (a .corrections .now) size (length (a .run .now) / size) (a .run .now) (stateOf (a .matrix .now) (a .rights .now) (a .t)) (a .out .now) (length (a .rights .now)) (l .i) (l .at) s (l .room) (l .out) (l .inv) (c .before .before .before .before .before .before .before .before .before .before .before .before .before .before .before .before .before .before .before .before .before .before .loop-test .taken) _ 0 (c .before .before .before .before .before .add-record .last .1 .1 .0)
-    (c .before .before .before .before .before .add-record .kept .1 .1 .0 ∙ l .inv .room-long) after (sym n)
+    next inside _ 0 (added .add-record .last .1 .1 .0)
+    (added .add-record .kept .1 .1 .0 ∙ l .inv .room-long) after (sym n)
 
 enum-known-e1 : tie.Need-enum-known-e1 Inv-loop μ-loop
 enum-known-e1 c = search needs
@@ -221,26 +272,22 @@ code-requires : tie.Need-code-requires Inv-loop μ-loop
 code-requires c κs = search needs
 
 slice-write-out-2 : tie.Need-slice-write-out-2 Inv-loop μ-loop
-slice-write-out-2 c = omega (arith, c .before .before .before .before .before .before .before .before .before .before .before .before .before .before .loop .inv .out-long, c .before .before .before .before .before .before .before .before .before .before .before .before .before .before .before .before .before .before .pre .1, c .before .before .before .before .before .before .before .before .before .before .before .before .before .loop-test .taken)
+slice-write-out-2 c = out-room (inside-of-refused c)
 
 add-i-2 : tie.Need-add-i-2 Inv-loop μ-loop
-add-i-2 c = one-more (c .before .before .before .before .before .before .before .before .before .before .before .before .before)
+add-i-2 c = one-more (inside-of-refused c)
 
 loop-less-2 : tie.Need-loop-less-2 Inv-loop μ-loop
-loop-less-2 c = omega (arith, c .before .before .before .before .before .before .before .before .before .before .before .before .before .loop-test .taken)
+loop-less-2 c = omega (arith, inside-of-refused c .loop-test .taken)
 
 loop-again-2 : tie.Need-loop-again-2 Inv-loop μ-loop
 loop-again-2 c =
-    let a = c .before .before .before .before .before .before .before .before .before .before .before .before .before .before .before .before .before .before .args in
-    let l = c .before .before .before .before .before .before .before .before .before .before .before .before .before .before .loop in
-    let f = frame (a .settings) (length (a .rights .now)) (a .numbers .now) (a .corrections .now) in
-    let s = stateOf (l .matrix) (l .rights) (l .u) in
-    let size = 32 + 2 * length (a .rights .now) in
-    let b = take size (drop (l .at) (a .run .now)) in
+    let judged = judged-of-refused c in let fit = fit-of-judged judged in let inside = inside-of-fit fit in let a = start-of-inside inside .args in let l = inside .before .loop in
+    let f = frame-of inside in let b = bytes-of inside in let s = state-of inside in
     let e = c .before .before .e1 .given .0 .0 in
-    let x = c .before .before .before .before .before .before .before .before .before .x .given .0 .0 in
-    let n = late-refused f b s x (fit-at (c .before .before .before .before .before .before .before .before)) e (ap (λ t. judgedLate (a .settings .level) x t (getD (l .u .counts) (x .place) 0)) (sym (c .before .before .before .before .before .last-of .ensures)) ∙ sym (c .before .before .before .before .judge .ensures) ∙ ap toldJudgement (c .before .before .e1 .given .1)) in
-    turn-next (a .settings) (a .numbers .now) (a .corrections .now) size (length (a .run .now) / size) (a .run .now) (stateOf (a .matrix .now) (a .rights .now) (a .t)) (a .out .now) (length (a .rights .now)) (l .i) (l .at) s (l .room) (l .out) (l .inv) (c .before .before .before .before .before .before .before .before .before .before .before .before .before .loop-test .taken) (s) (c .code .result) (l .room) (l .inv .room-long)
+    let x = fit .before .x .given .0 .0 in
+    let n = late-refused f b s x (fit-at fit) e (ap (λ t. judgedLate (a .settings .level) x t (getD (l .u .counts) (x .place) 0)) (sym (judged .before .last-of .ensures)) ∙ sym (judged .judge .ensures) ∙ ap toldJudgement (c .before .before .e1 .given .1)) in
+    next inside s (c .code .result) (l .room) (l .inv .room-long)
     (sym (step-leaves f b s (λ z. not-none e (sym n ∙ z))))
     (c .code .ensures ∙ sym n)
 
@@ -251,25 +298,22 @@ code-requires-2 : tie.Need-code-requires-2 Inv-loop μ-loop
 code-requires-2 c κs = search needs
 
 slice-write-out-3 : tie.Need-slice-write-out-3 Inv-loop μ-loop
-slice-write-out-3 c = omega (arith, c .before .before .before .before .before .before .before .loop .inv .out-long, c .before .before .before .before .before .before .before .before .before .before .before .pre .1, c .before .before .before .before .before .before .loop-test .taken)
+slice-write-out-3 c = out-room (inside-of-unfit c)
 
 add-i-3 : tie.Need-add-i-3 Inv-loop μ-loop
-add-i-3 c = one-more (c .before .before .before .before .before .before)
+add-i-3 c = one-more (inside-of-unfit c)
 
 loop-less-3 : tie.Need-loop-less-3 Inv-loop μ-loop
-loop-less-3 c = omega (arith, c .before .before .before .before .before .before .loop-test .taken)
+loop-less-3 c = omega (arith, inside-of-unfit c .loop-test .taken)
 
 loop-again-3 : tie.Need-loop-again-3 Inv-loop μ-loop
 loop-again-3 c =
-    let a = c .before .before .before .before .before .before .before .before .before .before .before .args in
-    let l = c .before .before .before .before .before .before .before .loop in
-    let f = frame (a .settings) (length (a .rights .now)) (a .numbers .now) (a .corrections .now) in
-    let s = stateOf (l .matrix) (l .rights) (l .u) in
+    let inside = inside-of-unfit c in let a = start-of-inside inside .args in let l = inside .before .loop in
+    let f = frame-of inside in let b = bytes-of inside in let s = state-of inside in
     let size = 32 + 2 * length (a .rights .now) in
-    let b = take size (drop (l .at) (a .run .now)) in
     let e = c .before .before .e2 .given .0 .0 in
     let n = fit-refused f b s e (ap (λ k. fitted f (take k (drop (l .at) (a .run .now)))) (part-size (l .at) size) ∙ sym (c .before .before .before .before .fits2 .ensures) ∙ ap toldFit (c .before .before .e2 .given .1)) in
-    turn-next (a .settings) (a .numbers .now) (a .corrections .now) size (length (a .run .now) / size) (a .run .now) (stateOf (a .matrix .now) (a .rights .now) (a .t)) (a .out .now) (length (a .rights .now)) (l .i) (l .at) s (l .room) (l .out) (l .inv) (c .before .before .before .before .before .before .loop-test .taken) (s) (c .code2 .result) (l .room) (l .inv .room-long)
+    next inside s (c .code2 .result) (l .room) (l .inv .room-long)
     (sym (step-leaves f b s (λ z. not-none e (sym n ∙ z))))
     (c .code2 .ensures ∙ sym n)
 

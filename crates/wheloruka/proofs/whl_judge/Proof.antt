@@ -9,6 +9,13 @@ use borrow.Author.Needs.{needs}
 use Rattle.wheloruka.proofs.whl_judge.Statement.{statement}
 use Rattle.wheloruka.proofs.whl_judge.Tie as tie
 
+-- Views: from one place of the code to an earlier one. A statement put between two of them changes one line here.
+abbrev start-of-both : tie.After-has-both → tie.Start
+start-of-both c = c .before .before .before
+
+abbrev both-of-tally : tie.After-tally-in → tie.After-has-both
+both-of-tally c = c .before .before .before
+
 has-both-requires : tie.Need-has-both-requires
 has-both-requires c κs = search needs
 
@@ -32,15 +39,15 @@ number-requires c κs = search needs
 
 returns : tie.Need-returns
 returns c =
-    let a = c .before .before .before .before .before .before .before .before .before .args in
+    let a = start-of-both (both-of-tally (c .before .before .before)) .args in
     number-done _ _ _ (sym (c .before .before .before .before .before .before .has-both .ensures) ∙ c .before .before .before .before .before .if1 .taken)
     (sym (ap toldVerdict (c .enum-told .given .1)) ∙ c .before .before .judge-state .ensures ∙ ap₂ (λ h t. answered (stateNumber h (stateOf (a .matrix .now) (a .rights .now) t)) tt) (c .before .before .before .before .heading-in .ensures) (c .before .before .before .tally-in .ensures))
 
 returns-2 : tie.Need-returns-2
 returns-2 c =
-    let a = c .before .before .before .before .before .before .before .before .before .before .before .args in
-    number-refused _ _ _ (sym (c .before .before .before .before .before .before .before .before .has-both .ensures) ∙ c .before .before .before .before .before .before .before .if1 .taken) (c .before .before .e .given .0 .0) _
-    (sym (ap toldVerdict (c .before .before .e .given .1)) ∙ c .before .before .before .before .judge-state .ensures ∙ ap₂ (λ h t. answered (stateNumber h (stateOf (a .matrix .now) (a .rights .now) t)) tt) (c .before .before .before .before .before .before .heading-in .ensures) (c .before .before .before .before .before .tally-in .ensures)) (c .number .ensures)
+    let tally = c .before .before .before .before .before in let both = both-of-tally tally in let a = start-of-both both .args in
+    number-refused _ _ _ (sym (both .has-both .ensures) ∙ tally .before .before .if1 .taken) (c .before .before .e .given .0 .0) _
+    (sym (ap toldVerdict (c .before .before .e .given .1)) ∙ c .before .before .before .before .judge-state .ensures ∙ ap₂ (λ h t. answered (stateNumber h (stateOf (a .matrix .now) (a .rights .now) t)) tt) (tally .before .heading-in .ensures) (tally .tally-in .ensures)) (c .number .ensures)
 
 returns-3 : tie.Need-returns-3
 returns-3 c = number-short _ _ _ (sym (c .before .has-both .ensures) ∙ c .if1 .left)

@@ -8,6 +8,13 @@ use borrow.Author.Needs.{needs}
 use Rattle.wheloruka.proofs.whl_list.Statement.{statement}
 use Rattle.wheloruka.proofs.whl_list.Tie as tie
 
+-- Views: from one place of the code to an earlier one. A statement put between two of them changes one line here.
+abbrev start-of-room : tie.After-room-for → tie.Start
+start-of-room c = c .before .before .before .before
+
+abbrev room-of-listed : tie.After-list → tie.After-room-for
+room-of-listed c = c .before .before
+
 room-for-requires : tie.Need-room-for-requires
 room-for-requires c κs = search needs
 
@@ -31,8 +38,8 @@ same-length-2 c = search needs
 
 returns : tie.Need-returns
 returns c =
-    let a = c .before .before .before .before .before .before .before .before .before .before .before .before .args in
-    gives (listAnswer (a .limit) (a .file .now)) (listLeft (a .limit) (a .file .now)) _ _ (list-none _ _) _ (c .before .before .before .before .before .before .before .before .room-for .ensures .0) _ (c .before .before .before .before .before .before .list .ensures .0) (c .before .before .give-written .ensures) (c .before .before .before .before .before .before .list .ensures .1)
+    let listed = c .before .before .before .before .before .before in let room = room-of-listed listed in let a = start-of-room room .args in
+    gives (listAnswer (a .limit) (a .file .now)) (listLeft (a .limit) (a .file .now)) _ _ (list-none _ _) _ (room .room-for .ensures .0) _ (listed .list .ensures .0) (c .before .before .give-written .ensures) (listed .list .ensures .1)
 
 pub whl-list-spec : {M : Type 1} → statement M
 whl-list-spec =

@@ -9,6 +9,13 @@ use borrow.Author.Needs.{needs}
 use Rattle.wheloruka.proofs.whl_merge.Statement.{statement}
 use Rattle.wheloruka.proofs.whl_merge.Tie as tie
 
+-- Views: from one place of the code to an earlier one. A statement put between two of them changes one line here.
+abbrev start-of-room : tie.After-room-for → tie.Start
+start-of-room c = c .before .before .before .before .before
+
+abbrev room-of-merged : tie.After-merge → tie.After-room-for
+room-of-merged c = c .before .before
+
 room-for-requires : tie.Need-room-for-requires
 room-for-requires c κs = search needs
 
@@ -32,8 +39,8 @@ same-length-2 c = search needs
 
 returns : tie.Need-returns
 returns c =
-    let a = c .before .before .before .before .before .before .before .before .before .before .before .before .before .args in
-    gives (λ k. mergeCallNumber (mergeAnswer (a .first .now) (a .second .now) k)) (mergeLeft (a .first .now) (a .second .now)) _ _ (merge-none _ _) _ (c .before .before .before .before .before .before .before .before .room-for .ensures .0) _ (ap mergeCallNumber (c .before .before .before .before .before .before .merge .ensures .0)) (c .before .before .give-merged .ensures) (c .before .before .before .before .before .before .merge .ensures .1)
+    let merged = c .before .before .before .before .before .before in let room = room-of-merged merged in let a = start-of-room room .args in
+    gives (λ k. mergeCallNumber (mergeAnswer (a .first .now) (a .second .now) k)) (mergeLeft (a .first .now) (a .second .now)) _ _ (merge-none _ _) _ (room .room-for .ensures .0) _ (ap mergeCallNumber (merged .merge .ensures .0)) (c .before .before .give-merged .ensures) (merged .merge .ensures .1)
 
 pub whl-merge-spec : {M : Type 1} → statement M
 whl-merge-spec =

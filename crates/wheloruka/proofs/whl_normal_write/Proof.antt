@@ -8,6 +8,13 @@ use borrow.Author.Needs.{needs}
 use Rattle.wheloruka.proofs.whl_normal_write.Statement.{statement}
 use Rattle.wheloruka.proofs.whl_normal_write.Tie as tie
 
+-- Views: from one place of the code to an earlier one. A statement put between two of them changes one line here.
+abbrev start-of-room : tie.After-room-for → tie.Start
+start-of-room c = c .before .before .before .before
+
+abbrev room-of-written : tie.After-write → tie.After-room-for
+room-of-written c = c .before .before
+
 room-for-requires : tie.Need-room-for-requires
 room-for-requires c κs = search needs
 
@@ -31,8 +38,8 @@ same-length-2 c = search needs
 
 returns : tie.Need-returns
 returns c =
-    let a = c .before .before .before .before .before .before .before .before .before .before .before .before .args in
-    gives (writeNormal (a .arcs) (a .parameters) (a .heads .now) (a .matrix .now) (a .rights .now)) (normalLeftIn (a .arcs) (a .parameters) (a .heads .now) (a .matrix .now) (a .rights .now)) _ _ (write-none _ _ _ _ _) _ (c .before .before .before .before .before .before .before .before .room-for .ensures .0) _ (c .before .before .before .before .before .before .write .ensures .0) (c .before .before .give-written .ensures) (c .before .before .before .before .before .before .write .ensures .1)
+    let written = c .before .before .before .before .before .before in let room = room-of-written written in let a = start-of-room room .args in
+    gives (writeNormal (a .arcs) (a .parameters) (a .heads .now) (a .matrix .now) (a .rights .now)) (normalLeftIn (a .arcs) (a .parameters) (a .heads .now) (a .matrix .now) (a .rights .now)) _ _ (write-none _ _ _ _ _) _ (room .room-for .ensures .0) _ (written .write .ensures .0) (c .before .before .give-written .ensures) (written .write .ensures .1)
 
 pub whl-normal-write-spec : {M : Type 1} → statement M
 whl-normal-write-spec =

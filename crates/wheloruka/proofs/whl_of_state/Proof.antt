@@ -12,6 +12,16 @@ use borrow.Author.Needs.{needs}
 use Rattle.wheloruka.proofs.whl_of_state.Statement.{statement}
 use Rattle.wheloruka.proofs.whl_of_state.Tie as tie
 
+-- Views: from one place of the code to an earlier one. A statement put between two of them changes one line here.
+abbrev start-of-judged : tie.After-judge-headed → tie.Start
+start-of-judged c = c .before .before .before .before .before
+
+abbrev judged-of-room : tie.After-room-for → tie.After-judge-headed
+judged-of-room c = c .before .before .before .before
+
+abbrev room-of-made : tie.After-of-state → tie.After-room-for
+room-of-made c = c .before .before
+
 judge-headed-requires : tie.Need-judge-headed-requires
 judge-headed-requires c κs = search needs
 
@@ -44,19 +54,19 @@ same-length-2 c = search needs
 
 returns : tie.Need-returns
 returns c =
-    let a = c .before .before .before .before .before .before .before .before .before .before .before .before .before .before .before .before .before .args in
+    let made = c .before .before .before .before .before .before in let room-at = room-of-made made in let judged = judged-of-room room-at in let a = start-of-judged judged .args in
     let x = lent (a .tally .now) (a .matrix .now) (a .rights .now) in
-    let room = c .before .before .before .before .before .before .before .before .room-for .result in
-    let h = c .before .before .before .before .before .before .before .before .before .before .heading-in .ensures in
-    let t = c .before .before .before .before .before .before .before .before .before .tally-in .ensures in
-    let whole = sym (c .before .before .before .before .before .before .before .before .before .before .before .before .judge-headed .ensures) ∙ c .before .before .before .before .before .before .before .before .before .before .before .if1 .taken in
-    let told = c .before .before .before .before .before .before .of-state .ensures .0 ∙ ap₂ (λ h t. fileOf h (stateOf (a .matrix .now) (a .rights .now) t) (length (take room (a .out .now)))) h t ∙ file-whole _ x whole _ in
-    let left = c .before .before .before .before .before .before .of-state .ensures .1 ∙ ap₂ (λ h t. stateLeftIn h (stateOf (a .matrix .now) (a .rights .now) t) (take room (a .out .now))) h t ∙ left-whole _ x whole _ in
-    gives (stateFile (a .heading .now) x) (stateFileLeft (a .heading .now) x) _ _ (state-none _ _) _ (c .before .before .before .before .before .before .before .before .room-for .ensures .0) _ told (c .before .before .give-written .ensures) left
+    let room = room-at .room-for .result in
+    let h = room-at .before .before .heading-in .ensures in
+    let t = room-at .before .tally-in .ensures in
+    let whole = sym (judged .judge-headed .ensures) ∙ room-at .before .before .before .if1 .taken in
+    let told = made .of-state .ensures .0 ∙ ap₂ (λ h t. fileOf h (stateOf (a .matrix .now) (a .rights .now) t) (length (take room (a .out .now)))) h t ∙ file-whole _ x whole _ in
+    let left = made .of-state .ensures .1 ∙ ap₂ (λ h t. stateLeftIn h (stateOf (a .matrix .now) (a .rights .now) t) (take room (a .out .now))) h t ∙ left-whole _ x whole _ in
+    gives (stateFile (a .heading .now) x) (stateFileLeft (a .heading .now) x) _ _ (state-none _ _) _ (room-at .room-for .ensures .0) _ told (c .before .before .give-written .ensures) left
 
 returns-2 : tie.Need-returns-2
 returns-2 c =
-    let a = c .before .before .before .before .before .before .args in
+    let a = start-of-judged (c .before) .args in
     let x = lent (a .tally .now) (a .matrix .now) (a .rights .now) in
     let is = c .before .judge-headed .ensures in
     let some : headedNumber (a .heading .now) (a .tally .now) ≡ 0 → ⊥ = λ z. c .if1 .left (is ∙ z) in

@@ -9,6 +9,10 @@ use borrow.Author.Needs.{needs}
 use Rattle.wheloruka.proofs.whl_read.Statement.{statement}
 use Rattle.wheloruka.proofs.whl_read.Tie as tie
 
+-- Views: from one place of the code to an earlier one. A statement put between two of them changes one line here.
+abbrev start-of-read : tie.After-read → tie.Start
+start-of-read c = c .before .before .before .before
+
 read-requires : tie.Need-read-requires
 read-requires c κs = search needs
 
@@ -23,7 +27,7 @@ same-length-2 c = search needs
 
 returns : tie.Need-returns
 returns c =
-    let a = c .before .before .before .before .before .before .before .before .before .before .before .args in
+    let a = start-of-read (c .before .before .before .before .before .before .before) .args in
     let is = arc-is (readArc (a .file .now)) _ (c .before .before .before .before .before .before .before .read .ensures) in
     let put = c .before .before .before .before .give-arc .ensures in
     (put .0 ∙ ap (λ j. readNumber j (length (a .heading .now)) (length (a .out .now))) is, (put .1 .0 ∙ ap (λ j. headingLeft j (a .heading .now) (length (a .out .now))) is, put .1 .1 ∙ ap (λ j. placesLeft j (length (a .heading .now)) (a .out .now)) is))

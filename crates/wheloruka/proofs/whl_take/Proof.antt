@@ -9,6 +9,19 @@ use borrow.Author.Needs.{needs}
 use Rattle.wheloruka.proofs.whl_take.Statement.{statement}
 use Rattle.wheloruka.proofs.whl_take.Tie as tie
 
+-- Views: from one place of the code to an earlier one. A statement put between two of them changes one line here.
+abbrev start-of-both : tie.After-has-both → tie.Start
+start-of-both c = c .before .before .before .before .before
+
+abbrev both-of-heading : tie.After-heading-in → tie.After-has-both
+both-of-heading c = c .before .before
+
+abbrev heading-of-tally : tie.After-tally-in → tie.After-heading-in
+heading-of-tally c = c .before .before
+
+abbrev tally-of-taken : tie.After-take → tie.After-tally-in
+tally-of-taken c = c .before .before .before
+
 has-both-requires : tie.Need-has-both-requires
 has-both-requires c κs = search needs
 
@@ -35,12 +48,12 @@ same-length-3 c = search needs
 
 returns : tie.Need-returns
 returns c =
-    let a = c .before .before .before .before .before .before .before .before .before .before .before .before .before .before .before .before .before .before .args in
-    let h = c .before .before .before .before .before .before .before .before .before .before .before .heading-in .ensures in
-    let t = c .before .before .before .before .before .before .before .before .before .tally-in .ensures in
-    let whole = sym (c .before .before .before .before .before .before .before .before .before .before .before .before .before .has-both .ensures) ∙ c .before .before .before .before .before .before .before .before .before .before .before .before .if1 .taken in
-    let told = c .before .before .before .before .before .before .take .ensures .0 ∙ ap₂ (λ h t. answered (takeAnswer h (a .bytes .now) (stateOf (a .matrix .now) (a .rights .now) t)) tt) h t in
-    let left = c .before .before .before .before .before .before .take .ensures .1 ∙ ap₂ (λ h t. takeStep h (a .bytes .now) (stateOf (a .matrix .now) (a .rights .now) t)) h t in
+    let taken-at = c .before .before .before .before .before .before in let tally = tally-of-taken taken-at in let heading = heading-of-tally tally in let both = both-of-heading heading in let a = start-of-both both .args in
+    let h = heading .heading-in .ensures in
+    let t = tally .tally-in .ensures in
+    let whole = sym (both .has-both .ensures) ∙ heading .before .if1 .taken in
+    let told = taken-at .take .ensures .0 ∙ ap₂ (λ h t. answered (takeAnswer h (a .bytes .now) (stateOf (a .matrix .now) (a .rights .now) t)) tt) h t in
+    let left = taken-at .take .ensures .1 ∙ ap₂ (λ h t. takeStep h (a .bytes .now) (stateOf (a .matrix .now) (a .rights .now) t)) h t in
     gives _ _ _ _ whole _ told _ _ _ left (take-kept _ _ _) (c .before .before .give-taken .ensures)
 
 same-length-4 : tie.Need-same-length-4

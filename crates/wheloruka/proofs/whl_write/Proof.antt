@@ -9,6 +9,13 @@ use borrow.Author.Needs.{needs}
 use Rattle.wheloruka.proofs.whl_write.Statement.{statement}
 use Rattle.wheloruka.proofs.whl_write.Tie as tie
 
+-- Views: from one place of the code to an earlier one. A statement put between two of them changes one line here.
+abbrev start-of-room : tie.After-room-for → tie.Start
+start-of-room c = c .before .before .before .before .before
+
+abbrev room-of-written : tie.After-write-arc → tie.After-room-for
+room-of-written c = c .before .before
+
 room-for-requires : tie.Need-room-for-requires
 room-for-requires c κs = search needs
 
@@ -32,8 +39,8 @@ same-length-2 c = search needs
 
 returns : tie.Need-returns
 returns c =
-    let a = c .before .before .before .before .before .before .before .before .before .before .before .before .before .args in
-    gives (arcFile (a .heading .now) (a .run .now)) (arcLeft (a .heading .now) (a .run .now)) _ _ (arc-none _ _) _ (c .before .before .before .before .before .before .before .before .room-for .ensures .0) _ (c .before .before .before .before .before .before .write-arc .ensures .0) (c .before .before .give-written .ensures) (c .before .before .before .before .before .before .write-arc .ensures .1)
+    let written = c .before .before .before .before .before .before in let room = room-of-written written in let a = start-of-room room .args in
+    gives (arcFile (a .heading .now) (a .run .now)) (arcLeft (a .heading .now) (a .run .now)) _ _ (arc-none _ _) _ (room .room-for .ensures .0) _ (written .write-arc .ensures .0) (c .before .before .give-written .ensures) (written .write-arc .ensures .1)
 
 pub whl-write-spec : {M : Type 1} → statement M
 whl-write-spec =
