@@ -79,7 +79,7 @@ static usize unsound(const u8 *s, const struct answer *r)
     }
     if (accepted > r->arcs * 4096)
         return r->totals;
-    return square > arcs << 51 ? r->totals + 8 : 0;
+    return square > arcs << 52 ? r->totals + 8 : 0;
 }
 
 static int read_file(struct answer *r, const u8 *s, usize length)

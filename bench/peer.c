@@ -102,7 +102,7 @@ static int judge_state(const struct heading *h, const struct tally *t, const i64
         for (usize k = 0; k < 10; k++)
             if (t->last[i][k])
                 return 6;
-    if (t->square > n << 39)
+    if (t->square > n << 40)
         return 6;
     i64 top = (i64)(n << 46), side = (i64)(n << 43);
     for (usize j = 0, k = 0; j < p; j++)
@@ -176,7 +176,8 @@ static u8 take_one(const struct heading *h, struct tally *t, i64 *restrict matri
         return 18;
     if (t->counts[place] >= 256)
         return 19;
-    i64 w = 65536 / ((u32)s * s), scaled = r * (i64)type->factor, side = w * scaled;
+    u32 ss = (u32)s * s;
+    i64 w = 65536 / ss + (ss < 2 * (65536 % ss)), scaled = r * (i64)type->factor, side = w * scaled;
     i16 x[50];
     __builtin_memcpy(x, bytes + 32, 2 * p);
     for (usize j = 0, k = 0; j < p; j++) {

@@ -80,9 +80,9 @@ edges =
     ∷ (answerOf 2 pattern384 gives 0)
     ∷ (residual (rangeRecord 2 pattern385) gives pos 385)
     ∷ (answerOf 2 pattern385 gives 18)
-    -- 5. s = 1: w 65,536; s = 200: 1; s = 256: 1; s = 0 or 257: 12
+    -- 5, as 02's #101 has it: s = 1: w 65,536; s = 200: 2; s = 256: 1; s = 0 or 257: 12
     ∷ (weightOf 1 gives 65536)
-    ∷ (weightOf 200 gives 1)
+    ∷ (weightOf 200 gives 2)
     ∷ (weightOf 256 gives 1)
     ∷ (answerOf 0 pattern384 gives 12)
     ∷ (answerOf 257 pattern384 gives 12)

@@ -12,7 +12,7 @@ use Rattle.num_whole.specs.Tests.{less, same}
 use Rattle.num_whole.proofs.Cases.{yes, no, same-true, same-false, is-same, not-same, less-true, less-false, by-cases}
 use Rattle.num_whole.proofs.Ints.{+-within}
 use Rattle.num_packed.specs.Sound.{entry}
-use Rattle.norm_system.specs.System.{System, has, boundOf, unsoundIn, nowhere}
+use Rattle.norm_system.specs.System.{System, has, fileSquareUnit, boundOf, unsoundIn, nowhere}
 use Rattle.norm_system.proofs.Sound.{bound-most, where-sound, sound-where}
 use Rattle.merge_join.specs.Join.{seat}
 use Rattle.merge_join.proofs.Seats.{seat-at, rise, seats-order, has-at}
@@ -178,7 +178,7 @@ more h g s =
 pub record Judged (x : System) : Type 0 where
   pub sums : SoundAt (boundOf (length (x .arcs)) (x .accepted) (2 ^ 58)) (boundOf (length (x .arcs)) (x .accepted) (2 ^ 55)) x
   pub accepted : x .accepted ≤ length (x .arcs) * 4096
-  pub square : x .square ≤ boundOf (length (x .arcs)) (x .accepted) (2 ^ 51)
+  pub square : x .square ≤ boundOf (length (x .arcs)) (x .accepted) fileSquareUnit
 
 pub judged : (x : System) → unsoundIn x ≡ nowhere → Judged x
 unfolding unsoundIn
@@ -216,5 +216,5 @@ merged-judged x y fx fy count s t =
     record {
       sums = to-places m (merged-formed x y fx fy) _ _ (more (bound (2 ^ 58)) (bound (2 ^ 55)) by);
       accepted = omega (arith, s .accepted, t .accepted);
-      square = omega (arith, s .square, t .square, bound (2 ^ 51));
+      square = omega (arith, s .square, t .square, bound fileSquareUnit);
     }

@@ -9,6 +9,7 @@ use mir.Syntax.{w64}
 use Rattle.byte_words.specs.Words.{lay, bytesOf, signedBytes}
 use Rattle.byte_section.specs.Section.{encoded}
 use Rattle.num_packed.specs.Triangle.{tri}
+use Rattle.norm_system.specs.System.{fileSquareUnit}
 use Rattle.norm_system.proofs.Sound.{bound-most}
 use Rattle.norm_kinds.specs.Kinds.{arcNumberBytes, normalLabelBytes, sumBytes}
 use Rattle.norm_kinds.specs.Bytes.{normalBytes}
@@ -94,7 +95,7 @@ module _ (a : List ℕ) (x : NormalRead) (ka : Known a x) (b : List ℕ) (y : No
       let m : length (systemInFile a .arcs) ≤ 16 = ka .whole .few-arcs in
       let n : length (systemInFile b .arcs) ≤ 16 = kb .whole .few-arcs in (
         omega (arith, p .accepted, q .accepted),
-        omega (arith, p .square, q .square, bound-most (length (systemInFile a .arcs)) (systemInFile a .accepted) (2 ^ 51), bound-most (length (systemInFile b .arcs)) (systemInFile b .accepted) (2 ^ 51)),
+        omega (arith, p .square, q .square, bound-most (length (systemInFile a .arcs)) (systemInFile a .accepted) fileSquareUnit, bound-most (length (systemInFile b .arcs)) (systemInFile b .accepted) fileSquareUnit),
       )
 
   pub last-put : (out one two three : List ℕ) (at n q : ℕ) → n ≡ systemInFile a .accepted + systemInFile b .accepted → q ≡ systemInFile a .square + systemInFile b .square

@@ -19,7 +19,7 @@ use Rattle.num_packed.proofs.Places.{tri-within}
 use Rattle.norm_system.specs.System.{boundOf}
 use Rattle.norm_system.proofs.Sound.{SoundSums, entry-wider, side-wider}
 use Rattle.take_counts.proofs.Totals.{sum-le}
-use Rattle.take_tally.specs.Tally.{accepted, squareTop, tallySound}
+use Rattle.take_tally.specs.Tally.{accepted, squareUnit, squareTop, tallySound}
 use Rattle.take_tally.proofs.Rows.{tally-small}
 use Rattle.take_state.specs.State.{State, matrixTop, rightTop, matrixSound, rightsSound, soundState}
 
@@ -70,5 +70,5 @@ module _ (stations p : ℕ) (s : State) (sound : soundState stations p s ≡ tru
         matrix = λ i j h l. breaks-take (s .matrix) p _ i j h l ∙ entry-wider _ _ (s .matrix) i j (bound-wider _ (2 ^ 46) few) (matrix i j h l);
         rights = λ i l. side-take (s .matrix) p _ (s .rights) i l ∙ side-wider _ _ (s .matrix) (s .rights) i (bound-wider _ (2 ^ 43) few) (rights i l);
         accepted = omega (arith, few);
-        square = le-trans square (bound-wider _ (2 ^ 39) few);
+        square = le-trans square (bound-wider _ squareUnit few);
       }

@@ -20,7 +20,7 @@ use Rattle.num_packed.specs.Triangle.{tri}
 use Rattle.num_packed.specs.Sound.{entry, breaks, breaksSide}
 use Rattle.num_packed.specs.Found.{Found, none, at}
 use Rattle.num_packed.proofs.Found.{first-none, first-sound, first-number, columns-none, columns-sound, columns-inside}
-use Rattle.norm_system.specs.System.{System, arcOk, normalLabelOk, keyOf, boundOf, Where, nowhere, inMatrix, inRights, inAccepted, inSquare, afterMatrix, afterRights, totalsWhere, sidesWhere, sumsWhere, unsoundIn}
+use Rattle.norm_system.specs.System.{System, arcOk, normalLabelOk, keyOf, fileSquareUnit, boundOf, Where, nowhere, inMatrix, inRights, inAccepted, inSquare, afterMatrix, afterRights, totalsWhere, sidesWhere, sumsWhere, unsoundIn}
 
 -- ---- one part after another
 matrix-nowhere : (x : Found) (w : Where) → afterMatrix x w ≡ nowhere → (x ≡ none) × (w ≡ nowhere)
@@ -43,7 +43,7 @@ pub record SoundSums (arcs p : ℕ) (m r : List ℤ) (n q : ℕ) : Type 0 where
   pub matrix : (i j : ℕ) → i ≤ j → j < p → breaks (pos (boundOf arcs n (2 ^ 58))) m i j ≡ false
   pub rights : (i : ℕ) → i < p → breaksSide (pos (boundOf arcs n (2 ^ 55))) m r i ≡ false
   pub accepted : n ≤ arcs * 4096
-  pub square : q ≤ boundOf arcs n (2 ^ 51)
+  pub square : q ≤ boundOf arcs n fileSquareUnit
 
 module _ (arcs p : ℕ) (m r : List ℤ) (n q : ℕ) where
   pub where-sound : sumsWhere arcs p m r n q ≡ nowhere → SoundSums arcs p m r n q
@@ -156,7 +156,7 @@ module _ (arcs n q k : ℕ) where
       by-cases (less (arcs * 4096) n)
       (λ t. subst P (yes _ _ _ t refl) a)
       (λ t. subst P (no _ _ _ t refl)
-      (by-cases (less (boundOf arcs n (2 ^ 51)) q) (λ u. subst P (yes _ _ _ u refl) b) (λ u. subst P (no _ _ _ u refl) c)))
+      (by-cases (less (boundOf arcs n fileSquareUnit) q) (λ u. subst P (yes _ _ _ u refl) b) (λ u. subst P (no _ _ _ u refl) c)))
 
   totals-not-matrix : totalsWhere arcs n q ≡ inMatrix k → ⊥
   totals-not-matrix =
@@ -221,4 +221,4 @@ module _ (x : System) (o : SoundSystem x) where
   accepted-fits = omega (arith, system-sums .accepted, o .few-arcs)
 
   pub square-fits : x .square < 256 ^ 8
-  square-fits = omega (arith, system-sums .square, bound-fits (x .accepted) (2 ^ 51) (omega arith))
+  square-fits = omega (arith, system-sums .square, bound-fits (x .accepted) fileSquareUnit (omega arith))

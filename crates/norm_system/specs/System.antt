@@ -42,8 +42,9 @@ normalLabelOk arcs l = both (upTo (l .weight) weightMost) (both (indexOk (l .kin
 unfoldable pub keyOf : NormalLabel → ℕ
 keyOf l = l .kind * 2 ^ 48 + l .arc * 2 ^ 16 + l .index
 
--- ---- "Sound sums, for A arcs: |matrix| ≤ A·2^58, diagonal not negative, |right| ≤ A·2^55, accepted ≤ A·4,096, square sum ≤ A·2^51; a zero
--- diagonal has zeros in its row, column and right side; accepted 0 has all sums zero." Where accepted is 0 every bound is 0.
+-- ---- "Sound sums, for A arcs: |matrix| ≤ A·2^58, diagonal not negative, |right| ≤ A·2^55, accepted ≤ A·4,096"; 02, #101: "The square
+-- sum's bounds grow to .. A·2^52"; "a zero diagonal has zeros in its row, column and right side; accepted 0 has all sums zero." Where accepted
+-- is 0 every bound is 0.
 abbrev pub fileMatrixUnit : ℕ
 fileMatrixUnit = 2 ^ 58
 
@@ -51,7 +52,7 @@ abbrev pub fileRightUnit : ℕ
 fileRightUnit = 2 ^ 55
 
 abbrev pub fileSquareUnit : ℕ
-fileSquareUnit = 2 ^ 51
+fileSquareUnit = 2 ^ 52
 
 abbrev pub fileAccepted : ℕ
 fileAccepted = acceptedMost

@@ -5,12 +5,12 @@ ghost use Rattle.num_limits.specs.Capacities.{arcsMost};
 ghost use Rattle.norm_system.specs.System.{boundOf, totalsWhere};
 ghost use Rattle.norm_totals.specs.Told.{toldWhere};
 
-// What the sums of one arc can come to: 2^58 a matrix sum, 2^55 a right side, 2^51 the square sum, and 4,096 records.
+// What the sums of one arc can come to: 2^58 a matrix sum, 2^55 a right side, 2^52 the square sum, and 4,096 records.
 pub const FILE_MATRIX_UNIT: u64 = 288230376151711744;
 
 pub const FILE_RIGHT_UNIT: u64 = 36028797018963968;
 
-const FILE_SQUARE_UNIT: u64 = 2251799813685248;
+const FILE_SQUARE_UNIT: u64 = 4503599627370496;
 
 const FILE_ACCEPTED: u64 = 4096;
 

@@ -28,13 +28,15 @@ use Rattle.unit_types.specs.declared.TypeRow.{TypeRow}
 use Rattle.unit_types.proofs.Rows.{by-rows}
 use Rattle.unit_residual.specs.Residuals.{residualBy, residualOf}
 use Rattle.unit_residual.proofs.Sizes.{residual-small}
+use Rattle.num_limits.specs.Capacities.{weightTop}
 use Rattle.take_rules.specs.Rules.{sigmaOk, weightOf, clockOk, inWindow, passesEdit}
-use Rattle.take_rules.proofs.Bounds.{weight-low, weight-high, scaled-bound, weighted-bound, square-bound}
+use Rattle.take_rules.proofs.Weights.{weight-low, weight-high}
+use Rattle.take_rules.proofs.Bounds.{scaled-bound, weighted-bound, square-bound}
 use Rattle.num_packed.specs.Triangle.{times, tri, columns}
 use Rattle.num_packed.proofs.Entries.{times-at, triangle-at, times-within, triangle-within}
 use Rattle.arc_record.specs.Record.{recordIn, partialsFrom, partialsIn}
 use Rattle.arc_record.proofs.Fills.{length-partials}
-use Rattle.take_tally.specs.Tally.{countOf, lastTimes}
+use Rattle.take_tally.specs.Tally.{countOf, lastTimes, squareUnit}
 use Rattle.take_tally.specs.declared.Tally.{Tally}
 use Rattle.take_state.specs.State.{State}
 use Rattle.take_laws.specs.Taking.{Frame, stationIn, stationRow, momentOf, stamp, typeColumn, residualIn, residual, scaled, weightIn, lengthTests, recordTests, stationTests, judgedBy, recordNumber, recordAnswer, matrixTerms, rightTerms, squareTerm}
@@ -276,10 +278,10 @@ square-at b = sym (ap (λ z. pos (weightIn b) *ℤ z) (square (scaled b)))
 -- how large they are
 pub record Terms (f : Frame) (b : List ℕ) : Type 0 where
   pub heavy : 1 ≤ weightIn b
-  pub light : weightIn b ≤ 65536
+  pub light : weightIn b ≤ weightTop
   pub near : natAbs (scaled b) ≤ 655360
   pub weighted : natAbs (pos (weightIn b) *ℤ scaled b) ≤ 2 ^ 28
-  pub square : squareTerm b ≤ 2 ^ 39
+  pub square : squareTerm b ≤ squareUnit
   pub matrix : Within (2 ^ 46) (matrixTerms f b)
   pub rights : Within (2 ^ 43) (rightTerms f b)
 
@@ -289,13 +291,13 @@ terms f b last count k a =
     let s = recordIn b .sigma in
     let p = a .fits .sigma in
     let near = scaled-bound (f .settings .level) s (rowOfType (recordIn b .kind) .step) (rowOfType (recordIn b .kind) .factor) (residual b) k (a .fits .product) (a .edit) in
-    let weighted = subst (λ (n : ℕ). n ≤ 2 ^ 28) (sym (natAbs-* (pos (weightOf s)) (scaled b))) (weighted-bound s (natAbs (scaled b)) (p .0) near) in
+    let weighted = subst (λ (n : ℕ). n ≤ 2 ^ 28) (sym (natAbs-* (pos (weightOf s)) (scaled b))) (weighted-bound s (natAbs (scaled b)) (p .0) (p .1) near) in
     record {
       heavy = weight-low s (p .0) (p .1);
-      light = weight-high s (p .0);
+      light = weight-high s (p .0) (p .1);
       near = omega arith;
       weighted = weighted;
-      square = square-bound s (natAbs (scaled b)) near;
-      matrix = triangle-within (pos (weightOf s)) (partialsIn (f .parameters) b) (weight-high s (p .0)) (partials-within (f .parameters) b);
+      square = square-bound s (natAbs (scaled b)) (p .0) (p .1) near;
+      matrix = triangle-within (pos (weightOf s)) (partialsIn (f .parameters) b) (weight-high s (p .0) (p .1)) (partials-within (f .parameters) b);
       rights = times-within (pos (weightOf s) *ℤ scaled b) (partialsIn (f .parameters) b) (2 ^ 28) (2 ^ 15) weighted (partials-within (f .parameters) b);
     }

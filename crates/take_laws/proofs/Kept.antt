@@ -22,7 +22,8 @@ use Rattle.num_packed.proofs.Entries.{all-within}
 use Rattle.arc_record.specs.Record.{partialsIn}
 use Rattle.take_counts.specs.Counts.{sumOf}
 use Rattle.take_counts.proofs.Totals.{sum-le}
-use Rattle.take_tally.specs.Tally.{noRow, countOf, lastTimes, rowWith, tallyWith, emptyTally, accepted}
+use Rattle.num_limits.specs.Capacities.{acceptedMost}
+use Rattle.take_tally.specs.Tally.{noRow, countOf, lastTimes, rowWith, tallyWith, emptyTally, accepted, squareTop}
 use Rattle.take_tally.specs.declared.Row.{Row}
 use Rattle.take_state.specs.State.{State, stateOf, cleared, soundState}
 use Rattle.take_laws.specs.Taking.{Frame, stationRow, stamp, typeColumn, scaled, weightIn, matrixTerms, rightTerms, book, recordAnswer, recordStep}
@@ -253,7 +254,7 @@ module _ (stations p : ℕ) (s : State) (v : soundState stations p s ≡ true) w
   pub right-bound : (i : ℕ) → i < p → natAbs (getD (s .rights) i (pos 0)) ≤ accepted (s .tally) * 2 ^ 43
   right-bound i h = good stations p s v .rights i h .small
 
-  pub square-bound : s .tally .square ≤ accepted (s .tally) * 2 ^ 39
+  pub square-bound : s .tally .square ≤ squareTop (accepted (s .tally))
   square-bound = good stations p s v .square
 
   module _ (long : length (s .tally .counts) ≡ 16) where
@@ -276,5 +277,5 @@ module _ (stations p : ℕ) (s : State) (v : soundState stations p s ≡ true) w
     pub rights-within : length (s .rights) ≡ p → Within (2 ^ 62) (s .rights)
     rights-within e = subst (λ l. Within (2 ^ 62) l) (take-all p (s .rights) (omega arith)) rights-part
 
-    pub square-fits : s .tally .square ≤ 2 ^ 51
+    pub square-fits : s .tally .square ≤ squareTop acceptedMost
     square-fits = omega (arith, accepted-few, square-bound)

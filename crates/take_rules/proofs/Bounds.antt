@@ -1,4 +1,4 @@
--- What the rules leave possible: the weight's span, and the bounds of a residual that passes the edit and of the terms it makes.
+-- What the rules leave possible: the bounds of a residual that passes the edit and of the terms it makes.
 -- Assumes nothing.
 use Prim.Native.Nat.{ℕ, _*_, _≤_, _^_}
 use mathlib.Core.Path.{_≡_, sym, ap, _∙_, subst}
@@ -11,19 +11,7 @@ use lib.Signed.{nonNeg}
 use Rattle.num_whole.proofs.Cases.{upTo-true}
 use Rattle.num_whole.proofs.Ints.{natAbs-*}
 use Rattle.take_rules.specs.Rules.{weightOf, inWindow, passesEdit}
-
--- the weight is from 1 to 65,536
-pub weight-low : (s : ℕ) → 1 ≤ s → s ≤ 256 → 1 ≤ weightOf s
-unfolding weightOf
-weight-low s p q = le-div-iff-mul-le (mul-pos p p) .1 (omega (arith, mul-le-mul q q))
-
--- the weight times the square of s is at most 65,536
-pub weight-square : (s : ℕ) → weightOf s * (s * s) ≤ 65536
-unfolding weightOf
-weight-square s = div-mul-le-self 65536 (s * s)
-
-pub weight-high : (s : ℕ) → 1 ≤ s → weightOf s ≤ 65536
-weight-high s p = le-trans (le-of-eq (sym (mul-one (weightOf s)))) (le-trans (mul-le-mul-left (weightOf s) (mul-le-mul p p)) (weight-square s))
+use Rattle.take_rules.proofs.Weights.{weight-square}
 
 -- an edit that is passed bounds the residual: with K up to 100, |r| is at most ten times s steps
 pub edit-bound : (level s step : ℕ) (r : ℤ) → level ≤ 100 → passesEdit level s step r ≡ true → natAbs r ≤ 10 * (s * step)
@@ -42,24 +30,24 @@ scaled-bound level s step factor r k f e =
     omega (arith, natAbs-* r (pos factor))
 
 -- a number within 2,560 s, times the weight: within 2^28; times a partial within 2^15 it is a right side's term, within 2^43
-pub weighted-bound : (s m : ℕ) → 1 ≤ s → m ≤ 2560 * s → weightOf s * m ≤ 2 ^ 28
-weighted-bound s m p h =
+pub weighted-bound : (s m : ℕ) → 1 ≤ s → s ≤ 256 → m ≤ 2560 * s → weightOf s * m ≤ 2 ^ 28
+weighted-bound s m p few h =
     let a : weightOf s * m ≤ weightOf s * (2560 * s) = mul-le-mul-left (weightOf s) h in
     let b : weightOf s * s ≤ weightOf s * (s * s) = mul-le-mul-left (weightOf s) (grows s p) in
     let c : weightOf s * (2560 * s) ≡ 2560 * (weightOf s * s) = sym (mul-assoc (weightOf s) 2560 s) ∙ ap (λ n. n * s) (mul-comm (weightOf s) 2560) ∙ mul-assoc 2560 (weightOf s) s in
-    omega (arith, weight-square s)
+    omega (arith, weight-square s p few)
   where
     grows : (s : ℕ) → 1 ≤ s → s ≤ s * s
     grows s p = le-trans (le-of-eq (sym (mul-one s))) (mul-le-mul-left s p)
 
--- the square of such a number, times the weight: a square sum's term, within 2^39
-pub square-bound : (s m : ℕ) → m ≤ 2560 * s → weightOf s * (m * m) ≤ 2 ^ 39
-square-bound s m h =
+-- the square of such a number, times the weight: a square sum's term, within 2^40
+pub square-bound : (s m : ℕ) → 1 ≤ s → s ≤ 256 → m ≤ 2560 * s → weightOf s * (m * m) ≤ 2 ^ 40
+square-bound s m p few h =
     let a : weightOf s * (m * m) ≤ weightOf s * (2560 * s * (2560 * s)) = mul-le-mul-left (weightOf s) (mul-le-mul h h) in
     let b : 2560 * s * (2560 * s) ≡ 6553600 * (s * s) = squares s in
     let c : weightOf s * (6553600 * (s * s)) ≡ 6553600 * (weightOf s * (s * s)) =
     sym (mul-assoc (weightOf s) 6553600 (s * s)) ∙ ap (λ n. n * (s * s)) (mul-comm (weightOf s) 6553600) ∙ mul-assoc 6553600 (weightOf s) (s * s) in
-    omega (arith, weight-square s, ap (λ n. weightOf s * n) b)
+    omega (arith, weight-square s p few, ap (λ n. weightOf s * n) b)
   where
     squares : (s : ℕ) → 2560 * s * (2560 * s) ≡ 6553600 * (s * s)
     squares s = mul-assoc 2560 s (2560 * s) ∙ ap (λ n. 2560 * n) (sym (mul-assoc s 2560 s) ∙ ap (λ n. n * s) (mul-comm s 2560) ∙ mul-assoc 2560 s s) ∙ sym (mul-assoc 2560 2560 (s * s))

@@ -1,18 +1,22 @@
 -- Document 01, 'Taking a record': the weight, the clock, the corrected time, the window and the edit test, one definition each.
-use Prim.Native.Nat.{ℕ, _+_, _*_, _/_}
+use Prim.Native.Nat.{ℕ, _+_, _*_, _/_, _%_}
 use mathlib.Core.Bool.{Bool, _&&_}
 use lib.IntN.{ℤ, pos, _+ℤ_, natAbs}
 use lib.Signed.{leZ, ltZ}
 use Rattle.num_limits.specs.Capacities.{sigmaMost, weightTop, lastDay}
-use Rattle.num_whole.specs.Tests.{upTo, both, between}
+use Rattle.num_whole.specs.Tests.{less, upTo, pick, both, between}
 
 -- "s not 1 to 256": 12
 unfoldable pub sigmaOk : ℕ → Bool
 sigmaOk s = between 1 s sigmaMost
 
--- "Weight w = 65,536 divided by s², rounded down"
+-- a/b rounded to nearest: the quotient, and one more where what is left of a is above half of b
+abbrev pub nearestQuotient : ℕ → ℕ → ℕ
+nearestQuotient a b = pick (less b (2 * (a % b))) (a / b + 1) (a / b)
+
+-- 02, #101: "The weight becomes 65,536/s² rounded to nearest; no tie can occur, and 1 to 65,536 stays the span."
 unfoldable pub weightOf : ℕ → ℕ
-weightOf s = weightTop / (s * s)
+weightOf s = nearestQuotient weightTop (s * s)
 
 -- "Each day has 86,400,000 ms."
 abbrev pub dayLength : ℕ

@@ -24,7 +24,13 @@ pub fn weight(s: u16) -> u64
     ensures { λ r. ⌜ (r ≡ weightOf s) × (r ≤ weightTop) ⌝ }
 {
     let n = s as u64;
-    WEIGHT_TOP / (n * n)
+    let square = n * n;
+    let down = WEIGHT_TOP / square;
+    if square < 2 * (WEIGHT_TOP % square) {
+        down + 1
+    } else {
+        down
+    }
 }
 
 pub fn clock_ok(day: u32, ms: u32) -> bool

@@ -23,7 +23,8 @@ use Rattle.unit_types.specs.Types.{rowOfType}
 use Rattle.unit_types.proofs.Rows.{by-rows}
 use Rattle.num_packed.specs.Triangle.{times, triangleTerms, tri}
 use Rattle.arc_record.specs.Record.{partialsIn}
-use Rattle.take_tally.specs.Tally.{countOf, lastTimes, tallyWith}
+use Rattle.num_limits.specs.Capacities.{acceptedMost}
+use Rattle.take_tally.specs.Tally.{countOf, lastTimes, tallyWith, squareUnit, squareTop}
 use Rattle.take_state.specs.State.{State, stateOf}
 use Rattle.take_fit.specs.Fit.{fitOf, fitted}
 use Rattle.take_judge.specs.Judged.{termsBy, judgedLate}
@@ -122,8 +123,8 @@ module _ (f : Frame) (b : List ℕ) (s : State) where
         pub side-small : natAbs (y .side) ≤ 2 ^ 31
         side-small = let h : natAbs (y .side) ≤ 2 ^ 28 = subst (λ n. natAbs n ≤ 2 ^ 28) side-is (bounds .weighted) in omega arith
 
-        pub square-small : y .square ≤ 2 ^ 39
-        square-small = subst (λ n. n ≤ 2 ^ 39) square-is (bounds .square)
+        pub square-small : y .square ≤ squareUnit
+        square-small = subst (λ n. n ≤ squareUnit) square-is (bounds .square)
 
 -- ---- what a fit leaves to the machine's numbers
 pub record Ready (numbers : ℕ) (x : Fit) : Type 0 where
@@ -168,7 +169,7 @@ module _ (a : Settings) (ns : List ℕ) (cs : List ℤ) (s : State) (h : Prepare
   pub rights-small : Within (2 ^ 62) (s .rights)
   rights-small = rights-within (length ns) (length (s .rights)) s (h .sound) (h .counts) refl
 
-  pub square-room : s .tally .square ≤ 2 ^ 51
+  pub square-room : s .tally .square ≤ squareTop acceptedMost
   square-room = square-fits (length ns) (length (s .rights)) s (h .sound) (h .counts)
 
   module _ (b : List ℕ) where

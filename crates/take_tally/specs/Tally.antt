@@ -42,9 +42,9 @@ emptyTally = record { square = 0; counts = replicate stationsMost 0; rows = repl
 abbrev pub accepted : Tally → ℕ
 accepted t = sumOf (t .counts)
 
--- "no square sum n·2^39"
+-- 02, #101: "The square sum's bounds grow to n·2^40"
 abbrev pub squareUnit : ℕ
-squareUnit = 2 ^ 39
+squareUnit = 2 ^ 40
 
 abbrev pub squareTop : ℕ → ℕ
 squareTop n = n * squareUnit

@@ -66,8 +66,8 @@ fn rows_sound(stations: usize, t: Tally) -> bool
     true
 }
 
-// What one record adds to the square sum at the most: 2^39.
-const SQUARE_UNIT: u64 = 549755813888;
+// What one record adds to the square sum at the most: 2^40.
+const SQUARE_UNIT: u64 = 1099511627776;
 
 pub fn tally_sound(stations: usize, t: Tally) -> bool
     ensures { λ r. ⌜ r ≡ tallySound stations t ⌝ }

@@ -54,7 +54,7 @@ side-small : (c : tie.After-magnitude) → let a = c .before .before .args in na
 side-small c =
     let s = c .before .before in
     let r = s .args .residual *ℤ pos (s .args .factor) in
-    let h : weightOf (s .args .sigma) * natAbs r ≤ 2 ^ 28 = weighted-bound (s .args .sigma) (natAbs r) (s .pre .0 .0) (s .pre .1) in
+    let h : weightOf (s .args .sigma) * natAbs r ≤ 2 ^ 28 = weighted-bound (s .args .sigma) (natAbs r) (s .pre .0 .0) (s .pre .0 .1) (s .pre .1) in
     omega (arith, natAbs-* (pos (weightOf (s .args .sigma))) r)
 
 -- the size of R
@@ -73,7 +73,7 @@ mul-t10 c =
 mul-t11 : tie.Need-mul-t11
 mul-t11 c =
     let s = c .before .before in
-    let h : weightOf (s .args .sigma) * (c .magnitude .result * c .magnitude .result) ≤ 2 ^ 39 = square-bound (s .args .sigma) (c .magnitude .result) (rw (size c) (s .pre .1)) in
+    let h : weightOf (s .args .sigma) * (c .magnitude .result * c .magnitude .result) ≤ 2 ^ 40 = square-bound (s .args .sigma) (c .magnitude .result) (s .pre .0 .0) (s .pre .0 .1) (rw (size c) (s .pre .1)) in
     rw (c .before .weight .ensures .0) (record { fits = omega arith })
 
 returns : tie.Need-returns

@@ -5,7 +5,7 @@ use Prim.Native.Nat.{_*_, _^_}
 use native.Mathlib.Omega.{arith}
 use Rattle.num_whole.specs.Tests.{upTo}
 use Rattle.num_whole.proofs.Cases.{holds, fails, by-upTo}
-use Rattle.take_tally.specs.Tally.{tallySound}
+use Rattle.take_tally.specs.Tally.{squareTop, tallySound}
 use Rattle.take_counts.proofs.Totals.{counts-small}
 use borrow.Author.Needs.{needs}
 use Rattle.take_tally.proofs.tally_sound.Statement.{statement}
@@ -30,7 +30,7 @@ returns c =
     let t = a .before .before .before .args .t in
     holds _ _ (sym (a .before .counts-sound .ensures) ∙ a .if1 .taken)
     (holds _ _ (sym (c .before .before .before .rows-sound .ensures) ∙ c .before .before .if2 .taken)
-    (by-upTo _ _ ∙ ap (λ n. upTo (t .square) (n * 2 ^ 39)) (c .before .accepted .ensures .0)))
+    (by-upTo _ _ ∙ ap (λ n. upTo (t .square) (squareTop n)) (c .before .accepted .ensures .0)))
 
 returns-2 : tie.Need-returns-2
 unfolding tallySound
