@@ -1,5 +1,6 @@
 #!/bin/sh
-# bench.sh [time | count] [taking | normal]: the proved code beside the plain C peer, taking records or reading and merging normal files;
+# bench.sh [time | count] [taking | normal], bench.sh count parts: the proved code beside the plain C peer, taking records or reading and merging normal
+# files; and an arc file in parts beside one run;
 # docs/BENCH.md tells what the numbers are.
 #   time   (or nothing) builds the driver at eight placements of the code; each compares all results, then measures times; their ratios
 #   count  prints the executed instructions a record or a sum, exactly: under the kit's emulator where it has one (not on x86-64), and slow,
@@ -9,9 +10,9 @@ set -e
 cd "$(dirname "$0")/.."
 kit=$(dirname "$(dirname "$(readlink -f "$(command -v rt)")")"); own=$kit/on/$(uname -m); tools=$own/toolchain; out=target/bench
 case ${2:-taking} in
-taking) peer=peer; drive=drive; names='take_run take' ;;
+taking | parts) peer=peer; drive=drive; names='take_run take' ;;
 normal) peer=normal_peer; drive=normal_drive; names='read merge' ;;
-*) echo "usage: bench.sh [time | count] [taking | normal]" >&2; exit 2 ;;
+*) echo "usage: bench.sh [time | count] [taking | normal], bench.sh count parts" >&2; exit 2 ;;
 esac
 rt staticlib bench >/dev/null
 mkdir -p $out
@@ -55,11 +56,20 @@ time)
 count)
     link 0
     $qemu $run $out/bench same
+    if [ "${2:-taking}" = parts ]; then
+        # parts of 64 KiB beside one run; and what a part of one byte costs, by a file of 40 records
+        for p in 6 50; do
+            bytes=$((956 - 16 * (50 - p) + 40 * (32 + 2 * p)))
+            echo "$(each 4000 1 $p @ 4000) $(each 4000 4 $p @ 4000) $(each 1 5 $p @ 40) $(each 1 1 $p @ 40) $bytes" |
+                awk -v p=$p '{ printf "P %d: take_run %.1f, parts of 64 KiB %.1f a record, ratio %.3f; %.0f a part of one byte\n", p, $1, $2, $2 / $1, ($3 - $4) / $5 }'
+        done
+        exit
+    fi
     if [ $drive = drive ]; then
         for p in 1 6 20 50; do echo "$p $(each 4000 0 $p @ 4000) $(each 4000 1 $p @ 4000) $(each 400 2 $p @ 400) $(each 400 3 $p @ 400)"; done
     else
         for p in 50 200 500; do s=$((p * (p + 3) / 2)); echo "$p $(each $s 0 $p @) $(each $s 1 $p @) $(each $s 2 $p @) $(each $s 3 $p @)"; done
     fi | awk -v names="$names" '{ split(names, n); printf "P %d: %s %.1f, c %.1f, ratio %.3f; %s %.1f, c %.1f, ratio %.3f\n", $1, n[1], $3, $2, $3 / $2, n[2], $5, $4, $5 / $4 }'
     ;;
-*) echo "usage: bench.sh [time | count] [taking | normal]" >&2; exit 2 ;;
+*) echo "usage: bench.sh [time | count] [taking | normal], bench.sh count parts" >&2; exit 2 ;;
 esac

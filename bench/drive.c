@@ -8,11 +8,11 @@ int printf(const char *, ...);
 int memcmp(const void *, const void *, usize);
 int atoi(const char *);
 typedef u8 take_fn(const u8 *, usize, i64 *, usize, i64 *, usize, u64 *, usize, u8 *, usize);
-extern take_fn bench_run, bench_take, peer_run, peer_take;
+extern take_fn bench_run, bench_take, bench_parts, bench_bytes, peer_run, peer_take;
 
 #define RECORDS 4000
 struct result { i64 matrix[1275], rights[50]; u64 tally[177]; u8 answers[RECORDS], answer; };
-static struct result results[4];
+static struct result results[6];
 static u8 file[1 << 20];
 static u64 seed;
 
@@ -70,21 +70,21 @@ static usize make(int p, int harsh, u64 start, int records)
     return at;
 }
 
-static take_fn *const fs[4] = { peer_run, bench_run, peer_take, bench_take };
-static const char *const names[4] = { "c run", "take_run", "c take", "take" };
+static take_fn *const fs[6] = { peer_run, bench_run, peer_take, bench_take, bench_parts, bench_bytes };
+static const char *const names[6] = { "c run", "take_run", "c take", "take", "parts", "bytes" };
 
 static void call(int f, usize length, int p, usize records)
 {
     struct result *r = &results[f];
-    r->answer = fs[f](file, length, r->matrix, p * (p + 1) / 2, r->rights, p, r->tally, 177, r->answers, records);
+    r->answer = fs[f](file, length, r->matrix, f < 4 ? p * (p + 1) / 2 : 1275, r->rights, f < 4 ? p : 50, r->tally, 177, r->answers, records);
 }
 
-/* Whether all four leave the same; how many records of the file are accepted, and how many refused by each number, where told to. */
+/* Whether all six leave the same; how many records of the file are accepted, and how many refused by each number, where told to. */
 static int same(int p, int tell)
 {
     usize length = make(p, tell ? 0 : 500, p + 1000 * tell, RECORDS);
-    for (int f = 0; f < 4; f++) call(f, length, p, RECORDS);
-    for (int f = 1; f < 4; f++)
+    for (int f = 0; f < 6; f++) call(f, length, p, RECORDS);
+    for (int f = 1; f < 6; f++)
         if (memcmp(&results[0], &results[f], sizeof results[0])) { printf("DIFFERENT %s at P %d\n", names[f], p); return 0; }
     int n[32] = { 0 };
     for (int i = 0; i < RECORDS; i++) n[results[0].answers[i] & 31]++;

@@ -15,14 +15,17 @@ link() { # link NAME OBJECT..: a program of these objects and the library
     "$own/bin/rattle-link" --target x86_64-unknown-linux-gnu --toolchain "$tools" -o $out/$name "$@" target/staticlib/libwheloruka.a >/dev/null 2>&1
 }
 
-# the program that docs/CALLING.md shows is the one that is run
-sed -n '/^```c$/,/^```$/p' docs/CALLING.md | sed '1d;$d' | cmp - calls/sums.c
+# the programs that docs/CALLING.md shows are those that are run
+shown() { awk -v n="$1" '/^```c$/ { k++; on = k == n; next } /^```/ { on = 0 } on' docs/CALLING.md; } # shown N: the N-th of them
+shown 1 | cmp - calls/sums.c
+shown 2 | cmp - calls/parts.c
 
-for f in taking test sums; do $cc -c calls/$f.c -o $out/$f.o; done
+for f in taking test sums parts; do $cc -c calls/$f.c -o $out/$f.o; done
 for f in drive peer; do $cc -c bench/$f.c -o $out/$f.o; done
 link taking $out/drive.o $out/peer.o $out/taking.o
 link test $out/test.o
 link sums $out/sums.o
+link parts $out/parts.o
 
 $run $out/taking same
 $run $out/test
@@ -32,4 +35,9 @@ printf '\014\0\002\0\001\0\0\0\144\037\0\0\0\0\0\0\0\0\0\0\0\104\217\100\0\0\0\0
 printf '\014\0\002\0\001\0\0\0\144\037\0\0\350\003\0\0\0\0\0\0\0\114\217\100\0\0\0\0\0\102\217\100\003\0' >>$out/edge7
 $run $out/sums <$out/edge7 | tee $out/sums.txt
 printf '3 0 seen 147456 50331648\n1 of 2 records accepted\n' | cmp - $out/sums.txt
+# the same as it arrives: a byte, then the rest; and cut short
+{ head -c 1 $out/edge7; sleep 1; tail -c +2 $out/edge7; } | $run $out/parts | tee $out/parts.txt
+printf '1 of 2 records accepted\n' | cmp - $out/parts.txt
+head -c 100 $out/edge7 | $run $out/parts >$out/parts.txt || true
+printf 'refused 1 at 100\n' | cmp - $out/parts.txt
 echo "all agree"

@@ -1,4 +1,4 @@
-/* The benchmark's two functions, through the library's calls: bench/drive.c, linked with this file in place of the benchmark's own library,
+/* The benchmark's four functions, through the library's calls: bench/drive.c, linked with this file in place of the benchmark's own library,
    compares them with the plain C peer on the records that it makes. */
 #include <stdint.h>
 #include "wheloruka.h"
@@ -42,4 +42,34 @@ uint8_t bench_take(const uint8_t *file, size_t length, int64_t *matrix, size_t m
     if (!n) n = whl_judge(PASS);
     if (!n) show(tally);
     return (uint8_t)n;
+}
+
+/* The file in parts of so many bytes. */
+static uint8_t parts_of(size_t size, const uint8_t *file, size_t length, int64_t *matrix, size_t matrix_length, int64_t *rights,
+                        size_t rights_length, uint64_t *tally, uint8_t *answers, size_t answers_length)
+{
+    static uint8_t position[WHL_POSITION_BYTES];
+    uint64_t told[2];
+    size_t done = 0;
+    uint32_t n = whl_begin(position, sizeof position, lent, sizeof lent, matrix, matrix_length, rights, rights_length);
+    for (size_t at = 0; !n && at < length; at += size) {
+        n = whl_part(position, sizeof position, lent, sizeof lent, matrix, matrix_length, rights, rights_length, file + at,
+                     length - at < size ? length - at : size, answers + done, answers_length - done, told, 2);
+        if (!n) done += told[0];
+    }
+    if (!n) n = whl_finish(position, sizeof position, told, 2);
+    if (!n) show(tally);
+    return (uint8_t)n;
+}
+
+uint8_t bench_parts(const uint8_t *file, size_t length, int64_t *matrix, size_t matrix_length, int64_t *rights, size_t rights_length,
+                    uint64_t *tally, size_t tally_length, uint8_t *answers, size_t answers_length)
+{
+    return parts_of(65536, file, length, matrix, matrix_length, rights, rights_length, tally, answers, answers_length);
+}
+
+uint8_t bench_bytes(const uint8_t *file, size_t length, int64_t *matrix, size_t matrix_length, int64_t *rights, size_t rights_length,
+                    uint64_t *tally, size_t tally_length, uint8_t *answers, size_t answers_length)
+{
+    return parts_of(1, file, length, matrix, matrix_length, rights, rights_length, tally, answers, answers_length);
 }

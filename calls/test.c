@@ -1,6 +1,6 @@
 /* Runs the library's calls on cases whose answers plain C works out here or in bench/peer.c, and prints what was compared: days and cells one by
    one, units at random and at the limits, residuals at random and across north, forged headings and states, rooms one element too short or longer
-   than needed, files cut short, arc files read and written again, normal files unpacked, written again and merged, listings. */
+   than needed, files cut short, arc files in parts, arc files read and written again, normal files unpacked, written again and merged, listings. */
 #include <stdint.h>
 #include <stdio.h>
 #include <string.h>
@@ -330,6 +330,181 @@ static void cuts(void)
     told("files");
 }
 
+/* ---- arc files in parts, against whl_read and whl_take_run on the whole */
+
+#define PART_ROOMS position, sizeof position, part_tally, sizeof part_tally, part_matrix, ROOM, part_rights, 50
+
+static uint8_t position[WHL_POSITION_BYTES], part_tally[WHL_TALLY_BYTES], part_answers[64], part_heading[WHL_HEADING_MOST];
+static int64_t part_matrix[ROOM], part_rights[50];
+
+/* All that a call may change, so that it can be compared. */
+static uint8_t kept[sizeof position + sizeof part_tally + sizeof part_matrix + sizeof part_rights + sizeof part_answers];
+static void keep(uint8_t *to)
+{
+    memcpy(to, position, sizeof position); to += sizeof position;
+    memcpy(to, part_tally, sizeof part_tally); to += sizeof part_tally;
+    memcpy(to, part_matrix, sizeof part_matrix); to += sizeof part_matrix;
+    memcpy(to, part_rights, sizeof part_rights); to += sizeof part_rights;
+    memcpy(to, part_answers, sizeof part_answers);
+}
+static int is_kept(void) { static uint8_t now[sizeof kept]; keep(now); return !memcmp(now, kept, sizeof kept); }
+
+static int begin(void)
+{
+    memset(position, 7, sizeof position); memset(part_tally, 7, sizeof part_tally); memset(part_answers, 7, sizeof part_answers);
+    memset(part_matrix, 7, sizeof part_matrix); memset(part_rights, 7, sizeof part_rights);
+    return whl_begin(PART_ROOMS) == 0;
+}
+
+/* The bytes from one place to another in parts of some size: 0, or the first refusal. *taken counts the records completed. */
+static uint32_t feed(size_t from, size_t to, size_t size, size_t *taken, uint64_t *out)
+{
+    do {
+        size_t n = size < to - from ? size : to - from;
+        uint32_t refusal = whl_part(PART_ROOMS, file + from, n, part_answers + *taken, sizeof part_answers - *taken, out, 2);
+        if (refusal) return refusal;
+        CHECK(out[1] == 0);
+        *taken += out[0];
+        from += n;
+    } while (from < to);
+    return 0;
+}
+
+static int same_state(size_t records)
+{
+    return !memcmp(tally, part_tally, sizeof tally) && !memcmp(matrix, part_matrix, sizeof matrix) && !memcmp(rights, part_rights, sizeof rights)
+           && !memcmp(answers, part_answers, records);
+}
+
+/* The state of the first records of the file, taken as a run. */
+static void take_first(size_t records, size_t start, size_t size)
+{
+    memset(matrix, 0, sizeof matrix); memset(rights, 0, sizeof rights);
+    CHECK(whl_start(heading, sizeof heading, STATE) == 0);
+    CHECK(whl_take_run(heading, sizeof heading, STATE, file + start, records * size, answers, sizeof answers) == 0);
+}
+
+/* Cut in two at every byte, in parts of every size, over at every byte, and with a byte too many. */
+static void part_cuts(int p, int t, size_t records)
+{
+    size_t length = make(p, t, (int)records), size = WHL_RECORD_BYTES(p), taken, h = WHL_HEADING_BYTES(p, t);
+    uint64_t found[2], out[3];
+    file[length - size] ^= 1; /* a station that is not listed */
+    file[length] = 0;
+    CHECK(whl_read(file, length, heading, sizeof heading, found, 2) == 0 && found[0] == records);
+    take_first(records, found[1], size);
+    for (size_t cut = 0; cut <= length; cut++) {
+        taken = 0; out[2] = 77;
+        CHECK(begin() && feed(0, cut, length + 1, &taken, out) == 0 && taken == (cut < found[1] ? 0 : (cut - found[1]) / size));
+        keep(kept);
+        memset(part_heading, 7, sizeof part_heading);
+        uint32_t n = whl_position_heading(position, sizeof position, part_heading, sizeof part_heading, out, 2);
+        CHECK(n == (cut < found[1]) && out[0] == taken && out[1] == (n ? cut : 0) && part_heading[0] == (n ? 7 : heading[0]));
+        CHECK(n || (!memcmp(heading, part_heading, h) && (h == sizeof part_heading || part_heading[h] == 7)));
+        CHECK(is_kept() && feed(cut, length, length + 1, &taken, out) == 0 && taken == records && same_state(records));
+        CHECK(whl_finish(position, sizeof position, out, 2) == 0 && out[0] == records && out[1] == 0 && out[2] == 77);
+        CHECK(whl_position_heading(position, sizeof position, part_heading, h, out, 2) == 0 && out[0] == records && !memcmp(heading, part_heading, h));
+        keep(kept);
+        CHECK(feed(0, length, length, &taken, out) == 28 && whl_finish(position, sizeof position, out, 2) == 28 && is_kept());
+    }
+    for (size_t step = 1; step <= 150; step++) {
+        taken = 0;
+        CHECK(begin() && feed(0, length, step, &taken, out) == 0 && taken == records && same_state(records));
+        CHECK(feed(length, length + 1, 1, &taken, out) == 3 && out[0] == records && out[1] == length && same_state(records));
+        CHECK(whl_finish(position, sizeof position, out, 2) == 28 && whl_position_heading(position, sizeof position, part_heading, h, out, 2) == 1);
+        CHECK(out[0] == records && out[1] == 0);
+    }
+    for (size_t n = 0; n < length; n++) {
+        size_t whole = n < found[1] ? 0 : (n - found[1]) / size;
+        taken = 0;
+        CHECK(begin() && feed(0, n, 100, &taken, out) == 0 && taken == whole);
+        CHECK(whl_finish(position, sizeof position, out, 2) == whl_read(file, n, heading, sizeof heading, found, 2) && out[0] == whole && out[1] == whl_read_place(file, n));
+        keep(kept);
+        CHECK(feed(n, length, length, &taken, out) == 28 && is_kept());
+    }
+    /* a part that completes records and is then refused has taken them, and none where there is no room for their answers */
+    taken = 0;
+    CHECK(begin() && feed(0, found[1] + size + 1, length, &taken, out) == 0 && taken == 1);
+    keep(kept); out[0] = 77;
+    CHECK(whl_part(PART_ROOMS, file + found[1] + size + 1, length - found[1] - size, part_answers + 1, records - 2, out, 2) == 20 && is_kept() && out[0] == 77);
+    CHECK(whl_part(PART_ROOMS, file + found[1] + size + 1, length - found[1] - size, part_answers + 1, records - 1, out, 2) == 3);
+    CHECK(out[0] == records && out[1] == length && same_state(records) && part_answers[records] == 7);
+}
+
+/* Bad fields and counts are told by the part that completes them, at their place in the file. */
+static void part_forms(void)
+{
+    for (int round = 0; round < 4000; round++) {
+        size_t length = make(3, 2, 4), taken = 0, step = 1 + next(200);
+        uint64_t found[2], out[2] = { 0, 77 };
+        file[next(96)] ^= (u8)(1 << next(8));
+        uint32_t whole = whl_read(file, length, heading, sizeof heading, found, 2);
+        uint32_t n = begin() ? feed(0, length, step, &taken, out) : 77;
+        if (!n) n = whl_finish(position, sizeof position, out, 2);
+        CHECK(n == whole && out[1] == whl_read_place(file, length) && (n || out[0] == found[0]));
+    }
+}
+
+/* Positions and states that the calls do not give, and rooms that are one element too short. */
+static void part_forged(void)
+{
+    size_t length = make(3, 2, 4), size = WHL_RECORD_BYTES(3), start = 92, taken = 0, zeros = 0;
+    uint64_t out[2] = { 77, 77 };
+    unsigned long numbers[32] = { 0 };
+    for (int round = 0; round < 20000; round++) {
+        taken = 0;
+        CHECK(begin() && feed(0, next((u32)length + 1), length, &taken, out) == 0);
+        if (next(4)) position[next(2) ? next(sizeof position) : 1088 + next(24)] ^= (u8)(1 << next(8));
+        else part_tally[next(sizeof part_tally)] ^= (u8)(1 << next(8));
+        keep(kept); out[0] = out[1] = 77;
+        uint32_t n = whl_part(PART_ROOMS, file + 40, next(100), part_answers + 8, 50, out, 2);
+        numbers[n & 31]++;
+        zeros += n == 0;
+        if (n == 28 || n == 20 || n == 6) CHECK(is_kept() && out[0] == 77 && out[1] == 77);
+        else CHECK(n <= 5 && out[0] <= 65535);
+    }
+    CHECK(zeros && numbers[6] && numbers[28]);
+    taken = 0;
+    CHECK(begin() && feed(0, start + size + 5, length, &taken, out) == 0 && taken == 1);
+    keep(kept); out[0] = 77;
+    position[97 + 1] = 1; /* past the bytes kept */
+    CHECK(whl_part(PART_ROOMS, file, 1, part_answers, 1, out, 2) == 6 && whl_finish(position, sizeof position, out, 2) == 6);
+    CHECK(whl_position_heading(position, sizeof position, part_heading, sizeof part_heading, out, 2) == 6);
+    position[97 + 1] = 0; position[1104] = 2; /* over, by a number that no call gives */
+    CHECK(whl_part(PART_ROOMS, file, 1, part_answers, 1, out, 2) == 28 && whl_finish(position, sizeof position, out, 2) == 28);
+    CHECK(whl_position_heading(position, sizeof position, part_heading, sizeof part_heading, out, 2) == 6);
+    position[1104] = 0; position[1096] = 5; /* more records than there are */
+    CHECK(whl_part(PART_ROOMS, file, 1, part_answers, 1, out, 2) == 6 && whl_finish(position, sizeof position, out, 2) == 6);
+    position[1096] = 0; /* fewer than were accepted: the state is unsound, the position is not */
+    CHECK(whl_part(PART_ROOMS, file, 1, part_answers, 1, out, 2) == 6 && out[0] == 77);
+    position[1096] = 1;
+    CHECK(is_kept());
+    CHECK(whl_part(position, 1111, part_tally, 1352, part_matrix, 6, part_rights, 3, file, 1, part_answers, 1, out, 2) == 20);
+    CHECK(whl_part(position, 1112, part_tally, 1351, part_matrix, 6, part_rights, 3, file, 1, part_answers, 1, out, 2) == 20);
+    CHECK(whl_part(position, 1112, part_tally, 1352, part_matrix, 5, part_rights, 3, file, 1, part_answers, 1, out, 2) == 20);
+    CHECK(whl_part(position, 1112, part_tally, 1352, part_matrix, 6, part_rights, 2, file, 1, part_answers, 1, out, 2) == 20);
+    CHECK(whl_part(position, 1112, part_tally, 1352, part_matrix, 6, part_rights, 3, file, 1, part_answers, 1, out, 1) == 20);
+    CHECK(whl_finish(position, 1111, out, 2) == 20 && whl_finish(position, 1112, out, 1) == 20);
+    CHECK(whl_position_heading(position, 1111, part_heading, 80, out, 2) == 20 && whl_position_heading(position, 1112, part_heading, 80, out, 1) == 20);
+    memset(part_heading, 7, sizeof part_heading);
+    CHECK(whl_position_heading(position, 1112, part_heading, 79, out, 2) == 20 && part_heading[0] == 7);
+    CHECK(whl_begin(position, 1111, part_tally, 1352, part_matrix, 1275, part_rights, 50) == 20 && whl_begin(position, 1112, part_tally, 1351, part_matrix, 1275, part_rights, 50) == 20);
+    CHECK(whl_begin(position, 1112, part_tally, 1352, part_matrix, 1274, part_rights, 50) == 20 && whl_begin(position, 1112, part_tally, 1352, part_matrix, 1275, part_rights, 49) == 20);
+    CHECK(is_kept() && out[0] == 77);
+    CHECK(whl_position_heading(position, 1112, part_heading, 80, out, 2) == 0 && out[0] == 1 && part_heading[80] == 7);
+    CHECK(whl_part(position, 1112, part_tally, 1352, part_matrix, 6, part_rights, 3, file + start + size + 5, size, part_answers + 1, 1, out, 2) == 0 && out[0] == 1);
+}
+
+static void parts(void)
+{
+    part_cuts(1, 1, 4);
+    part_cuts(3, 2, 5);
+    part_cuts(50, 16, 3);
+    part_forms();
+    part_forged();
+    told("files in parts");
+}
+
 /* ---- arc files written from a heading in bytes and a run */
 
 static uint8_t arc[WHL_ARC_BYTES(1, 1, 65535) + 1], long_run[65536 * WHL_RECORD_BYTES(1)];
@@ -489,7 +664,7 @@ static void normals(void)
 static void listings(void)
 {
     static const char edge[] = "arc 7\nparameters 1\n3 0 seen 147456 50331648\nrecords 2 accepted 1\n18 1\nsquare sum 17179869184\n";
-    static const char cut[] = "refused 1 at 119\n", large[] = "refused 20 at 100\n";
+    static const char cut[] = "refused 1 at 119\n";
     static uint8_t text[WHL_LISTING_MOST];
     uint64_t size = 77;
     size_t at = put(put(put(put(put(0, 1, 4), 7, 4), 8036, 4), 1, 2), 30, 2);
@@ -500,10 +675,9 @@ static void listings(void)
         at = put(put_double(put_double(at, i ? 1001.5 : 1000.5), 1000.25), 3, 2);
     }
     text[0] = 7;
-    CHECK(whl_list(file, at, 65536, text, sizeof edge - 2, &size, 1) == 20 && whl_list(file, at, 65536, text, sizeof text, &size, 0) == 20 && text[0] == 7 && size == 77);
-    CHECK(whl_list(file, at, 65536, text, sizeof text, &size, 1) == 0 && size == sizeof edge - 1 && !memcmp(text, edge, size));
-    CHECK(whl_list(file, at - 1, 65536, text, sizeof text, &size, 1) == 0 && size == sizeof cut - 1 && !memcmp(text, cut, size));
-    CHECK(whl_list(file, at, 100, text, sizeof text, &size, 1) == 0 && size == sizeof large - 1 && !memcmp(text, large, size));
+    CHECK(whl_list(file, at, text, sizeof edge - 2, &size, 1) == 20 && whl_list(file, at, text, sizeof text, &size, 0) == 20 && text[0] == 7 && size == 77);
+    CHECK(whl_list(file, at, text, sizeof text, &size, 1) == 0 && size == sizeof edge - 1 && !memcmp(text, edge, size));
+    CHECK(whl_list(file, at - 1, text, sizeof text, &size, 1) == 0 && size == sizeof cut - 1 && !memcmp(text, cut, size));
     told("listings");
 }
 
@@ -516,6 +690,7 @@ int main(void)
     forged();
     rooms();
     cuts();
+    parts();
     writes();
     normals();
     listings();

@@ -9,19 +9,20 @@
        14 outside the window      15 not finite                16 unit out of its limits           17 not later than the last
        18 edit not passed         19 station has 256 already   20 a room too short
        21 both files list one arc 22 more than 16 arcs         23 more than 500 parameters         24 a common label with unlike priors
+       28 a file handed over in parts is over already
      whl_merge alone answers other numbers too: 101 to 106 and 201 to 206, a refusal of the first file plus 100 or of the second plus 200.
    - A result of type uint64_t is a place in a file, the byte where the refusal is. 0 is a place like others: an empty file is refused with 1 at
      0, a bad first count with 2 at 0. Whether a file is accepted is told by the call that reads it, and never by the place. Where a call
      that reads a file answers 20 the place is the file's length; the calls that give places know of no room and do not tell it.
    - A room is a pointer and a number of elements. Results stand at its front; a longer room keeps its rest. A refusal changes nothing in any
-     room. 20 for a room of results comes last. For a room that holds an input (heading, tally, sums, heads) it comes first in taking; in calls
-     that write bytes it comes where the judging needs what is not there.
+     room, but for 1 to 5 of a file handed over in parts, which has a place. 20 for a room of results comes last. For a room that holds an input (heading, tally, sums, heads) it comes first in taking; in calls
+     that write bytes it comes where the judging needs what is not there; for files in parts it is said below.
    - No pointer may be null, not even with 0 elements; a room that is written may not overlap any other; each is aligned as C wants for its
      elements. A room that only takes results may be uninitialised; one that is read may not, and the state of an arc, which whl_start fills, is
      read by every later call.
-   - Nothing is kept between calls, and nothing is allocated: calls in different threads on different rooms do not meet. Stack: whl_list 98 KB,
-     whl_merge 25 KB, every other call below 14 KB.
-   - The calls that look at doubles (whl_unit_of, whl_double_of, whl_residual, whl_take, whl_take_run, whl_list) work in the floating-point
+   - Nothing is kept between calls, and nothing is allocated: calls in different threads on different rooms do not meet. Stack: whl_list 45 KB,
+     whl_merge and whl_part 25 KB, whl_position_heading 15 KB, every other call below 14 KB.
+   - The calls that look at doubles (whl_unit_of, whl_double_of, whl_residual, whl_take, whl_take_run, whl_part, whl_list) work in the floating-point
      environment that a C program starts with: rounding to nearest, no exception unmasked, subnormals kept. In another one they may answer
      otherwise, or trap; no promise holds there, and nothing looks at it. */
 #ifndef WHELORUKA_H
@@ -41,6 +42,9 @@ extern "C" {
 /* A tally in bytes: the square sum u64; the accepted records of each station, sixteen u32; the last times, sixteen rows of ten u64 (a row a
    station, a column a type). Little-endian. */
 #define WHL_TALLY_BYTES 1352
+/* A position in an arc file that is handed over in parts, in bytes: room for 1088 bytes kept; how many of them count u64; the records taken u64;
+   whether the file is over u64, 0 or 1. Little-endian. Callers need not look into it. */
+#define WHL_POSITION_BYTES 1112
 /* The matrix sums: the packed upper triangle by columns; row i and column j, from 0 with i <= j, stand at j (j + 1) / 2 + i. */
 #define WHL_MATRIX_SUMS(P) ((size_t)(P) * ((size_t)(P) + 1) / 2)
 /* A tracking record in bytes, and an arc file of so many of them. */
@@ -111,6 +115,31 @@ uint32_t whl_take_run(const uint8_t *heading, size_t heading_length, uint8_t *ta
 uint32_t whl_seen(const uint8_t *heading, size_t heading_length, const uint8_t *tally, size_t tally_length, const int64_t *matrix,
                   size_t matrix_length, const int64_t *rights, size_t rights_length, size_t parameter, uint32_t *out, size_t out_length);
 
+/* ---- arc files in parts, cut anywhere: whl_begin, a whl_part for each part, whl_finish. A position of WHL_POSITION_BYTES says how far the file was
+   handed over, and a state, as above, has the records taken so far. All may hold any values. out[0] has a number of records, out[1] the place of
+   a refusal in the file's form (1 to 5), else 0. 20 comes first where the position is shorter than 1112, the tally than 1352 or out than 2. */
+
+/* The position before the first byte, and the empty state, with sums for fifty parameters, since the file's own number is not known yet. 20: the
+   position shorter than 1112, the tally than 1352, the matrix sums fewer than 1275 or the right sides fewer than 50. */
+uint32_t whl_begin(uint8_t *position, size_t position_length, uint8_t *tally, size_t tally_length, int64_t *matrix, size_t matrix_length,
+                   int64_t *rights, size_t rights_length);
+/* The next bytes of the file, any number of them. The records that they complete are taken; answers[i] is 0 or 10 to 19 for the i-th of these, and
+   out[0] says how many they are. In this order: 20; 28 after whl_finish and after a refusal in the file's form; 20: the sums fewer than for the
+   parameters that were read (for fifty before that), or fewer answers than records completed; 6: the position, or the state at it, is none that
+   these calls give. These four change nothing, and the same part may be handed over again. Then 2, 3, 4, 5: the file is over, the records
+   completed before it stay taken with their answers, out[0] is the number of all records taken and out[1] the place in the whole file. */
+uint32_t whl_part(uint8_t *position, size_t position_length, uint8_t *tally, size_t tally_length, int64_t *matrix, size_t matrix_length,
+                  int64_t *rights, size_t rights_length, const uint8_t *bytes, size_t bytes_length, uint8_t *answers, size_t answers_length,
+                  uint64_t *out, size_t out_length);
+/* The file is over. In this order: 20; 28; 6; 1 where bytes are missing, with the number of all bytes handed over in out[1]. For 0 and for 1 out[0]
+   is the number of all records taken, and the position is over. */
+uint32_t whl_finish(uint8_t *position, size_t position_length, uint64_t *out, size_t out_length);
+/* The heading of what was handed over, as whl_read gives it, also after a whl_finish that answered 0; out[0] is the number of records taken so far.
+   In this order: 20; 6, also where the word for whether the file is over is above 1; 1 where the heading and the number of records are not
+   complete yet or are no longer kept, with out[0] and, in out[1], the number of bytes kept; 20 where the heading's room is too short. */
+uint32_t whl_position_heading(const uint8_t *position, size_t position_length, uint8_t *heading, size_t heading_length, uint64_t *out,
+                              size_t out_length);
+
 /* ---- normal files */
 
 /* In out[0] to out[4]: the numbers of arcs and of parameters, and the places of the first matrix sum, the first right side and the totals.
@@ -138,9 +167,9 @@ uint32_t whl_of_state(const uint8_t *heading, size_t heading_length, const uint8
    whl_normal_place's of that file); then 21, 22, 23, 24, 20. */
 uint32_t whl_merge(const uint8_t *first, size_t first_length, const uint8_t *second, size_t second_length, uint8_t *out, size_t out_length,
                    uint64_t *size, size_t size_length);
-/* The text that the arc program prints of an arc file: a listing, or `refused N at PLACE`, and `refused 20 at LIMIT` for a file of more than limit
-   bytes. The text of a refusal is a result like others, and the answer to it is 0. 20: out or size too short. */
-uint32_t whl_list(const uint8_t *file, size_t file_length, size_t limit, uint8_t *out, size_t out_length, uint64_t *size, size_t size_length);
+/* The text that the arc program prints of an arc file: a listing, or `refused N at PLACE`. The text of a refusal is a result like others, and the
+   answer to it is 0. 20: out or size too short. */
+uint32_t whl_list(const uint8_t *file, size_t file_length, uint8_t *out, size_t out_length, uint64_t *size, size_t size_length);
 
 #ifdef __cplusplus
 }

@@ -20,22 +20,12 @@ use Rattle.arc_kinds.specs.Kinds.{settingsKind, labelKind, stationKind}
 use Rattle.arc_kinds.specs.Told.{settingsPart}
 use Rattle.arc_read.specs.Arc.{headingOf, readArc}
 use Rattle.arc_sections.specs.Sections.{Slots, slotted, labelsFrom, labelsPart, stationsFrom, stationsPart, recordsPart}
-use Rattle.arc_read.specs.Parts.{headingPart, arcFrom, toldHeading}
+use Rattle.arc_front.specs.Front.{headingPart}
+use Rattle.arc_read.specs.Parts.{arcFrom}
 use Rattle.byte_section.specs.Told.{Span, spanOf}
 use Rattle.byte_section.specs.declared.ReadAnswer.the-variants as Answers
 use Rattle.byte_section.specs.declared.SectionAnswer.{SectionAnswer}
 use Rattle.byte_section.specs.declared.SectionAnswer.the-variants as SectionAnswers
-use Rattle.arc_read.specs.declared.HeadingRead.{HeadingRead}
-
--- ---- what the answers say
-module _ (h : HeadingRead) where
-  pub heading-read : h .answer ≡ Answers.Read → toldHeading h ≡ good (record { heading = h .heading; next = h .next })
-  unfolding toldHeading andThen
-  heading-read e = rw e
-
-  pub heading-refused : {r : Refusal} {place : ℕ} → h .answer ≡ Answers.Refused r place → toldHeading h ≡ bad (numberOf r) place
-  unfolding toldHeading andThen
-  heading-refused e = rw e
 
 -- ---- the settings are one record, and end at 16
 one-record : (s : List ℕ) {B : Type 0} (f : Run Settings → Judged B)
@@ -43,7 +33,7 @@ one-record : (s : List ℕ) {B : Type 0} (f : Run Settings → Judged B)
 unfolding records
 one-record s f = ap (λ j. andThen j f) (then-same _ _ (λ a. good (record { items = a ∷ []; next = 16 })) (λ a e. then-good _ _ refl)) ∙ then-made _ _ _
 
-settings-first : (s : List ℕ) {B : Type 0} (f : Run Settings → Judged B)
+pub settings-first : (s : List ℕ) {B : Type 0} (f : Run Settings → Judged B)
     → andThen (sectionAt settingsKind s 1 1 0) f ≡ andThen (settingsPart s) (λ a. f (record { items = a ∷ []; next = 16 }))
 unfolding sectionAt settingsPart
 settings-first s f =
@@ -52,7 +42,7 @@ settings-first s f =
     ∙ sym (then-then _ _ _)
 
 -- ---- a section in an array
-slots-first : {A B : Type 0} (K : Kind A) (s : List ℕ) (low room at : ℕ) (d : A) (g : Slots A → Judged B)
+pub slots-first : {A B : Type 0} (K : Kind A) (s : List ℕ) (low room at : ℕ) (d : A) (g : Slots A → Judged B)
     → andThen (sectionAt K s low room at) (λ r. g (slotted room d r))
     ≡ andThen (andThen (countAt s at low room) (λ n. andThen (records K s n (at + 4) 0) (λ r. good (slotted room d r)))) g
 unfolding sectionAt
@@ -62,7 +52,7 @@ slots-first K s low room at d g =
     ∙ sym (then-then _ _ _)
 
 -- ---- a part after three
-after-three : {A B C D E : Type 0} (j : Judged A) (k : A → Judged B) (m : A → B → Judged C) (f : A → B → C → D) (g : D → Judged E)
+pub after-three : {A B C D E : Type 0} (j : Judged A) (k : A → Judged B) (m : A → B → Judged C) (f : A → B → C → D) (g : D → Judged E)
     → andThen j (λ a. andThen (k a) (λ b. andThen (m a b) (λ c. g (f a b c))))
     ≡ andThen (andThen j (λ a. andThen (k a) (λ b. andThen (m a b) (λ c. good (f a b c))))) g
 after-three j k m f g =
@@ -77,16 +67,6 @@ read-parts s =
     ∙ then-same _ _ _ (λ b e. slots-first stationKind s 0 16 (b .next) noStation _
     ∙ then-same _ _ _ (λ c e. sym (then-made _ _ _))))
     ∙ after-three _ _ _ _ _
-
--- what was read as labels fits the array
-pub few-labels : (s : List ℕ) (at : ℕ) (b : Slots Label) → labelsPart s at ≡ good b → b .count ≤ 50
-unfolding labelsPart labelsFrom
-few-labels s at b e =
-    let n = then-read _ _ _ e in
-    let r = then-read _ _ _ (n .2) in
-    let most = counted s at 1 50 (n .0) (n .1) .to in
-    let size = records-next labelKind s (n .0) (at + 4) 0 (r .0) (r .1) .1 in
-    omega (arith, ap (λ x. x .count) (good-same (r .2)))
 
 -- ---- what follows a heading
 module _ (s : List ℕ) (at : ℕ) (h : Heading) (d : Span) (e : recordsPart s at (h .parameters) ≡ good d) where

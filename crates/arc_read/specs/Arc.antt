@@ -1,7 +1,7 @@
 -- Document 01, 'Arc file': "Four sections in this order, each after its u32 count"; "Files are read left to right".
 use Prim.Native.Nat.{ℕ, _+_}
 use mathlib.Core.List.{List}
-use lib.ListN.{length, getD, replicate}
+use lib.ListN.{length, getD}
 use Rattle.num_limits.specs.Capacities.{parametersMost, recordsMost, stationsMost}
 use Rattle.arc_limits.specs.Limits.{noSettings, noLabel, noStation}
 use Rattle.num_whole.specs.Answer.{Judged, good, bad}
@@ -11,6 +11,7 @@ use Rattle.arc_limits.specs.declared.Label.{Label}
 use Rattle.arc_limits.specs.declared.Station.{Station}
 use Rattle.arc_heading.specs.declared.Heading.{Heading}
 use Rattle.arc_kinds.specs.Kinds.{settingsKind, labelKind, stationKind, recordKind}
+use Rattle.arc_front.specs.Front.{blankHeading}
 use Rattle.byte_section.specs.Told.{toldAnswer}
 use Rattle.num_whole.specs.Lists.{padded}
 use Rattle.arc_read.specs.declared.ArcRead.{ArcRead}
@@ -19,9 +20,6 @@ use Rattle.arc_read.specs.declared.ArcRead.{ArcRead}
 unfoldable pub headingOf : Settings → List Label → List Station → Heading
 headingOf a ls ts =
     record { settings = a; parameters = length ls; stations = length ts; labels = padded parametersMost noLabel ls; listed = padded stationsMost noStation ts }
-
-abbrev pub blankHeading : Heading
-blankHeading = record { settings = noSettings; parameters = 0; stations = 0; labels = replicate parametersMost noLabel; listed = replicate stationsMost noStation }
 
 -- what an arc file holds: its heading, how many records, and where the first of them stands
 pub record Arc : Type 0 where

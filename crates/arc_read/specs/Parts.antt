@@ -1,39 +1,15 @@
 -- For the proofs of the code alone: no public promise and no law cites this, and an auditor may skip it.
--- The arc file's reading in the parts that the code has: the heading, and what follows it.
+-- The arc file's reading in the parts that the code has: what follows its heading.
 use Prim.Native.Nat.{ℕ, _+_}
 use mathlib.Core.List.{List}
-use Rattle.num_whole.specs.Answer.{Judged, good}
+use Rattle.num_whole.specs.Answer.{Judged}
 use Rattle.byte_section.specs.Section.{andThen, closed}
 use Rattle.arc_heading.specs.declared.Heading.{Heading}
-use Rattle.arc_kinds.specs.Told.{settingsPart}
 use Rattle.arc_read.specs.Arc.{Arc}
-use Rattle.byte_section.specs.Told.{toldAnswer}
-use Rattle.arc_sections.specs.Sections.{labelsPart, stationsPart, recordsPart}
-use Rattle.arc_read.specs.declared.HeadingRead.{HeadingRead}
-
--- a heading, and the place after it
-pub record PlacedHeading : Type 0 where
-  pub heading : Heading
-  pub next : ℕ
-
--- the settings end at 16
-unfoldable pub headingPart : List ℕ → Judged PlacedHeading
-headingPart s =
-    andThen (settingsPart s) λ a.
-    andThen (labelsPart s 16) λ b.
-    andThen (stationsPart s (b .next)) λ c.
-    good
-    (record {
-      heading = record { settings = a; parameters = b .count; stations = c .count; labels = b .items; listed = c .items };
-      next = c .next;
-    })
+use Rattle.arc_sections.specs.Sections.{recordsPart}
 
 -- what follows a heading that ends at a place
 unfoldable pub arcFrom : List ℕ → ℕ → Heading → Judged Arc
 arcFrom s at h =
     andThen (recordsPart s at (h .parameters)) λ d.
     closed s (d .next) (record { heading = h; count = d .count; start = at + 4 })
-
--- ---- what the answers say
-unfoldable pub toldHeading : HeadingRead → Judged PlacedHeading
-toldHeading r = andThen (toldAnswer (r .answer)) (λ u. good (record { heading = r .heading; next = r .next }))

@@ -1,9 +1,10 @@
-// For the benchmarks' drivers: an arc file's records taken from an empty state, as one run or one by one; a normal file read, and two merged. The
-// functions promise only that they are safe and end; what the entries promise stands in `take`, `norm_read` and `merge`.
+// For the benchmarks' drivers: an arc file's records taken from an empty state, as one run, one by one, or in parts as they arrive; a normal file read, and two merged. The
+// functions promise only that they are safe and end; what the entries promise stands in `take`, `part`, `norm_read` and `merge`.
 use arc_heading::Heading;
 use byte_section::ReadAnswer;
 use merge::MergeAnswer;
 use num_limits::STATIONS_MOST;
+use part_laws::Position;
 use refusal::Refusal;
 use take_one::TakeAnswer;
 use take_tally::Tally;
@@ -128,6 +129,65 @@ pub extern "C" fn bench_take(
     let s = take_state::start(h, matrix, rights);
     let t = s.tally;
     let u = take_each(h, t, matrix, rights, file, r.start, answers);
+    put_tally(u, tally);
+    0
+}
+
+// A file handed over in parts of so many bytes, one at the least, from a position and a state on.
+fn take_parts(
+    file: &[u8],
+    size: usize,
+    p: Position,
+    t: Tally,
+    matrix: &mut [i64],
+    rights: &mut [i64],
+    answers: &mut [u8],
+) -> Tally {
+    let mut q = p;
+    let mut u = t;
+    let mut at: usize = 0;
+    while at < file.len() {
+        let rest = file.len() - at;
+        let e = at + num_whole::least(num_whole::least(size, rest - 1) + 1, rest);
+        let k = num_whole::least(q.taken, answers.len());
+        let x = part::part(q, u, matrix, rights, &file[at..e], &mut answers[k..]);
+        q = x.position;
+        u = x.tally;
+        at = e;
+    }
+    u
+}
+
+// The records of an arc file, handed over in parts of 64 KiB.
+#[no_mangle]
+pub extern "C" fn bench_parts(
+    file: &[u8],
+    matrix: &mut [i64],
+    rights: &mut [i64],
+    tally: &mut [u64],
+    answers: &mut [u8],
+) -> u8 {
+    let b = part::begin(matrix, rights);
+    let p = b.position;
+    let t = b.tally;
+    let u = take_parts(file, 65535, p, t, matrix, rights, answers);
+    put_tally(u, tally);
+    0
+}
+
+// The same in parts of one byte.
+#[no_mangle]
+pub extern "C" fn bench_bytes(
+    file: &[u8],
+    matrix: &mut [i64],
+    rights: &mut [i64],
+    tally: &mut [u64],
+    answers: &mut [u8],
+) -> u8 {
+    let b = part::begin(matrix, rights);
+    let p = b.position;
+    let t = b.tally;
+    let u = take_parts(file, 0, p, t, matrix, rights, answers);
     put_tally(u, tally);
     0
 }

@@ -6,3 +6,4 @@ pub mod Chains
 pub mod Written
 pub mod Laid
 pub mod Writing
+pub mod Fronts

@@ -1,23 +1,23 @@
 // The commands of the desk program: which words name them, which files they read and write, and what they tell. What is told of a file comes
 // from the proved libraries; here bytes are only moved. Results and refusals go to standard output, what the system refuses to standard error.
-// The rooms for files are locals of two functions, one for arc files and one for normal files, each called from several places: a function that is
-// called from one place only becomes a part of its caller, and the stack then has the rooms of all commands at once.
+// An arc file is read in parts, so that its length does not matter. The rooms for normal files are locals of one function that is called from
+// several places: a function that is called from one place only becomes a part of its caller.
 use arc_heading::Heading;
-use arc_read::ArcRead;
 use byte_section::ReadAnswer;
 use byte_section::WriteAnswer;
+use desk_arc::Followed;
+use list_run::Course;
+use list_tallies::ANSWERS;
 use merge::MergeAnswer;
 use norm_read::NormalRead;
-use num_limits::ARC_SUMS_MOST;
 use num_limits::PARAMETERS_MOST;
-use num_limits::RECORDS_MOST;
-use refusal::Verdict;
-use take_one::TakeAnswer;
+use part_laws::PartAnswer;
 use take_tally::Tally;
 ghost use mathlib.Core.Path.{_≡_};
 ghost use lib.ListN.{length};
-ghost use Rattle.num_limits.specs.Capacities.{arcSumsMost, recordsMost};
 ghost use Rattle.io.specs.Counts.{Counts};
+ghost use Rattle.num_limits.specs.Capacities.{arcSumsMost, parametersMost};
+ghost use Rattle.list_run.specs.Course.{Open, Ended};
 
 // ---- files in and out
 
@@ -62,54 +62,22 @@ enum Asked {
     Normal,
 }
 
-fn tell_arc(path: &[u8], r: ArcRead) {
-    let h = r.heading;
+fn tell_arc(path: &[u8], h: Heading, records: usize) {
     desk_tell::begin(path, b"accepted: arc ");
     desk_lines::put_number(h.settings.arc as u64, b", parameters ");
     desk_lines::put_number(h.parameters as u64, b", stations ");
     desk_lines::put_number(h.stations as u64, b", records ");
-    desk_lines::put_number(r.count as u64, b"\n");
-}
-
-// For the longest listing (docs/FORMATS.md).
-fn text_room() -> [u8; 5596]
-    ensures { λ r. ⌜ 5596 ≡ length r ⌝ }
-{
-    [0; 5596]
+    desk_lines::put_number(records as u64, b"\n");
 }
 
 // The listing of an accepted arc file.
-fn list_arc(path: &[u8], file: &[u8]) {
-    let mut out = text_room();
-    match list::list(file, file.len(), &mut out) {
-        WriteAnswer::Is(n) => {
-            let k = desk_files::within(n, &out);
-            desk_lines::put(&out[..k]);
-        }
-        WriteAnswer::Refused(why) => desk_tell::tell_refusal(path, why),
-    }
-}
-
-// The records of a file, from their place on.
-fn records_of(file: &[u8], start: usize) -> &[u8] {
-    if start <= file.len() {
-        &file[start..]
-    } else {
-        &file[0..0]
-    }
-}
-
-fn matrix_room() -> [i64; ARC_SUMS_MOST]
-    ensures { λ r. ⌜ arcSumsMost ≡ length r ⌝ }
+fn list_arc(c: Course, matrix: &[i64], rights: &[i64], table: &[u64])
+    requires { ⌜ Open c (now matrix) (now rights) (now table) × (length (now matrix) ≡ arcSumsMost) × (length (now rights) ≡ parametersMost) ⌝ }
 {
-    [0; ARC_SUMS_MOST]
-}
-
-// For the answers of the most records that a file has.
-fn answers_room() -> [u8; RECORDS_MOST]
-    ensures { λ r. ⌜ recordsMost ≡ length r ⌝ }
-{
-    [0; RECORDS_MOST]
+    let mut out = desk_arc::text_room();
+    let n = list_run::put_text(c, matrix, rights, table, &mut out);
+    let k = desk_files::within(n, &out);
+    desk_lines::put(&out[..k]);
 }
 
 // For the longest normal file of one arc.
@@ -123,17 +91,18 @@ fn single_room() -> [u8; 11840]
 fn store_state(
     path: &[u8],
     h: Heading,
+    records: usize,
     t: Tally,
     matrix: &[i64],
     rights: &[i64],
-    answers: &[u8],
+    table: &[u64],
     to: &[u8],
 ) {
     let mut out = single_room();
     match norm_state::of_state(h, t, matrix, rights, &mut out) {
         WriteAnswer::Is(n) => {
             if store(to, &out, n) {
-                desk_tell::tell_records(answers);
+                desk_tell::tell_records(records, table);
                 desk_tell::tell_unseen(h, matrix);
             }
         }
@@ -141,85 +110,96 @@ fn store_state(
     }
 }
 
-// An accepted arc file's records taken into the empty state. `answers` has room for an answer a record.
-fn take_records(
-    path: &[u8],
-    file: &[u8],
-    r: ArcRead,
-    t: Tally,
-    matrix: &mut [i64],
-    rights: &mut [i64],
-    answers: &mut [u8],
-    to: &[u8],
-) {
-    let h = r.heading;
-    let run = records_of(file, r.start);
-    let taken = take::take_run(h, t, matrix, rights, run, answers);
-    let u = taken.tally;
-    let answer = taken.answer;
-    match answer {
-        TakeAnswer::Accepted => {
-            let k = desk_files::within(r.count, answers);
-            store_state(path, h, u, matrix, rights, &answers[..k], to);
-        }
-        TakeAnswer::Refused(why) => desk_tell::tell_refusal(path, why),
-    }
-}
-
-// The normal file of an accepted arc file.
-fn normal_of_arc(path: &[u8], file: &[u8], r: ArcRead, to: &[u8]) {
-    let h = r.heading;
-    let mut matrix = matrix_room();
-    let mut rights: [i64; PARAMETERS_MOST] = [0; PARAMETERS_MOST];
-    let mut answers = answers_room();
-    let s = take_state::start(h, &mut matrix, &mut rights);
-    let t = s.tally;
-    let answer = s.answer;
-    match answer {
-        Verdict::Sound => take_records(
-            path,
-            file,
-            r,
-            t,
-            &mut matrix,
-            &mut rights,
-            &mut answers,
-            to,
-        ),
-        Verdict::Refused(why) => desk_tell::tell_refusal(path, why),
-    }
-}
-
 // What is asked of an accepted arc file.
-fn use_arc(path: &[u8], file: &[u8], r: ArcRead, to: &[u8], asked: Asked) {
+fn use_arc(
+    path: &[u8],
+    c: Course,
+    matrix: &[i64],
+    rights: &[i64],
+    table: &[u64],
+    to: &[u8],
+    asked: Asked,
+)
+    requires { ⌜ Open c (now matrix) (now rights) (now table) × (length (now matrix) ≡ arcSumsMost) × (length (now rights) ≡ parametersMost) ⌝ }
+{
+    let p = c.position;
+    let t = c.tally;
+    let g = part::heading(p);
+    let h = g.heading;
     match asked {
-        Asked::Check => tell_arc(path, r),
-        Asked::List => list_arc(path, file),
-        Asked::Normal => normal_of_arc(path, file, r, to),
+        Asked::Check => tell_arc(path, h, p.taken),
+        Asked::List => list_arc(c, matrix, rights, table),
+        Asked::Normal => store_state(path, h, p.taken, t, matrix, rights, table, to),
     }
 }
 
-fn judge_arc(path: &[u8], file: &[u8], to: &[u8], asked: Asked) {
-    let r = arc_read::read(file);
-    let answer = r.answer;
+// The file is over: it is refused where something is missing, else it is used.
+fn end_arc(
+    path: &[u8],
+    c: Course,
+    matrix: &[i64],
+    rights: &[i64],
+    table: &[u64],
+    to: &[u8],
+    asked: Asked,
+)
+    requires { ⌜ Open c (now matrix) (now rights) (now table) × (length (now matrix) ≡ arcSumsMost) × (length (now rights) ≡ parametersMost) ⌝ }
+{
+    let p = c.position;
+    let f = part::finish(p);
+    let answer = f.answer;
     match answer {
-        ReadAnswer::Read => use_arc(path, file, r, to, asked),
+        PartAnswer::Took(_) => use_arc(path, c, matrix, rights, table, to, asked),
+        PartAnswer::Broken(why, place, _) => desk_tell::tell_place(path, why, place),
+        PartAnswer::Stopped(why) => desk_tell::tell_refusal(path, why),
+    }
+}
+
+// What the parts of a file led to: a refusal in its form, or all of it.
+fn judge_arc(
+    path: &[u8],
+    f: Followed,
+    matrix: &[i64],
+    rights: &[i64],
+    table: &[u64],
+    to: &[u8],
+    asked: Asked,
+)
+    requires { ⌜ Ended (f .answer) (f .course) (now matrix) (now rights) (now table) × (length (now matrix) ≡ arcSumsMost) × (length (now rights) ≡ parametersMost) ⌝ }
+{
+    let answer = f.answer;
+    let c = f.course;
+    match answer {
+        ReadAnswer::Read => end_arc(path, c, matrix, rights, table, to, asked),
         ReadAnswer::Refused(why, place) => desk_tell::tell_place(path, why, place),
     }
 }
 
-fn fetch_arc(path: &[u8], to: &[u8], asked: Asked, room: &mut [u8]) {
-    let got = fetch(path, room);
-    if got.is_here {
-        let n = desk_files::within(got.length, room);
-        judge_arc(path, &room[..n], to, asked);
+// The parts of an open file, judged once all of them could be read; else it is told why not.
+fn read_arc(fd: i32, path: &[u8], to: &[u8], asked: Asked, buf: &mut [u8])
+    requires { ⌜ length (now buf) ≡ 65536 ⌝ }
+{
+    let mut matrix = desk_arc::sums_room();
+    let mut rights: [i64; PARAMETERS_MOST] = [0; PARAMETERS_MOST];
+    let mut table: [u64; ANSWERS] = [0; ANSWERS];
+    let f = desk_arc::follow(fd, buf, &mut matrix, &mut rights, &mut table);
+    if f.is_read {
+        judge_arc(path, f, &matrix, &rights, &table, to, asked);
+    } else {
+        os::fail(path);
     }
 }
 
-// An arc file is read and judged, and what is asked is done with it, with OUT where that is a file.
+// An arc file of any length is read in parts and judged, and what is asked is done with it, with OUT where that is a file.
 fn with_arc(path: &[u8], to: &[u8], asked: Asked) {
-    let mut room = desk_files::arc_room();
-    fetch_arc(path, to, asked, &mut room);
+    let mut buf = desk_arc::part_room();
+    let fd = os::open_read(path);
+    if fd < 0 {
+        os::fail(path);
+        return;
+    }
+    read_arc(fd, path, to, asked, &mut buf);
+    libc::close(fd);
 }
 
 // ---- normal files
@@ -337,7 +317,7 @@ fn help() {
     help_check();
     help_help();
     desk_lines::put(
-        b"Arc files may have up to 4194304 bytes, normal files up to 1018100. A file OUT that is there stays as it is.\n",
+        b"Arc files may have any length, normal files up to 1018100 bytes. A file OUT that is there stays as it is.\n",
     );
     desk_lines::put(
         b"OUT is written as OUT.part and then gets its name, so that it is whole or not there.\n",

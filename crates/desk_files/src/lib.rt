@@ -8,13 +8,6 @@ ghost use lib.ListN.{length};
 ghost use Rattle.io.specs.Counts.{Counts};
 ghost use Rattle.libc.specs.Io.{Ended};
 
-// 4,194,305 zeros: an arc file of 4 MiB, and one byte more, by which a longer file is found out.
-pub fn arc_room() -> [u8; 4194305]
-    ensures { λ r. ⌜ 4194305 ≡ length r ⌝ }
-{
-    [0; 4194305]
-}
-
 // 1,018,101 zeros: the longest normal file, and one byte more.
 pub fn normal_room() -> [u8; 1018101]
     ensures { λ r. ⌜ 1018101 ≡ length r ⌝ }

@@ -90,18 +90,17 @@ fn lines_room() -> [u8; 857]
 }
 
 // The listing's lines of the records: how many, how many accepted, and how many have each refusal.
-pub fn tell_records(answers: &[u8]) {
+pub fn tell_records(records: usize, table: &[u64]) {
     let mut room = lines_room();
-    let n = answers.len() as u64;
     let a = list_lines::put_two(
         &mut room,
         0,
         b"records ",
-        n,
+        records as u64,
         b" accepted ",
-        list_tallies::tally(answers, 0),
+        list_tallies::tally(table, 0),
     );
-    let b = list_tallies::put_tallies(&mut room, a, answers);
+    let b = list_tallies::put_tallies(&mut room, a, table);
     let k = desk_files::within(b, &room);
     desk_lines::put(&room[..k]);
 }

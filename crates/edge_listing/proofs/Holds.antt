@@ -25,12 +25,10 @@ use Rattle.take_laws.specs.Machine.{run, answers}
 use Rattle.take_laws.specs.Mix.{keep}
 use Rattle.take_laws.specs.Taking.{correctionsOf, stationIn, stationRow, momentOf, stamp, typeColumn, residualIn, residual, scaled, weightIn, lengthTests, recordTests, stationTests, judgedBy, recordNumber, matrixTerms, rightTerms, squareTerm, book, recordAnswer, recordStep, cut, wholeRecords, recordsIn}
 use Rattle.decimal.specs.Decimal.{digitsOf, decimal, signedDecimal}
-use Rattle.list_lines.specs.Lines.{oneLine, twoLine, labelText, sumsText, parameterLine, parameterLines, tallyOf, tallyLine, tallyLines, refusedLine, arcLines}
-use Rattle.list_run.specs.Runs.{emptyState, toldOf, stateAfter, runLines}
-use Rattle.list.specs.Listing.{listing}
-use Rattle.list.proofs.Listings.{listing-long}
-use Rattle.edge_listing.specs.Seven.{headSeven, recordSeven, fileSeven, silentSeven, textSeven, silentText, emptyText, longText, Seven}
+use Rattle.list_lines.specs.Lines.{oneLine, twoLine, labelText, sumsText, parameterLine, parameterLines, tallyOf, talliesFrom, tallyLine, tallyLines, refusedLine, arcLines}
+use Rattle.list_run.specs.Runs.{noSums, noSides, toldOf, stateAfter, runLines, listing}
+use Rattle.edge_listing.specs.Seven.{headSeven, recordSeven, fileSeven, silentSeven, textSeven, silentText, emptyText, Seven}
 
 pub seven : Seven
-unfolding ofBits round headSeven recordSeven fileSeven silentSeven textSeven silentText emptyText longText less upTo same pick both either between plus when unless numberIn first valueOr word bytesOf signedWord andThen countAt judgedAt records sectionAt closed windowOk settingsOk indexOk labelOk labelKey correctionOk stationOk stationKey labelsOf stationsOf findFrom numbersOf settingsAt labelAt stationAt stationAtOk headingOf readArc size nearestUnit unitWithin isType rowOfType isTurn onCircle turned unitOf brought apartBy fitsRow residualBy residualOf sigmaOk weightOf clockOk timeOf inWindow passesEdit columns tri recordIn partialsFrom partialsIn tallyWith seenIn run answers keep correctionsOf stationIn stationRow momentOf stamp typeColumn residualIn residual scaled weightIn lengthTests recordTests stationTests judgedBy recordNumber matrixTerms rightTerms squareTerm book recordAnswer recordStep cut wholeRecords recordsIn digitsOf decimal signedDecimal oneLine twoLine labelText sumsText parameterLine parameterLines tallyOf tallyLine tallyLines refusedLine arcLines emptyState toldOf stateAfter runLines listing
-seven = record { with-records = refl; without = refl; empty = refl; long = λ file h. sym (listing-long 65536 file h) }
+unfolding ofBits round headSeven recordSeven fileSeven silentSeven textSeven silentText emptyText less upTo same pick both either between plus when unless numberIn first valueOr word bytesOf signedWord andThen countAt judgedAt records sectionAt closed windowOk settingsOk indexOk labelOk labelKey correctionOk stationOk stationKey labelsOf stationsOf findFrom numbersOf settingsAt labelAt stationAt stationAtOk headingOf readArc size nearestUnit unitWithin isType rowOfType isTurn onCircle turned unitOf brought apartBy fitsRow residualBy residualOf sigmaOk weightOf clockOk timeOf inWindow passesEdit columns tri recordIn partialsFrom partialsIn tallyWith seenIn run answers keep correctionsOf stationIn stationRow momentOf stamp typeColumn residualIn residual scaled weightIn lengthTests recordTests stationTests judgedBy recordNumber matrixTerms rightTerms squareTerm book recordAnswer recordStep cut wholeRecords recordsIn digitsOf decimal signedDecimal oneLine twoLine labelText sumsText parameterLine parameterLines tallyOf talliesFrom tallyLine tallyLines refusedLine arcLines noSums noSides toldOf stateAfter runLines listing
+seven = record { with-records = refl; without = refl; empty = refl }

@@ -5,7 +5,7 @@ use mathlib.Core.List.{List, [], _∷_, _++_}
 use lib.ListN.{length}
 use Rattle.byte_words.specs.Words.{bytesOf}
 use Rattle.decimal.specs.Text.{ascii}
-use Rattle.list.specs.Listing.{listing}
+use Rattle.list_run.specs.Runs.{listing}
 
 -- "Arc 7, first day 8,036, days 1, K 30; parameter kind 3, index 0, prior weight 5, estimate 0; station 12, correction 0"; so many records
 unfoldable pub headSeven : ℕ → List ℕ
@@ -46,12 +46,7 @@ silentText =
 unfoldable pub emptyText : List ℕ
 emptyText = ascii "refused 1 at 0\n"
 
--- "one above 64 KiB, `refused 20 at 65536`"
-unfoldable pub longText : List ℕ
-longText = ascii "refused 20 at 65536\n"
-
 pub record Seven : Type 0 where
-  pub with-records : listing 65536 fileSeven ≡ textSeven
-  pub without : listing 65536 silentSeven ≡ silentText
-  pub empty : listing 65536 [] ≡ emptyText
-  pub long : (file : List ℕ) → 65536 < length file → listing 65536 file ≡ longText
+  pub with-records : listing fileSeven ≡ textSeven
+  pub without : listing silentSeven ≡ silentText
+  pub empty : listing [] ≡ emptyText

@@ -8,18 +8,18 @@ ghost use Rattle.decimal.specs.Laid.{laid};
 ghost use Rattle.num_packed.specs.Triangle.{tri};
 ghost use Rattle.list_lines.specs.Lines.{arcLines};
 
-// The whole listing of an arc: its heading, so many records with their answers, and the sums after them.
+// The whole listing of an arc: its heading, so many records with the table of their answers, and the sums after them.
 pub fn put_arc(
     room: &mut [u8],
     h: Heading,
     count: u64,
-    told: &[u8],
+    table: &[u64],
     matrix: &[i64],
     rights: &[i64],
     square: u64,
 ) -> usize
     requires { ⌜ (h .parameters ≤ parametersMost) × (tri (h .parameters) ≤ length (now matrix)) × (h .parameters ≤ length (now rights)) ⌝ }
-    ensures { λ r. ⌜ (now (room .exit), r) ≡ laid (now (room .entry)) 0 (arcLines h count (now (told .entry)) (now (matrix .entry)) (now (rights .entry)) square) ⌝ }
+    ensures { λ r. ⌜ (now (room .exit), r) ≡ laid (now (room .entry)) 0 (arcLines h count (now (table .entry)) (now (matrix .entry)) (now (rights .entry)) square) ⌝ }
 {
     let settings = h.settings;
     let a = list_lines::put_one(room, 0, b"arc ", settings.arc as u64);
@@ -31,8 +31,8 @@ pub fn put_arc(
         b"records ",
         count,
         b" accepted ",
-        list_tallies::tally(told, 0),
+        list_tallies::tally(table, 0),
     );
-    let e = list_tallies::put_tallies(room, d, told);
+    let e = list_tallies::put_tallies(room, d, table);
     list_lines::put_one(room, e, b"square sum ", square)
 }

@@ -90,21 +90,21 @@ unfolding tallyOf keep
 tally-turn k told i h = rw (drop-cons told i 0 h, add-one) (keep-length _ _ _)
 
 -- no line for a number that no record has
-module _ (told : List ℕ) (k : ℕ) where
-  pub tally-none : {n : ℕ} → n ≡ tallyOf k told → n ≡ 0 → [] ≡ tallyLine told k
+module _ (table : List ℕ) (k : ℕ) where
+  pub tally-none : {n : ℕ} → n ≡ getD table k 0 → n ≡ 0 → [] ≡ tallyLine table k
   unfolding tallyLine
   tally-none e z = yes _ _ _ (is-same _ _ (sym e ∙ z)) refl
 
-  pub tally-some : {n : ℕ} → n ≡ tallyOf k told → (n ≡ 0 → ⊥) → twoLine [] k space n ≡ tallyLine told k
+  pub tally-some : {n : ℕ} → n ≡ getD table k 0 → (n ≡ 0 → ⊥) → twoLine [] k space n ≡ tallyLine table k
   unfolding tallyLine
   tally-some e z = no _ _ _ (not-same _ _ (λ y. z (e ∙ y))) (ap (twoLine [] k space) e)
 
   -- the numbers from k up to 19
-  pub tallies-end : 20 ≤ k → tallyLines told (20 - k) k ≡ []
+  pub tallies-end : 20 ≤ k → tallyLines table (20 - k) k ≡ []
   unfolding tallyLines
   tallies-end h = let z : 20 - k ≡ 0 = omega arith in rw z
 
-  pub tallies-turn : k < 20 → tallyLine told k ++ tallyLines told (20 - (k + 1)) (k + 1) ≡ tallyLines told (20 - k) k
+  pub tallies-turn : k < 20 → tallyLine table k ++ tallyLines table (20 - (k + 1)) (k + 1) ≡ tallyLines table (20 - k) k
   unfolding tallyLines
   tallies-turn h = let z : 20 - k ≡ suc (20 - (k + 1)) = omega arith in rw (z, add-one)
 
@@ -119,11 +119,11 @@ pub lines-end : (s : List ℕ) (at : ℕ) {left : List ℕ} {all : List ℕ × �
 lines-end s at e f g = ap (λ k. (s, k)) e ∙ laid-none s at ∙ ap (laid s at) (sym f) ∙ g
 
 -- ---- an arc
-pub arc-laid : (s : List ℕ) (h : Heading) (count : ℕ) (told : List ℕ) (m r : List ℤ) (square : ℕ) {n : ℕ} {s₁ s₂ s₃ s₄ s₅ : List ℕ} {a b c d e : ℕ} {p : List ℕ × ℕ}
-    → n ≡ tallyOf 0 told → (s₁, a) ≡ laid s 0 (oneLine arcText (h .settings .arc)) → (s₂, b) ≡ laid s₁ a (oneLine parametersText (h .parameters))
+pub arc-laid : (s : List ℕ) (h : Heading) (count : ℕ) (table : List ℕ) (m r : List ℤ) (square : ℕ) {n : ℕ} {s₁ s₂ s₃ s₄ s₅ : List ℕ} {a b c d e : ℕ} {p : List ℕ × ℕ}
+    → n ≡ getD table 0 0 → (s₁, a) ≡ laid s 0 (oneLine arcText (h .settings .arc)) → (s₂, b) ≡ laid s₁ a (oneLine parametersText (h .parameters))
     → (s₃, c) ≡ laid s₂ b (parameterLines m r 0 (labelsOf h)) → (s₄, d) ≡ laid s₃ c (twoLine recordsText count acceptedText n)
-    → (s₅, e) ≡ laid s₄ d (tallyLines told 19 1) → p ≡ laid s₅ e (oneLine squareText square) → p ≡ laid s 0 (arcLines h count told m r square)
+    → (s₅, e) ≡ laid s₄ d (tallyLines table 19 1) → p ≡ laid s₅ e (oneLine squareText square) → p ≡ laid s 0 (arcLines h count table m r square)
 unfolding arcLines
-arc-laid s h count told m r square {s₃ = s₃} {c = c} accepted one two three four five six =
+arc-laid s h count table m r square {s₃ = s₃} {c = c} accepted one two three four five six =
     laid-on s 0 _ _ one (laid-on _ _ _ _ two (laid-on _ _ _ _ three
     (laid-on _ _ _ _ (four ∙ ap (λ k. laid s₃ c (twoLine recordsText count acceptedText k)) accepted) (laid-on _ _ _ _ five six))))

@@ -14,7 +14,7 @@ use Rattle.arc_heading.specs.declared.Heading.{Heading}
 use Rattle.arc_limits.specs.declared.Label.{Label}
 use Rattle.num_packed.specs.Sound.{entry}
 use Rattle.take_state.specs.State.{seenIn}
-use Rattle.list_lines.specs.Lines.{space, newline, arcText, parametersText, recordsText, acceptedText, squareText, seenText, unseenText, oneLine, twoLine, refusedLine, labelText, sumsText, parameterLine, parameterLines, tallyOf, tallyLine, tallyLines, arcLines}
+use Rattle.list_lines.specs.Lines.{space, newline, arcText, parametersText, recordsText, acceptedText, squareText, seenText, unseenText, oneLine, twoLine, refusedLine, labelText, sumsText, parameterLine, parameterLines, tallyLine, tallyLines, arcLines}
 
 -- two pieces within a and b
 joined : {A : Type 0} (l m : List A) (a b : ℕ) → length l ≤ a → length m ≤ b → length (l ++ m) ≤ a + b
@@ -67,21 +67,21 @@ unfolding pick
 none-or true line n h = omega arith
 none-or false line n h = h
 
-tally-length : (told : List ℕ) (k : ℕ) → length (tallyLine told k) ≤ 42
+tally-length : (table : List ℕ) (k : ℕ) → length (tallyLine table k) ≤ 42
 unfolding tallyLine
-tally-length told k = none-or _ _ 42 (two-length [] k space (tallyOf k told))
+tally-length table k = none-or _ _ 42 (two-length [] k space (getD table k 0))
 
-tallies-length : (told : List ℕ) (n k : ℕ) → length (tallyLines told n k) ≤ n * 42
+tallies-length : (table : List ℕ) (n k : ℕ) → length (tallyLines table n k) ≤ n * 42
 unfolding tallyLines
-tallies-length told zero k = omega arith
-tallies-length told (suc n) k =
-    omega (arith, length-append (tallyLine told k) (tallyLines told n (suc k)), tally-length told k, tallies-length told n (suc k))
+tallies-length table zero k = omega arith
+tallies-length table (suc n) k =
+    omega (arith, length-append (tallyLine table k) (tallyLines table n (suc k)), tally-length table k, tallies-length table n (suc k))
 
-pub arc-length : (h : Heading) (n : ℕ) (told : List ℕ) (m r : List ℤ) (square : ℕ) → length (labelsOf h) ≤ 50 → length (arcLines h n told m r square) ≤ 5596
+pub arc-length : (h : Heading) (n : ℕ) (table : List ℕ) (m r : List ℤ) (square : ℕ) → length (labelsOf h) ≤ 50 → length (arcLines h n table m r square) ≤ 5596
 unfolding arcLines
-arc-length h n told m r square few =
+arc-length h n table m r square few =
     joined (oneLine arcText _) _ 25 5571 (one-length arcText _)
     (joined (oneLine parametersText _) _ 32 5539 (one-length parametersText _)
     (joined (parameterLines m r 0 (labelsOf h)) _ 4650 889 (omega (arith, parameters-length m r 0 (labelsOf h)))
     (joined (twoLine recordsText n acceptedText _) _ 59 830 (two-length recordsText n acceptedText _)
-    (joined (tallyLines told 19 1) _ 798 32 (tallies-length told 19 1) (one-length squareText square)))))
+    (joined (tallyLines table 19 1) _ 798 32 (tallies-length table 19 1) (one-length squareText square)))))

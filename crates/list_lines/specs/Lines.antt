@@ -87,22 +87,35 @@ parameterLines m r i (l ∷ ls) =
 unfoldable pub tallyOf : ℕ → List ℕ → ℕ
 tallyOf k told = length (keep (λ n. same n k) told)
 
+-- a record is accepted, 0, or refused with a number from 1 to 19
+abbrev pub answersMost : ℕ
+answersMost = 20
+
+-- the table of these counts: how many have each of n answers from k up; all of them
+unfoldable pub talliesFrom : List ℕ → ℕ → ℕ → List ℕ
+talliesFrom told zero k = []
+talliesFrom told (suc n) k = tallyOf k told ∷ talliesFrom told n (suc k)
+
+abbrev pub talliesOf : List ℕ → List ℕ
+talliesOf told = talliesFrom told answersMost 0
+
+-- ---- the lines of a table
 -- `18 1`, or nothing where no record has that number
 unfoldable pub tallyLine : List ℕ → ℕ → List ℕ
-tallyLine told k = pick (same (tallyOf k told) 0) [] (twoLine [] k space (tallyOf k told))
+tallyLine table k = pick (same (getD table k 0) 0) [] (twoLine [] k space (getD table k 0))
 
 -- those of so many numbers, from k up
 unfoldable pub tallyLines : List ℕ → ℕ → ℕ → List ℕ
-tallyLines told zero k = []
-tallyLines told (suc n) k = tallyLine told k ++ tallyLines told n (suc k)
+tallyLines table zero k = []
+tallyLines table (suc n) k = tallyLine table k ++ tallyLines table n (suc k)
 
 -- ---- an arc
--- of a heading, so many records with their answers, and the state after them: its sums, right sides and square sum
+-- of a heading, so many records with the table of their answers, and the state after them: its sums, right sides and square sum
 unfoldable pub arcLines : Heading → ℕ → List ℕ → List ℤ → List ℤ → ℕ → List ℕ
-arcLines h n told m r square =
+arcLines h n table m r square =
     oneLine arcText (h .settings .arc)
     ++ (oneLine parametersText (h .parameters)
     ++ (parameterLines m r 0 (labelsOf h)
-    ++ (twoLine recordsText n acceptedText (tallyOf 0 told)
-    ++ (tallyLines told 19 1
+    ++ (twoLine recordsText n acceptedText (getD table 0 0)
+    ++ (tallyLines table 19 1
     ++ oneLine squareText square))))

@@ -73,62 +73,13 @@ module _ (h : Heading) (l : List ℕ) (room : ℕ) (s : State) where
       pub run-sound : wholeRun h l ≡ true → given (tt {0}) ≡ answered (runNumber h l room s) (tt {0})
       run-sound t = answered-given _ tt (to-state ∙ first-pass _ _ e ∙ first-pass _ _ (unless-true 1 _ t) ∙ first-none-left)
 
-  -- what a run that nothing refuses has
-  pub record Whole : Type 0 where
-    pub roomy : wholeRecords h l ≤ room
-    pub state : stateNumber h s ≡ 0
-
-  pub whole-run : runNumber h l room s ≡ 0 → Whole
-  unfolding runNumber
-  whole-run e =
-      let a = first-none _ _ e in
-      let b = first-none _ _ (a .1) in
-      record { roomy = upTo-true _ _ (unless-none 20 _ (λ z. omega arith) (a .0)); state = b .0 }
-
-  pub state-taken : runNumber h l room s ≡ 0 → runState h l room s ≡ run (recordStep (frameOf h)) s (recordsIn h l)
-  unfolding runState
-  state-taken e = sym (yes _ _ _ (is-same _ _ e) refl)
-
   module _ (some : runNumber h l room s ≡ 0 → ⊥) where
     pub state-left : runState h l room s ≡ s
     unfolding runState
     state-left = sym (no _ _ _ (not-same _ _ some) refl)
 
--- the answers where the run is taken, and where it is refused
+-- the answers where the run is refused
 module _ (h : Heading) (l out : List ℕ) (s : State) where
-  pub answers-taken : runNumber h l (length out) s ≡ 0 → runAnswers h l out s ≡ lay out 0 (answers (recordStep (frameOf h)) (recordAnswer (frameOf h)) s (recordsIn h l))
-  unfolding runAnswers
-  answers-taken e = sym (yes _ _ _ (is-same _ _ e) refl)
-
   pub answers-left : (runNumber h l (length out) s ≡ 0 → ⊥) → runAnswers h l out s ≡ out
   unfolding runAnswers
   answers-left some = sym (no _ _ _ (not-same _ _ some) refl)
-
--- the records of a heading that is not past its capacity
-module _ (h : Heading) (l : List ℕ) (few : h .parameters ≤ 50) where
-  same-size : recordSize (capped h) ≡ recordSize (h .parameters)
-  same-size = let k : min (h .parameters) 50 ≡ h .parameters = omega arith in ap recordSize k
-
-  pub whole-are : wholeRecords h l ≡ length l / recordSize (h .parameters)
-  unfolding wholeRecords
-  whole-are = ap (λ z. length l / z) same-size
-
-  pub records-are : recordsIn h l ≡ cut (recordSize (h .parameters)) (length l / recordSize (h .parameters)) l
-  unfolding recordsIn wholeRecords
-  records-are = ap (λ z. cut z (length l / z) l) same-size
-
--- the machine's number of whole records, and its test that nothing is left over
-module _ (h : Heading) (l : List ℕ) (k : ℕ) (e : k ≡ min (h .parameters) 50) where
-  pub count-is : length l / (32 + 2 * k) ≡ wholeRecords h l
-  unfolding wholeRecords
-  count-is = ap (λ z. length l / recordSize z) e
-
-  whole-by : same (length l / (32 + 2 * k) * (32 + 2 * k)) (length l) ≡ wholeRun h l
-  unfolding wholeRun wholeRecords
-  whole-by = ap (λ z. same (length l / recordSize z * recordSize z) (length l)) e
-
-  pub nothing-left : length l / (32 + 2 * k) * (32 + 2 * k) ≡ length l → wholeRun h l ≡ true
-  nothing-left x = sym whole-by ∙ is-same _ _ x
-
-  pub something-left : (length l / (32 + 2 * k) * (32 + 2 * k) ≡ length l → ⊥) → wholeRun h l ≡ false
-  something-left x = sym whole-by ∙ not-same _ _ x

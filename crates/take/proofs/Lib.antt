@@ -1,4 +1,1 @@
-pub mod Wide
-pub mod Copies
-pub mod Entries
 pub mod Answers

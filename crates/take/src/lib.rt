@@ -3,7 +3,6 @@ use arc_heading::Heading;
 use num_limits::PARAMETERS_MOST;
 use num_limits::PARTIAL_SIZE;
 use num_limits::RECORD_FIXED;
-use num_limits::STATIONS_MOST;
 use refusal::Refusal;
 use refusal::Verdict;
 use take_one::TakeAnswer;
@@ -13,40 +12,10 @@ ghost use mathlib.Core.Path.{_≡_};
 ghost use Prim.Native.Nat.{_*_, _/_, _<_};
 ghost use lib.ListN.{length};
 ghost use Rattle.refusal.specs.First.{answered};
-ghost use Rattle.arc_heading.specs.Judge.{numbersOf};
 ghost use Rattle.refusal.specs.Told.{toldVerdict};
 ghost use Rattle.take_state.specs.State.{stateOf, stateNumber};
-ghost use Rattle.take_laws.specs.Taking.{frameOf, correctionsOf, recordAnswer, recordStep, takeAnswer, takeStep, runNumber, runState, runAnswers};
+ghost use Rattle.take_laws.specs.Taking.{frameOf, recordAnswer, recordStep, takeAnswer, takeStep, runNumber, runState, runAnswers};
 ghost use Rattle.take_one.specs.Told.{toldTake};
-
-// The numbers of the listed stations, in the order of the heading.
-fn numbers_of(h: Heading) -> [u16; STATIONS_MOST]
-    ensures { λ r. ⌜ r ≡ numbersOf (h .listed) ⌝ }
-{
-    let mut a: [u16; STATIONS_MOST] = [0; STATIONS_MOST];
-    let mut i: usize = 0;
-    while i < STATIONS_MOST {
-        let t = h.listed[i];
-        a[i] = t.number;
-        i += 1;
-    }
-    a
-}
-
-// Their corrections.
-fn corrections_of(h: Heading) -> [i32; STATIONS_MOST]
-    ensures { λ r. ⌜ r ≡ correctionsOf (h .listed) ⌝ }
-{
-    let mut a: [i32; STATIONS_MOST] = [0; STATIONS_MOST];
-    let mut i: usize = 0;
-    while i < STATIONS_MOST {
-        let t = h.listed[i];
-        let c = t.correction;
-        a[i] = c;
-        i += 1;
-    }
-    a
-}
 
 // A record taken, the heading and the state found sound.
 fn take_sound(h: Heading, t: Tally, matrix: &mut [i64], rights: &mut [i64], bytes: &[u8]) -> Taken
@@ -57,8 +26,8 @@ fn take_sound(h: Heading, t: Tally, matrix: &mut [i64], rights: &mut [i64], byte
     let p = h.parameters;
     let n = h.stations;
     let k = num_packed::triangle(p);
-    let numbers = numbers_of(h);
-    let corrections = corrections_of(h);
+    let numbers = take_lent::numbers_of(h);
+    let corrections = take_lent::corrections_of(h);
     let mut room: [i16; PARAMETERS_MOST] = [0; PARAMETERS_MOST];
     take_one::take_record(
         h.settings,
@@ -113,38 +82,6 @@ fn judge_run(
     }
 }
 
-// A run taken, the heading, the state and the run found sound.
-fn run_sound(
-    h: Heading,
-    t: Tally,
-    matrix: &mut [i64],
-    rights: &mut [i64],
-    run: &[u8],
-    out: &mut [u8],
-) -> Tally
-    requires { ⌜ runNumber h (now run) (length (now out)) (stateOf (now matrix) (now rights) t) ≡ 0 ⌝ }
-    ensures state { λ r. ⌜ stateOf (now (matrix .exit)) (now (rights .exit)) r ≡ runState h (now (run .entry)) (length (now (out .entry))) (stateOf (now (matrix .entry)) (now (rights .entry)) t) ⌝ }
-    ensures told { λ _. ⌜ now (out .exit) ≡ runAnswers h (now (run .entry)) (now (out .entry)) (stateOf (now (matrix .entry)) (now (rights .entry)) t) ⌝ }
-{
-    let p = h.parameters;
-    let n = h.stations;
-    let k = num_packed::triangle(p);
-    let numbers = numbers_of(h);
-    let corrections = corrections_of(h);
-    let mut room: [i16; PARAMETERS_MOST] = [0; PARAMETERS_MOST];
-    take_steps::take_all(
-        h.settings,
-        &numbers[..n],
-        &corrections[..n],
-        t,
-        &mut matrix[..k],
-        &mut rights[..p],
-        &mut room[..p],
-        run,
-        out,
-    )
-}
-
 // A run of whole records taken into a state, each with its answer written, one element a record: 0, or the number of its refusal.
 pub fn take_run(
     h: Heading,
@@ -160,7 +97,7 @@ pub fn take_run(
 {
     match judge_run(h, t, matrix, rights, run, answers.len()) {
         Verdict::Sound => {
-            let tally = run_sound(h, t, matrix, rights, run, answers);
+            let tally = take_lent::run_sound(h, t, matrix, rights, run, answers);
             Taken {
                 answer: TakeAnswer::Accepted,
                 tally,

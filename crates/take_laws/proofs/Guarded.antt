@@ -18,7 +18,8 @@ use Rattle.arc_heading.specs.declared.Heading.{Heading}
 use Rattle.arc_heading.proofs.Sound.{Sound, sound as sound-heading}
 use Rattle.num_packed.specs.Triangle.{tri}
 use Rattle.take_tally.specs.Tally.{emptyTally}
-use Rattle.take_state.specs.State.{State, stateOf, capped, cleared, soundState, roomy, roomNumber, stateNumber, started}
+use Rattle.take_room.specs.Room.{cleared}
+use Rattle.take_state.specs.State.{State, stateOf, capped, soundState, roomy, roomNumber, stateNumber, started}
 use Rattle.take_laws.specs.Machine.{run, answers}
 use Rattle.take_laws.specs.Taking.{frameOf, recordAnswer, recordStep, book, takeAnswer, takeStep}
 use Rattle.take_laws.proofs.Kept.{Fine, Shaped, shaped-step, kept-step-in, empty-sound, length-cleared}

@@ -25,7 +25,8 @@ use Rattle.take_counts.proofs.Totals.{sum-le}
 use Rattle.num_limits.specs.Capacities.{acceptedMost}
 use Rattle.take_tally.specs.Tally.{noRow, countOf, lastTimes, rowWith, tallyWith, emptyTally, accepted, squareTop}
 use Rattle.take_tally.specs.declared.Row.{Row}
-use Rattle.take_state.specs.State.{State, stateOf, cleared, soundState}
+use Rattle.take_room.specs.Room.{cleared}
+use Rattle.take_state.specs.State.{State, stateOf, soundState}
 use Rattle.take_laws.specs.Taking.{Frame, stationRow, stamp, typeColumn, scaled, weightIn, matrixTerms, rightTerms, book, recordAnswer, recordStep}
 use Rattle.take_laws.proofs.Accepted.{accepted-in, terms, matrix-at, right-at}
 use Rattle.take_laws.proofs.Parts.{Good, good, sound}

@@ -13,3 +13,4 @@ pub mod Never
 pub mod Runs
 pub mod Priors
 pub mod Sight
+pub mod Appended

@@ -7,7 +7,8 @@ use Rattle.arc_heading.specs.Judge.{numbersOf}
 use Rattle.arc_heading.specs.declared.Heading.{Heading}
 use Rattle.num_packed.specs.Triangle.{tri}
 use Rattle.take_tally.specs.Tally.{emptyTally}
-use Rattle.take_state.specs.State.{stateOf, cleared, roomNumber, started}
+use Rattle.take_room.specs.Room.{cleared}
+use Rattle.take_state.specs.State.{stateOf, roomNumber, started}
 use Rattle.take_laws.specs.Machine.{run, answers}
 use Rattle.take_laws.specs.Taking.{frame, frameOf, correctionsOf, recordAnswer, recordStep}
 use Rattle.take_laws.specs.Mix.{pairs}

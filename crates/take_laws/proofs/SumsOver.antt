@@ -16,7 +16,8 @@ use Rattle.arc_heading.specs.declared.Heading.{Heading}
 use Rattle.take_counts.specs.Counts.{sumOf}
 use Rattle.take_tally.specs.Tally.{noRow, countOf, lastTimes, rowWith, tallyWith, emptyTally, accepted}
 use Rattle.take_tally.specs.declared.Row.{Row}
-use Rattle.take_state.specs.State.{State, stateOf, cleared, roomNumber, started}
+use Rattle.take_room.specs.Room.{cleared}
+use Rattle.take_state.specs.State.{State, stateOf, roomNumber, started}
 use Rattle.take_laws.specs.Machine.{run}
 use Rattle.take_laws.specs.Taking.{Frame, frameOf, stationRow, stamp, typeColumn, scaled, weightIn, matrixTerms, rightTerms, squareTerm, recordAnswer, recordStep, book}
 use Rattle.num_whole.specs.Lists.{Each}

@@ -28,7 +28,8 @@ use Rattle.refusal.specs.declared.Verdict.the-variants as Verdicts
 use Rattle.arc_heading.proofs.Sound.{Sound, sound}
 use Rattle.take_tally.specs.Tally.{emptyTally}
 use Rattle.take_tally.specs.declared.Tally.{Tally}
-use Rattle.take_state.specs.State.{State, stateOf, cleared, soundState, roomy, roomNumber, stateNumber, started, seenIn, sightOf}
+use Rattle.take_room.specs.Room.{cleared}
+use Rattle.take_state.specs.State.{State, stateOf, soundState, roomy, roomNumber, stateNumber, started, seenIn, sightOf}
 
 -- ---- an answer and its number
 told : (v : Verdict) → toldVerdict v ≡ answered (numberIn (toldVerdict v)) tt
@@ -96,21 +97,6 @@ module _ (h : Heading) (m r : List ℤ) where
   pub started-cleared : (a b : List ℤ) (t : Tally) → roomNumber h m r ≡ 0 → a ≡ cleared (tri (h .parameters)) m → b ≡ cleared (h .parameters) r → t ≡ emptyTally → stateOf a b t ≡ started h m r
   unfolding started
   started-cleared a b t e x y z = yes _ _ _ (is-same _ _ e) (rw (x, y, z))
-
--- clearing: what is done, with the rest cleared
-module _ (room : List ℤ) (n i : ℕ) where
-  pub clear-end : n ≤ i → take i room ++ cleared (n - i) (drop i room) ≡ room
-  unfolding cleared
-  clear-end h = let z : n - i ≡ 0 = omega arith in rw z (take-append-drop i room)
-
-  pub clear-turn : i < n → n ≤ length room → take i room ++ cleared (n - i) (drop i room) ≡ take (i + 1) (set room i (pos 0)) ++ cleared (n - (i + 1)) (drop (i + 1) (set room i (pos 0)))
-  unfolding cleared
-  clear-turn h l =
-      let more : n - i ≡ suc (n - (i + 1)) = omega arith in
-      let head : take (i + 1) (set room i (pos 0)) ≡ take i room ++ (pos 0 ∷ []) = rw add-one (take-suc-set room i (pos 0) (omega arith)) in
-      let tail : drop (i + 1) (set room i (pos 0)) ≡ drop (i + 1) room = drop-set-lt (i + 1) room i (pos 0) (omega arith) in
-      let cut : drop i room ≡ getD room i (pos 0) ∷ drop (i + 1) room = rw add-one (drop-cons room i (pos 0) (omega arith)) in
-      rw (more, cut, head, tail) (sym (append-snoc (take i room) (pos 0) _))
 
 -- ---- the state
 module _ (h : Heading) (s : State) where

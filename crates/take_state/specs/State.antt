@@ -1,11 +1,12 @@
 -- Document 01, 'Taking a record': "The state holds the packed upper triangle by columns, the right sides, the square sum, a count for each
 -- station and a table of sixteen rows of ten last times, 0 for none." What a state is, the empty one, and which states are sound (6).
 use Prim.Native.Nat.{ℕ, suc, _*_, _^_, min}
-use mathlib.Core.List.{List, [], _∷_, _++_}
+use mathlib.Core.List.{List, [], _∷_}
 use mathlib.Core.Bool.{Bool, true, false, not}
 use lib.IntN.{ℤ, pos}
-use lib.ListN.{length, drop, replicate}
+use lib.ListN.{length}
 use Rattle.num_limits.specs.Capacities.{parametersMost}
+use Rattle.take_room.specs.Room.{cleared}
 use Rattle.num_whole.specs.Tests.{less, upTo, same, pick, both, below}
 use Rattle.num_whole.specs.Answer.{Answered, given, refused}
 use Rattle.refusal.specs.Number.{numberOf}
@@ -26,11 +27,6 @@ pub record State : Type 0 where
 
 abbrev pub stateOf : List ℤ → List ℤ → Tally → State
 stateOf m r t = record { matrix = m; rights = r; tally = t }
-
--- ---- the empty state
--- a list with its first n numbers 0
-unfoldable pub cleared : ℕ → List ℤ → List ℤ
-cleared n l = replicate n (pos 0) ++ drop n l
 
 -- ---- sound states
 -- "no matrix sum passes n·2^46, no right side n·2^43": what one record adds at the most

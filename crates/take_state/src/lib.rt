@@ -16,7 +16,6 @@ ghost use Rattle.refusal.specs.First.{answered};
 ghost use Rattle.refusal.specs.Told.{toldVerdict};
 ghost use Rattle.take_state.specs.State.{
   stateOf,
-  cleared,
   matrixTop,
   rightTop,
   matrixSound,
@@ -44,38 +43,14 @@ pub struct Started {
 
 // ---- room
 
-// Whether so many parameters have room for their sums.
-fn is_roomy(parameters: usize, matrix: &[i64], rights: &[i64]) -> bool
-    ensures { λ r. ⌜ r ≡ both (upTo (tri (min parameters parametersMost)) (length (now (matrix .entry)))) (upTo (min parameters parametersMost) (length (now (rights .entry)))) ⌝ }
-{
-    let p = num_whole::least(parameters, PARAMETERS_MOST);
-    if num_packed::place(0, p) <= matrix.len() {
-        p <= rights.len()
-    } else {
-        false
-    }
-}
-
 // 20, 2, 4, 5.
 fn judge_room(h: Heading, matrix: &[i64], rights: &[i64]) -> Verdict
     ensures { λ r. ⌜ toldVerdict r ≡ answered (roomNumber h (now (matrix .entry)) (now (rights .entry))) tt ⌝ }
 {
-    if is_roomy(h.parameters, matrix, rights) {
+    if take_room::is_roomy(h.parameters, matrix, rights) {
         arc_heading::judge(h)
     } else {
         Verdict::Refused(Refusal::Room)
-    }
-}
-
-// Makes the first n numbers 0.
-fn clear(room: &mut [i64], n: usize)
-    requires { ⌜ n ≤ length (now room) ⌝ }
-    ensures { λ _. ⌜ now (room .exit) ≡ cleared n (now (room .entry)) ⌝ }
-{
-    let mut i: usize = 0;
-    while i < n {
-        room[i] = 0;
-        i += 1;
     }
 }
 
@@ -91,8 +66,8 @@ pub fn start(h: Heading, matrix: &mut [i64], rights: &mut [i64]) -> Started
         },
         Verdict::Sound => {
             let p = h.parameters;
-            clear(matrix, num_packed::place(0, p));
-            clear(rights, p);
+            take_room::clear(matrix, num_packed::place(0, p));
+            take_room::clear(rights, p);
             Started {
                 answer: Verdict::Sound,
                 tally: take_tally::no_tally(),

@@ -25,7 +25,7 @@ fn tell_same(file: &[u8], written: &[u8]) {
 
 // Writes a heading and its records into room for a file, and tells whether the file's bytes come out.
 fn tell_back(file: &[u8], h: Heading, start: usize) {
-    let mut out = desk_print::file_room();
+    let mut out = desk_files::normal_room();
     match arc_write::write(h, desk_lines::part(file, start, file.len()), &mut out) {
         WriteAnswer::Is(n) => tell_same(file, desk_lines::part(&out, 0, n)),
         WriteAnswer::Refused(why) => desk_lines::put_refusal(why, b" on writing\n"),
@@ -44,13 +44,19 @@ fn tell_arc(file: &[u8]) {
     }
 }
 
-// What came of an arc file, and its listing; of one longer than the arc program takes, the listing's refusal alone.
-fn run_arc(file: &[u8]) {
-    if file.len() <= 65536 {
-        tell_arc(file);
+// The listing of a file, or that it has no room.
+fn put_listing(file: &[u8]) {
+    let mut out = desk_arc::text_room();
+    match list::list(file, &mut out) {
+        WriteAnswer::Is(n) => desk_lines::put(desk_lines::part(&out, 0, n)),
+        WriteAnswer::Refused(why) => desk_lines::put_refusal(why, b" on listing\n"),
     }
-    let mut out = desk_print::text_room();
-    desk_print::print(file, &mut out);
+}
+
+// What came of an arc file, and its listing.
+fn run_arc(file: &[u8]) {
+    tell_arc(file);
+    put_listing(file);
 }
 
 // ---- normal files

@@ -80,9 +80,9 @@ pub merge-none : (a b : List ℕ) → mergeLeft a b [] ≡ []
 unfolding mergeLeft pairLeft
 merge-none a b = from-none (readNormal a) _ (λ x. from-none (readNormal b) _ (λ y. none-laid _ _))
 
-pub list-none : (limit : ℕ) (file : List ℕ) → listLeft limit file [] ≡ []
+pub list-none : (file : List ℕ) → listLeft file [] ≡ []
 unfolding listLeft
-list-none limit file = none-laid _ _
+list-none file = none-laid _ _
 
 -- ---- a heading and a tally in lent bytes: one step for each test
 module _ (b t : List ℕ) where

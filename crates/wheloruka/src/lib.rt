@@ -28,6 +28,19 @@ ghost use Rattle.wheloruka.specs.Taking.{
   answersLeft,
   seenValues,
 };
+ghost use Rattle.call_told.specs.Told.{toldNumber, toldOut};
+ghost use Rattle.call_part.specs.Calls.{
+  rooms,
+  beginCall,
+  beginLeft,
+  partCall,
+  partLeft,
+  partAnswersLeft,
+  finishCall,
+  finishLeft,
+  headCall,
+  headLeft,
+};
 ghost use Rattle.call_files.specs.Writing.{mergeCallNumber};
 ghost use Rattle.call_files.specs.Arcs.{arcFile, arcLeft};
 ghost use Rattle.wheloruka.specs.Writing.{headedNumber, stateFile, stateFileLeft};
@@ -279,6 +292,61 @@ pub extern "C" fn whl_seen(
     }
 }
 
+// ---- an arc file in parts
+
+// Where a file begins, and the empty state.
+#[no_mangle]
+pub extern "C" fn whl_begin(
+    position: &mut [u8],
+    tally: &mut [u8],
+    matrix: &mut [i64],
+    rights: &mut [i64],
+) -> u32
+    ensures { λ r. ⌜ r ≡ beginCall (rooms (now (position .entry)) (now (tally .entry)) (now (matrix .entry)) (now (rights .entry))) ⌝ }
+    ensures left { λ _. ⌜ rooms (now (position .exit)) (now (tally .exit)) (now (matrix .exit)) (now (rights .exit)) ≡ beginLeft (rooms (now (position .entry)) (now (tally .entry)) (now (matrix .entry)) (now (rights .entry))) ⌝ }
+{
+    call_part::begin(position, tally, matrix, rights)
+}
+
+// A part handed over: the records that it completes are taken, each with its answer.
+#[no_mangle]
+pub extern "C" fn whl_part(
+    position: &mut [u8],
+    tally: &mut [u8],
+    matrix: &mut [i64],
+    rights: &mut [i64],
+    bytes: &[u8],
+    answers: &mut [u8],
+    out: &mut [u64],
+) -> u32
+    ensures { λ r. ⌜ r ≡ toldNumber (partCall (rooms (now (position .entry)) (now (tally .entry)) (now (matrix .entry)) (now (rights .entry))) (now (bytes .entry)) (length (now (answers .entry))) (length (now (out .entry)))) ⌝ }
+    ensures left { λ _. ⌜ rooms (now (position .exit)) (now (tally .exit)) (now (matrix .exit)) (now (rights .exit)) ≡ partLeft (rooms (now (position .entry)) (now (tally .entry)) (now (matrix .entry)) (now (rights .entry))) (now (bytes .entry)) (length (now (answers .entry))) (length (now (out .entry))) ⌝ }
+    ensures answers { λ _. ⌜ now (answers .exit) ≡ partAnswersLeft (rooms (now (position .entry)) (now (tally .entry)) (now (matrix .entry)) (now (rights .entry))) (now (bytes .entry)) (now (answers .entry)) (length (now (out .entry))) ⌝ }
+    ensures told { λ _. ⌜ now (out .exit) ≡ toldOut (partCall (rooms (now (position .entry)) (now (tally .entry)) (now (matrix .entry)) (now (rights .entry))) (now (bytes .entry)) (length (now (answers .entry))) (length (now (out .entry)))) (now (out .entry)) ⌝ }
+{
+    call_part::part(position, tally, matrix, rights, bytes, answers, out)
+}
+
+// The file is over.
+#[no_mangle]
+pub extern "C" fn whl_finish(position: &mut [u8], out: &mut [u64]) -> u32
+    ensures { λ r. ⌜ r ≡ toldNumber (finishCall (now (position .entry)) (length (now (out .entry)))) ⌝ }
+    ensures left { λ _. ⌜ now (position .exit) ≡ finishLeft (now (position .entry)) (length (now (out .entry))) ⌝ }
+    ensures told { λ _. ⌜ now (out .exit) ≡ toldOut (finishCall (now (position .entry)) (length (now (out .entry)))) (now (out .entry)) ⌝ }
+{
+    call_part::finish(position, out)
+}
+
+// The heading of what was handed over.
+#[no_mangle]
+pub extern "C" fn whl_position_heading(position: &[u8], heading: &mut [u8], out: &mut [u64]) -> u32
+    ensures { λ r. ⌜ r ≡ toldNumber (headCall (now (position .entry)) (length (now (heading .entry))) (length (now (out .entry)))) ⌝ }
+    ensures heading { λ _. ⌜ now (heading .exit) ≡ headLeft (now (position .entry)) (now (heading .entry)) (length (now (out .entry))) ⌝ }
+    ensures told { λ _. ⌜ now (out .exit) ≡ toldOut (headCall (now (position .entry)) (length (now (heading .entry))) (length (now (out .entry)))) (now (out .entry)) ⌝ }
+{
+    call_part::heading(position, heading, out)
+}
+
 // ---- normal files, from and into lent room
 
 // A normal file's values put into three rooms.
@@ -374,14 +442,14 @@ pub extern "C" fn whl_merge(first: &[u8], second: &[u8], out: &mut [u8], size: &
 
 // ---- the listing
 
-// The text that the arc program prints of a file of at most `limit` bytes.
+// The text that the arc program prints of a file.
 #[no_mangle]
-pub extern "C" fn whl_list(file: &[u8], limit: usize, out: &mut [u8], size: &mut [u64]) -> u32
-    ensures { λ r. ⌜ r ≡ resultNumber (toldValues one (listAnswer limit (now (file .entry)) (roomFor (length (now (size .entry))) (length (now (out .entry)))))) (length (now (size .entry))) ⌝ }
-    ensures size { λ _. ⌜ now (size .exit) ≡ resultLeft (toldValues one (listAnswer limit (now (file .entry)) (roomFor (length (now (size .entry))) (length (now (out .entry)))))) (now (size .entry)) ⌝ }
-    ensures bytes { λ _. ⌜ now (out .exit) ≡ bytesLeft (length (now (size .entry))) (listLeft limit (now (file .entry))) (now (out .entry)) ⌝ }
+pub extern "C" fn whl_list(file: &[u8], out: &mut [u8], size: &mut [u64]) -> u32
+    ensures { λ r. ⌜ r ≡ resultNumber (toldValues one (listAnswer (now (file .entry)) (roomFor (length (now (size .entry))) (length (now (out .entry)))))) (length (now (size .entry))) ⌝ }
+    ensures size { λ _. ⌜ now (size .exit) ≡ resultLeft (toldValues one (listAnswer (now (file .entry)) (roomFor (length (now (size .entry))) (length (now (out .entry)))))) (now (size .entry)) ⌝ }
+    ensures bytes { λ _. ⌜ now (out .exit) ≡ bytesLeft (length (now (size .entry))) (listLeft (now (file .entry))) (now (out .entry)) ⌝ }
 {
     let room = call_rooms::room_for(size.len(), out.len());
-    let w = list::list(file, limit, &mut out[..room]);
+    let w = list::list(file, &mut out[..room]);
     call_files::give_written(size, w)
 }

@@ -4,7 +4,8 @@ use borrow.Author.Needs.{needs}
 use mathlib.Core.Path.{sym, ap, _∙_}
 use Rattle.byte_section.proofs.Walk.{then-good, then-bad}
 use Rattle.arc_read.specs.Arc.{shownArc}
-use Rattle.arc_read.proofs.Parts.{read-parts, heading-read, heading-refused}
+use Rattle.arc_front.proofs.Front.{heading-read, heading-refused}
+use Rattle.arc_read.proofs.Parts.{read-parts}
 use Rattle.arc_read.proofs.read.Statement.{statement}
 use Rattle.arc_read.proofs.read.Tie as tie
 

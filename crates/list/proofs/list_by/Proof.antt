@@ -21,13 +21,13 @@ same-length : tie.Need-same-length
 same-length c = search needs
 
 returns : tie.Need-returns
-returns c = list-short _ _ _ (start-of-listing (c .before .before .before) .pre) (c .before .before .before .put-listing .ensures) _ (c .if1 .taken)
+returns c = list-short _ _ (start-of-listing (c .before .before .before) .pre) (c .before .before .before .put-listing .ensures) _ (c .if1 .taken)
 
 slice-reshare-prefix-put-text : tie.Need-slice-reshare-prefix-put-text
-slice-reshare-prefix-put-text c = count-inside _ _ _ (start-of-listing (c .before .before .before .before) .pre) (c .before .before .before .before .put-listing .ensures)
+slice-reshare-prefix-put-text c = count-inside _ _ (start-of-listing (c .before .before .before .before) .pre) (c .before .before .before .before .put-listing .ensures)
 
 slice-aggregate-put-text : tie.Need-slice-aggregate-put-text
-slice-aggregate-put-text c = simp length-take (omega (arith, count-inside _ _ _ (start-of-listing (c .before .before .before .before .before) .pre) (c .before .before .before .before .before .put-listing .ensures)))
+slice-aggregate-put-text c = simp length-take (omega (arith, count-inside _ _ (start-of-listing (c .before .before .before .before .before) .pre) (c .before .before .before .before .before .put-listing .ensures)))
 
 put-text-requires : tie.Need-put-text-requires
 put-text-requires c κs = search needs
@@ -41,7 +41,7 @@ same-length-3 c = search needs
 returns-2 : tie.Need-returns-2
 returns-2 c =
     let text = c .before .before in let listing = listing-of-text text in let start = start-of-listing listing in
-    list-fits _ _ _ (start .pre) (listing .put-listing .ensures) _ (omega arith) (text .put-text .ensures)
+    list-fits _ _ (start .pre) (listing .put-listing .ensures) _ (omega arith) (text .put-text .ensures)
 
 pub list-by-spec : {M : Type 1} → statement M
 list-by-spec =

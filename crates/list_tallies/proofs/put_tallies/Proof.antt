@@ -12,11 +12,11 @@ use Rattle.list_tallies.proofs.put_tallies.Statement.{statement}
 use Rattle.list_tallies.proofs.put_tallies.Tie as tie
 
 abbrev Inv-loop : tie.InvT-loop
-Inv-loop room₀ start told at₀ k₀ room at k =
-    (1 ≤ k) × (k ≤ 20) × (length room ≡ length room₀) × (laid room at (tallyLines told (20 - k) k) ≡ laid room₀ start (tallyLines told 19 1))
+Inv-loop room₀ start table at₀ k₀ room at k =
+    (1 ≤ k) × (k ≤ 20) × (length room ≡ length room₀) × (laid room at (tallyLines table (20 - k) k) ≡ laid room₀ start (tallyLines table 19 1))
 
 abbrev μ-loop : tie.MeasureT-loop
-μ-loop room₀ start told at₀ k₀ room at k = 20 - k
+μ-loop room₀ start table at₀ k₀ room at k = 20 - k
 
 -- Views: from one place of the code to an earlier one. A statement put between two of them changes one line here.
 abbrev start-of-turn : tie.At-loop Inv-loop μ-loop → tie.Start Inv-loop μ-loop
@@ -37,8 +37,8 @@ loop-less c = search needs
 loop-again : tie.Need-loop-again Inv-loop μ-loop
 loop-again c =
     let l = c .before .before .before .before .before .loop in
-    let told = start-of-turn (c .before .before .before .before .before) .args .told .now in
-    (omega arith, omega arith, c .before .before .put-tally .kept .0 ∙ l .inv .2, lines-turn _ _ _ _ (c .before .before .put-tally .ensures) (tallies-turn told (l .k) (omega arith)) (l .inv .3))
+    let table = start-of-turn (c .before .before .before .before .before) .args .table .now in
+    (omega arith, omega arith, c .before .before .put-tally .kept .0 ∙ l .inv .2, lines-turn _ _ _ _ (c .before .before .put-tally .ensures) (tallies-turn table (l .k) (omega arith)) (l .inv .3))
 
 least-requires : tie.Need-least-requires Inv-loop μ-loop
 least-requires c κs = search needs

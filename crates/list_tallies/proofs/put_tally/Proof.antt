@@ -29,7 +29,7 @@ put-two-requires c κs = search needs
 returns : tie.Need-returns
 returns c =
     let a = c .before .before .before .before .before .args in
-    lines-end _ _ (c .least .ensures) (sym (tally-none (a .told .now) (a .k) (c .before .before .tally .ensures) (c .before .if1 .taken))) refl
+    lines-end _ _ (c .least .ensures) (sym (tally-none (a .table .now) (a .k) (c .before .before .tally .ensures) (c .before .if1 .taken))) refl
 
 same-length : tie.Need-same-length
 same-length c = search needs
@@ -37,7 +37,7 @@ same-length c = search needs
 returns-2 : tie.Need-returns-2
 returns-2 c =
     let a = start-of-tally (c .before .before .before .before .before .before .before) .args in
-    laid-as _ _ (c .before .before .put-two .ensures) (tally-some (a .told .now) (a .k) (c .before .before .before .before .before .before .before .tally .ensures) (c .before .before .before .before .before .before .if1 .left))
+    laid-as _ _ (c .before .before .put-two .ensures) (tally-some (a .table .now) (a .k) (c .before .before .before .before .before .before .before .tally .ensures) (c .before .before .before .before .before .before .if1 .left))
 
 pub put-tally-spec : {M : Type 1} → statement M
 put-tally-spec =

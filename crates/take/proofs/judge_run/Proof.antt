@@ -6,7 +6,8 @@ use Prim.Native.Nat.{_+_, _*_, _/_, _≤_}
 use lib.ListN.{length}
 use Rattle.take_state.specs.State.{stateOf}
 use Rattle.take_laws.specs.Taking.{wholeRecords}
-use Rattle.take.proofs.Answers.{none-by, some-by, run-room, run-refused, run-short, run-sound, count-is, nothing-left, something-left}
+use Rattle.take_lent.proofs.Whole.{count-is, nothing-left, something-left}
+use Rattle.take.proofs.Answers.{none-by, some-by, run-room, run-refused, run-short, run-sound}
 use borrow.Author.Needs.{needs}
 use Rattle.take.proofs.judge_run.Statement.{statement}
 use Rattle.take.proofs.judge_run.Tie as tie

@@ -8,7 +8,7 @@ use Rattle.take_state.specs.State.{stateOf}
 use mathlib.Core.List.{_++_}
 use Rattle.take_laws.specs.Taking.{frame, recordAnswer, recordStep}
 use Rattle.refusal.specs.First.{answered}
-use Rattle.take.proofs.Entries.{Handed, few-parameters, part, numbers-16, corrections-16, parameters-few, stations-few, matrix-room, rights-room, prepared, rights-long, frame-is, answer-back, step-back}
+use Rattle.take_lent.proofs.Entries.{Handed, few-parameters, part, numbers-16, corrections-16, parameters-few, stations-few, matrix-room, rights-room, prepared, rights-long, frame-is, answer-back, step-back}
 use borrow.Author.Needs.{needs}
 use Rattle.take.proofs.take_sound.Statement.{statement}
 use Rattle.take.proofs.take_sound.Tie as tie

@@ -4,7 +4,8 @@ use mathlib.Core.Path.{_≡_, sym, ap, _∙_}
 use native.Mathlib.Nat.{add-zero}
 use native.Mathlib.Omega.{arith}
 use Rattle.refusal.specs.Told.{toldVerdict}
-use Rattle.take_state.specs.State.{cleared, roomNumber}
+use Rattle.take_room.specs.Room.{cleared}
+use Rattle.take_state.specs.State.{roomNumber}
 use Rattle.take_state.proofs.Rooms.{by-given, roomed, started-kept, started-cleared}
 use borrow.Author.Needs.{needs}
 use Rattle.take_state.proofs.start.Statement.{statement}

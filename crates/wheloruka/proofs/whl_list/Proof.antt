@@ -39,7 +39,7 @@ same-length-2 c = search needs
 returns : tie.Need-returns
 returns c =
     let listed = c .before .before .before .before .before .before in let room = room-of-listed listed in let a = start-of-room room .args in
-    gives (listAnswer (a .limit) (a .file .now)) (listLeft (a .limit) (a .file .now)) _ _ (list-none _ _) _ (room .room-for .ensures .0) _ (listed .list .ensures .0) (c .before .before .give-written .ensures) (listed .list .ensures .1)
+    gives (listAnswer (a .file .now)) (listLeft (a .file .now)) _ _ (list-none _) _ (room .room-for .ensures .0) _ (listed .list .ensures .0) (c .before .before .give-written .ensures) (listed .list .ensures .1)
 
 pub whl-list-spec : {M : Type 1} → statement M
 whl-list-spec =

@@ -1,0 +1,89 @@
+// What the programs share of arc files: one is read from a descriptor in parts of 64 KiB, and its records are taken as they complete.
+use byte_section::ReadAnswer;
+use list_run::Course;
+use list_run::PART_MOST;
+use num_limits::ARC_SUMS_MOST;
+ghost use mathlib.Core.Path.{_≡_};
+ghost use mathlib.Core.List.{[]};
+ghost use lib.ListN.{length};
+ghost use Rattle.num_limits.specs.Capacities.{arcSumsMost, parametersMost};
+ghost use Rattle.list_lines.specs.Lines.{talliesOf};
+ghost use Rattle.list_run.specs.Course.{Ended};
+
+// The bytes of the longest arc file: 956 with its heading and counts, and 65,535 records of 132. A longer one is refused before more are read.
+const ARC_BYTES_MOST: usize = 956 + 65535 * 132;
+
+// Room for a part.
+pub fn part_room() -> [u8; PART_MOST]
+    ensures { λ r. ⌜ 65536 ≡ length r ⌝ }
+{
+    [0; PART_MOST]
+}
+
+// For the matrix sums of fifty parameters.
+pub fn sums_room() -> [i64; ARC_SUMS_MOST]
+    ensures { λ r. ⌜ arcSumsMost ≡ length r ⌝ }
+{
+    [0; ARC_SUMS_MOST]
+}
+
+// For the longest listing (docs/FORMATS.md).
+pub fn text_room() -> [u8; 5596]
+    ensures { λ r. ⌜ 5596 ≡ length r ⌝ }
+{
+    [0; 5596]
+}
+
+// What came of a file: whether no read has failed, what its parts said of its form, and where they led.
+pub struct Followed {
+    pub is_read: bool,
+    pub answer: ReadAnswer,
+    pub course: Course,
+}
+
+// Reads what stands behind a descriptor to its end, to a read that fails, or to a refusal in the file's form. The end of the file is not told yet.
+pub fn follow(
+    fd: i32,
+    buf: &mut [u8],
+    matrix: &mut [i64],
+    rights: &mut [i64],
+    table: &mut [u64],
+) -> Followed
+    requires { ⌜ (length (now buf) ≡ 65536) × (length (now matrix) ≡ arcSumsMost) × (length (now rights) ≡ parametersMost) × (now table ≡ talliesOf []) ⌝ }
+    ensures { λ r. ⌜ Ended (r .answer) (r .course) (now (matrix .exit)) (now (rights .exit)) (now (table .exit)) ⌝ }
+{
+    let mut c = list_run::begin(matrix, rights, table);
+    let mut total: usize = 0;
+    while total <= ARC_BYTES_MOST {
+        let got = desk_files::load(fd, buf);
+        let n = got.length;
+        let x = list_run::hear(c, matrix, rights, table, &buf[..n]);
+        let answer = x.answer;
+        let course = x.course;
+        match answer {
+            ReadAnswer::Read => {
+                if n < PART_MOST {
+                    return Followed {
+                        is_read: got.is_whole,
+                        answer,
+                        course,
+                    };
+                }
+                c = course;
+                total += n;
+            }
+            ReadAnswer::Refused(_, _) => {
+                return Followed {
+                    is_read: true,
+                    answer,
+                    course,
+                };
+            }
+        }
+    }
+    Followed {
+        is_read: true,
+        answer: ReadAnswer::Read,
+        course: c,
+    }
+}

@@ -1,0 +1,14 @@
+pub mod Runs
+pub mod Opened
+pub mod Cuts
+pub mod Feeding
+pub mod OneGo
+pub mod Six
+pub mod Front
+pub mod States
+pub mod ByValue
+pub mod Over
+pub mod Sequence
+pub mod Wholes
+pub mod Reached
+pub mod Fair

@@ -1,0 +1,5 @@
+pub mod Beginning
+pub mod Feeding
+pub mod OneGo
+pub mod Entries
+pub mod Sequence

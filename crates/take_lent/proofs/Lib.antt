@@ -1,0 +1,4 @@
+pub mod Copies
+pub mod Wide
+pub mod Entries
+pub mod Whole
