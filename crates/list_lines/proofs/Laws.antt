@@ -2,14 +2,13 @@
 -- Assumes nothing.
 use Prim.Native.Nat.{ℕ, suc, _+_, _-_, _≤_, _<_, min}
 use mathlib.Core.Path.{_≡_, refl, sym, ap, ap₂, _∙_}
-use mathlib.Core.Bool.{Bool, true, false, not}
-use mathlib.Core.List.{List, [], _∷_, _++_}
+use mathlib.Core.Bool.{Bool, not}
+use mathlib.Core.List.{List, [], _++_}
 use native.Mathlib.Numerals.{add-one}
 use native.Mathlib.Omega.{arith}
 use lib.IntN.{ℤ, pos}
-use lib.ListN.{length, getD, drop, drop-of-length-le}
-use lib.Seq.{drop-cons}
-use Rattle.num_whole.specs.Tests.{same, pick}
+use lib.ListN.{length, getD}
+use Rattle.num_whole.specs.Tests.{pick}
 use Rattle.num_whole.specs.Lists.{rest}
 use Rattle.num_whole.proofs.Cases.{yes, no, is-same, not-same}
 use Rattle.num_whole.proofs.Walks.{rest-end, rest-more}
@@ -23,8 +22,7 @@ use Rattle.arc_heading.specs.declared.Heading.{Heading}
 use Rattle.num_packed.specs.Triangle.{tri}
 use Rattle.num_packed.specs.Sound.{entry, isZero}
 use Rattle.take_state.specs.State.{seenIn}
-use Rattle.take_laws.specs.Mix.{keep}
-use Rattle.list_lines.specs.Lines.{space, newline, arcText, parametersText, recordsText, acceptedText, squareText, arcLines, seenText, unseenText, oneLine, twoLine, labelText, sumsText, parameterLine, parameterLines, tallyOf, tallyLine, tallyLines}
+use Rattle.list_lines.specs.Lines.{space, newline, arcText, parametersText, recordsText, acceptedText, squareText, arcLines, seenText, unseenText, oneLine, twoLine, labelText, sumsText, parameterLine, parameterLines, tallyLine, tallyLines}
 
 -- ---- a line of pieces
 module _ (s : List ℕ) (at : ℕ) {a b : List ℕ} {i j : ℕ} {p : List ℕ × ℕ} where
@@ -74,21 +72,6 @@ row-laid s at l m r i e x y f =
     f ∙ ap₂ (λ v w. laid s at (parameterLine l (not (isZero v)) v w)) (x ∙ ap (λ j. getD m j (pos 0)) e) y
 
 -- ---- tallies
--- the answers from place i on
-pub tally-end : (k : ℕ) (told : List ℕ) (i : ℕ) → length told ≤ i → tallyOf k (drop i told) ≡ 0
-unfolding tallyOf keep
-tally-end k told i h = rw (drop-of-length-le told h)
-
-keep-length : (b : Bool) (x : ℕ) (l : List ℕ) → pick b 1 0 + length l ≡ length (pick b (x ∷ l) l)
-unfolding pick
-keep-length true x l = omega arith
-keep-length false x l = omega arith
-
-pub tally-turn : (k : ℕ) (told : List ℕ) (i : ℕ) → i < length told
-    → pick (same (getD told i 0) k) 1 0 + tallyOf k (drop (i + 1) told) ≡ tallyOf k (drop i told)
-unfolding tallyOf keep
-tally-turn k told i h = rw (drop-cons told i 0 h, add-one) (keep-length _ _ _)
-
 -- no line for a number that no record has
 module _ (table : List ℕ) (k : ℕ) where
   pub tally-none : {n : ℕ} → n ≡ getD table k 0 → n ≡ 0 → [] ≡ tallyLine table k

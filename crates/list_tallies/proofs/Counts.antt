@@ -1,19 +1,19 @@
 -- A table of counts as answers come in: turn by turn, and against the list of all answers.
 -- Assumes nothing.
-use Prim.Native.Nat.{ℕ, zero, suc, _+_, _≤_, _<_, _^_}
+use Prim.Native.Nat.{ℕ, zero, suc, _+_, _≤_, _<_}
 use mathlib.Core.Path.{_≡_, refl, sym, ap, _∙_, subst}
 use mathlib.Core.Bool.{Bool, true, false}
 use mathlib.Core.List.{List, [], _∷_, _++_, append-assoc, append-nil}
 use native.Mathlib.Numerals.{add-one}
-use native.Mathlib.Nat.{add-zero, add-suc}
+use native.Mathlib.Nat.{add-zero}
 use native.Mathlib.Omega.{arith}
 use lib.ListN.{length, getD, set, drop, drop-of-length-le, length-set, List·getD-eq-default}
 use lib.Seq.{drop-cons, set-out, getD-set-same, getD-set-other, ext-getD}
 use Rattle.num_whole.specs.Tests.{same, less, pick}
-use Rattle.num_whole.proofs.Cases.{by-cases, is-same, not-same, same-true, same-false, less-true, less-false, yes, no}
+use Rattle.num_whole.proofs.Cases.{by-cases, same-true, same-false, less-true, less-false, yes, no}
 use Rattle.take_laws.specs.Mix.{keep}
 use Rattle.list_lines.specs.Lines.{tallyOf, talliesFrom, talliesOf, answersMost}
-use Rattle.list_tallies.specs.Tables.{counted, Roomy}
+use Rattle.list_tallies.specs.Tables.{counted}
 
 -- ---- one answer counted
 abbrev pub bumped : List ℕ → ℕ → List ℕ
@@ -43,11 +43,6 @@ module _ (table told : List ℕ) (i : ℕ) where
   pub counted-turn : i < length told → counted (bumped table (getD told i 0)) (drop (i + 1) told) ≡ counted table (drop i told)
   unfolding counted
   counted-turn h = sym (ap (counted table) (drop-cons told i 0 h) ∙ ap (λ j. counted (bumped table (getD told i 0)) (drop j told)) (sym (add-one i)))
-
-pub length-counted : (table told : List ℕ) → length (counted table told) ≡ length table
-unfolding counted
-length-counted table [] = refl
-length-counted table (x ∷ told) = length-counted (bumped table x) told ∙ length-set table x _
 
 -- ---- the table of all answers
 tally-one : (k : ℕ) (told : List ℕ) (x : ℕ) → tallyOf k (told ++ (x ∷ [])) ≡ tallyOf k told + pick (same x k) 1 0
