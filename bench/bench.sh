@@ -57,11 +57,14 @@ count)
     link 0
     $qemu $run $out/bench same
     if [ "${2:-taking}" = parts ]; then
-        # parts of 64 KiB beside one run; and what a part of one byte costs, by a file of 40 records
+        # parts of 64 KiB beside one run, where nearly all are accepted and where most are refused; and what a part of one byte costs, by a file of 40 records
         for p in 6 50; do
+            for n in 4000 60000; do
+                echo "$(each $n 1 $p @ $n) $(each $n 4 $p @ $n)" |
+                    awk -v p=$p -v n=$n '{ printf "P %d, %d records: take_run %.1f, parts of 64 KiB %.1f a record, ratio %.3f\n", p, n, $1, $2, $2 / $1 }'
+            done
             bytes=$((956 - 16 * (50 - p) + 40 * (32 + 2 * p)))
-            echo "$(each 4000 1 $p @ 4000) $(each 4000 4 $p @ 4000) $(each 1 5 $p @ 40) $(each 1 1 $p @ 40) $bytes" |
-                awk -v p=$p '{ printf "P %d: take_run %.1f, parts of 64 KiB %.1f a record, ratio %.3f; %.0f a part of one byte\n", p, $1, $2, $2 / $1, ($3 - $4) / $5 }'
+            echo "$(each 1 5 $p @ 40) $(each 1 1 $p @ 40) $bytes" | awk -v p=$p '{ printf "P %d: %.0f a part of one byte\n", p, ($1 - $2) / $3 }'
         done
         exit
     fi

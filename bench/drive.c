@@ -11,9 +11,10 @@ typedef u8 take_fn(const u8 *, usize, i64 *, usize, i64 *, usize, u64 *, usize, 
 extern take_fn bench_run, bench_take, bench_parts, bench_bytes, peer_run, peer_take;
 
 #define RECORDS 4000
-struct result { i64 matrix[1275], rights[50]; u64 tally[177]; u8 answers[RECORDS], answer; };
+#define MOST 60000
+struct result { i64 matrix[1275], rights[50]; u64 tally[177]; u8 answers[MOST], answer; };
 static struct result results[6];
-static u8 file[1 << 20];
+static u8 file[1 << 23];
 static u64 seed;
 
 static u32 next(u32 n) { seed = seed * 6364136223846793005ULL + 1442695040888963407ULL; return (u32)(seed >> 33) % n; }
@@ -25,10 +26,10 @@ static const i64 low[11] = { 0, 0, -(1LL << 31), -(1LL << 28), -(1LL << 28), -42
 static const i64 high[11] = { 0, 1LL << 40, 1LL << 31, 1LL << 28, 1LL << 28, 421657428, 421657428, 1686629713, 421657428, 1686629713, 421657428 };
 
 /* One record. `harsh` of a thousand records break a rule of any kind; of the rest one in 32 fails the edit, one in 64 is not later, one in
-   128 is out of the window. */
-static void put_record(usize *at, int p, int i, int harsh)
+   128 is out of the window. A day has 500 records, or so many that they end within thirty days. */
+static void put_record(usize *at, int p, int i, int harsh, int daily)
 {
-    u32 station = next(16), kind = 1 + next(10), s = 1 + next(20), day = 8036 + i / 500, ms = 100000 + (i % 500) * 170000 + next(1000);
+    u32 station = next(16), kind = 1 + next(10), s = 1 + next(20), day = 8036 + i / daily, ms = 100000 + (i % daily) * (85000000 / daily) + next(1000);
     u32 step = kind < 3 ? 64 : 256, edit = 3 * s * step, fault = next(1000) < (u32)harsh ? 1 + next(9) : 0;
     i64 r = (i64)next(2 * edit + 1) - edit, span = high[kind] - low[kind];
     i64 c = low[kind] + (i64)((u64)next(1 << 30) * (u64)(span >> 12) >> 18), o = c + r;
@@ -66,7 +67,7 @@ static usize make(int p, int harsh, u64 start, int records)
     put(&at, 16, 4);
     for (int i = 0; i < 16; i++) { put(&at, 13 + 60 * i, 2); put(&at, 0, 2); put(&at, (u32)(i * 7919 % 120001 - 60000), 4); }
     put(&at, records, 4);
-    for (int i = 0; i < records; i++) put_record(&at, p, i, harsh);
+    for (int i = 0; i < records; i++) put_record(&at, p, i, harsh, records > RECORDS ? 2500 : 500);
     return at;
 }
 
