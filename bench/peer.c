@@ -105,7 +105,13 @@ static int judge_state(const struct heading *h, const struct tally *t, const i64
     if (t->square > n << 40)
         return 6;
     i64 top = (i64)(n << 46), side = (i64)(n << 43);
-    for (usize j = 0, k = 0; j < p; j++)
+    /* where each diagonal is above 0 the bounds alone judge, as in the proved code */
+    int plain = 1;
+    for (usize i = 0; i < p && plain; i++)
+        plain = matrix[i * (i + 3) / 2] > 0;
+    for (usize k = 0; k < p * (p + 1) / 2 && plain; k++)
+        plain = matrix[k] <= top && matrix[k] >= -top;
+    for (usize j = 0, k = 0; j < p && !plain; j++)
         for (usize i = 0; i <= j; i++, k++) {
             i64 x = matrix[k];
             if (x > top || x < -top)

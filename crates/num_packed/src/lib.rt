@@ -5,9 +5,11 @@ ghost use lib.IntN.{pos};
 ghost use lib.ListN.{length};
 ghost use mathlib.Core.Bool.{true, false};
 ghost use lib.Signed.{_≤ℤ_};
+ghost use Rattle.num_whole.specs.Tests.{below};
 ghost use Rattle.num_limits.specs.Capacities.{labelsMost, sumsMost};
 ghost use Rattle.num_packed.specs.Sound.{breaks, breaksSide};
 ghost use Rattle.num_packed.specs.Found.{firstFrom, columnsFrom, toldWalked};
+ghost use Rattle.num_packed.specs.Plain.{seenAt, withinAt};
 ghost use Rattle.num_packed.specs.Triangle.{triangleTerms, tri};
 
 // How many matrix sums p parameters have.
@@ -60,8 +62,8 @@ pub enum Walked {
     Unsound(usize),
 }
 
-// The first entry that sums of p columns cannot have, where there is one.
-pub fn first_unsound(s: &[i64], p: usize, bound: i64) -> Walked
+// The first entry that sums of p columns cannot have, where there is one: each is judged by itself, by its bound, its row and its column.
+fn walk(s: &[i64], p: usize, bound: i64) -> Walked
     requires { ⌜ (p ≤ labelsMost) × (tri p ≤ length (now s)) ⌝ }
     requires { ⌜ pos 0 ≤ℤ bound ⌝ }
     ensures { λ r. ⌜ toldWalked r ≡ columnsFrom (breaks bound (now (s .entry))) 0 p ⌝ }
@@ -80,6 +82,77 @@ pub fn first_unsound(s: &[i64], p: usize, bound: i64) -> Walked
         j += 1;
     }
     found
+}
+
+// Whether the diagonal of parameter i is above 0.
+fn is_seen(s: &[i64], i: usize) -> bool
+    requires { ⌜ (i < labelsMost) × (tri (i + 1) ≤ length (now s)) ⌝ }
+    ensures { λ r. ⌜ r ≡ seenAt (now (s .entry)) i ⌝ }
+{
+    let d = s[place(i, i)];
+    0 < d
+}
+
+// Whether each diagonal of p parameters is.
+fn all_seen(s: &[i64], p: usize) -> bool
+    requires { ⌜ (p ≤ labelsMost) × (tri p ≤ length (now s)) ⌝ }
+    ensures { λ r. ⌜ r ≡ below (seenAt (now (s .entry))) p ⌝ }
+{
+    let mut i: usize = 0;
+    while i < p {
+        if is_seen(s, i) {
+            i += 1;
+        } else {
+            return false;
+        }
+    }
+    true
+}
+
+// Whether sum k is within a bound.
+fn is_within(s: &[i64], k: usize, bound: i64) -> bool
+    requires { ⌜ k < length (now s) ⌝ }
+    requires { ⌜ pos 0 ≤ℤ bound ⌝ }
+    ensures { λ r. ⌜ r ≡ withinAt bound (now (s .entry)) k ⌝ }
+{
+    let sum = s[k];
+    if bound < sum {
+        return false;
+    }
+    0 - bound <= sum
+}
+
+// Whether each of the first n sums is.
+fn all_within(s: &[i64], n: usize, bound: i64) -> bool
+    requires { ⌜ n ≤ length (now s) ⌝ }
+    requires { ⌜ pos 0 ≤ℤ bound ⌝ }
+    ensures { λ r. ⌜ r ≡ below (withinAt bound (now (s .entry))) n ⌝ }
+{
+    let mut k: usize = 0;
+    while k < n {
+        if is_within(s, k, bound) {
+            k += 1;
+        } else {
+            return false;
+        }
+    }
+    true
+}
+
+// The first entry that sums of p columns cannot have, where there is one. Where each diagonal is above 0 no entry has to be 0, and the bounds
+// alone tell that all are sound, at a third of the work.
+pub fn first_unsound(s: &[i64], p: usize, bound: i64) -> Walked
+    requires { ⌜ (p ≤ labelsMost) × (tri p ≤ length (now s)) ⌝ }
+    requires { ⌜ pos 0 ≤ℤ bound ⌝ }
+    ensures { λ r. ⌜ toldWalked r ≡ columnsFrom (breaks bound (now (s .entry))) 0 p ⌝ }
+{
+    if all_seen(s, p) {
+        let n = triangle(p);
+        if all_within(s, n, bound) {
+            return Walked::Sound;
+        }
+    }
+    walk(s, p, bound)
 }
 
 // Whether the right side of parameter i is one that sums cannot have.
