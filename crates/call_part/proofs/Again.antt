@@ -23,7 +23,7 @@ use Rattle.part.proofs.Stops.{fine}
 use Rattle.call_position.specs.Position.{positionIn}
 use Rattle.call_position.proofs.Bytes.{PositionFits, position-stays}
 use Rattle.call_told.specs.Told.{changes, withAll}
-use Rattle.call_part.specs.Calls.{Rooms, placeIn, stateIn, hasState, beginCall, beginLeft, partLent, partCall, partLeft, placeLent, finishCall, finishLeft}
+use Rattle.call_part.specs.Calls.{Rooms, placeIn, roomsState, hasState, beginCall, beginLeft, partLent, partCall, partLeft, placeLent, finishCall, finishLeft}
 use Rattle.call_part.proofs.Calls.{position-long, place-long, state-long}
 
 -- ---- a position that the entries give has numbers of their widths
@@ -104,13 +104,13 @@ begin-leads x none =
     ∙ position-stays (heldOf begun) (x .position) (held-fits begun (zero-le, zero-le)) (position-long _ (both-first _ _ whole))
 
 pub part-leads : (x : Rooms) (l answers : List ℕ) (out : ℕ) → changes (partCall x l (length answers) out) ≡ true
-    → placeIn (partLeft x l (length answers) out) ≡ partPosition (placeIn x) (stateIn x) l (length answers)
+    → placeIn (partLeft x l (length answers) out) ≡ partPosition (placeIn x) (roomsState x) l (length answers)
 unfolding partCall partLeft
 part-leads x l answers out e =
     by-cases (partLent x out)
-    (λ z. let none = part-none (placeIn x) (stateIn x) l (length answers) (ap changes (yes _ _ _ z refl) ∙ e) in
+    (λ z. let none = part-none (placeIn x) (roomsState x) l (length answers) (ap changes (yes _ _ _ z refl) ∙ e) in
     ap placeIn (sym (yes _ _ _ e refl))
-    ∙ position-stays _ (x .position) (part-fits (placeIn x) (stateIn x) l answers none) (state-long (x .position) (x .tally) out z .0))
+    ∙ position-stays _ (x .position) (part-fits (placeIn x) (roomsState x) l answers none) (state-long (x .position) (x .tally) out z .0))
     (λ z. absurd (stopped-not 20 (ap changes (no _ _ _ z refl) ∙ e)))
 
 pub finish-leads : (b : List ℕ) (out : ℕ) → changes (finishCall b out) ≡ true → positionIn (finishLeft b out) ≡ finishPosition (positionIn b)

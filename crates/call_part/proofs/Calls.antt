@@ -25,7 +25,7 @@ use Rattle.part_laws.specs.Entries.{Told, took, stopped, broken, positionOf, he
 use Rattle.part_laws.specs.declared.Position.{Position}
 use Rattle.call_position.specs.Position.{positionIn, positionBytes, hasPosition}
 use Rattle.call_told.specs.Told.{toldNumber, toldOut, changes, withAll}
-use Rattle.call_part.specs.Calls.{Rooms, rooms, placeIn, stateIn, hasState, beginCall, beginLeft, partLent, partCall, partLeft, partAnswersLeft, placeLent, finishCall, finishLeft}
+use Rattle.call_part.specs.Calls.{Rooms, rooms, placeIn, roomsState, hasState, beginCall, beginLeft, partLent, partCall, partLeft, partAnswersLeft, placeLent, finishCall, finishLeft}
 
 -- ---- what is there whole
 pub position-long : (b : List ℕ) → hasPosition b ≡ true → 1112 ≤ length b
@@ -109,9 +109,9 @@ module _ (x : Rooms) (l answers out : List ℕ) where
       (sym (ap toldNumber is), (no _ _ _ (ap changes is) refl, (no _ _ _ e refl, sym (ap (λ t. toldOut t out) is))))
 
   module _ (lent : partLent x (length out) ≡ true) (t : Told) (q : Position) (m r : List ℤ) (u : Tally) where
-    pub part-done : t ≡ partTold (placeIn x) (stateIn x) l (length answers) → q ≡ partPosition (placeIn x) (stateIn x) l (length answers)
-        → stateOf m r u ≡ partState (placeIn x) (stateIn x) l (length answers) → {n : ℕ} {b c told left : List ℕ}
-        → told ≡ partAnswers (placeIn x) (stateIn x) l answers → n ≡ toldNumber t
+    pub part-done : t ≡ partTold (placeIn x) (roomsState x) l (length answers) → q ≡ partPosition (placeIn x) (roomsState x) l (length answers)
+        → stateOf m r u ≡ partState (placeIn x) (roomsState x) l (length answers) → {n : ℕ} {b c told left : List ℕ}
+        → told ≡ partAnswers (placeIn x) (roomsState x) l answers → n ≡ toldNumber t
         → b ≡ pick (changes t) (lay (x .position) 0 (positionBytes q)) (x .position) → c ≡ pick (changes t) (lay (x .tally) 0 (tallyBytes u)) (x .tally)
         → left ≡ toldOut t out → Parts n (rooms b c m r) told left
     unfolding partCall partLeft partAnswersLeft
@@ -124,10 +124,10 @@ module _ (x : Rooms) (l answers out : List ℕ) where
                 yes _ _ _ (sym (ap changes is) ∙ z)
                 (ap₂ (λ y w. rooms y w m r) (put ∙ sym (yes _ _ _ z refl) ∙ ap (λ p. lay (x .position) 0 (positionBytes p)) leads) (tally ∙ sym (yes _ _ _ z refl))
                 ∙ ap
-                (λ s. rooms (lay (x .position) 0 (positionBytes (partPosition (placeIn x) (stateIn x) l (length answers)))) (lay (x .tally) 0 (tallyBytes (s .tally))) (s .matrix) (s .rights))
+                (λ s. rooms (lay (x .position) 0 (positionBytes (partPosition (placeIn x) (roomsState x) l (length answers)))) (lay (x .tally) 0 (tallyBytes (s .tally))) (s .matrix) (s .rights))
                 state))
                 (λ z.
-                let back = state ∙ part-kept (placeIn x) (stateIn x) l (length answers) (sym (ap changes says) ∙ z) in
+                let back = state ∙ part-kept (placeIn x) (roomsState x) l (length answers) (sym (ap changes says) ∙ z) in
                 no _ _ _ (sym (ap changes is) ∙ z)
                 (ap₂ (λ y w. rooms y w m r) (put ∙ sym (no _ _ _ z refl)) (tally ∙ sym (no _ _ _ z refl))
                 ∙ ap₂ (λ y w. rooms (x .position) (x .tally) y w) (ap (λ s. s .matrix) back) (ap (λ s. s .rights) back))),

@@ -14,7 +14,7 @@ use Rattle.arc_heading.specs.declared.Heading.{Heading}
 use Rattle.arc_heading.proofs.Sound.{sound}
 use Rattle.arc_front.specs.Front.{blankHeading}
 use Rattle.call_heading.specs.Lent.{headingBytes}
-use Rattle.part_laws.specs.Beginning.{opened, headingIn, headingBy}
+use Rattle.part_laws.specs.Beginning.{opened, openedHeading, headingBy}
 use Rattle.part_laws.specs.Entries.{Told, took, stopped, broken, fair, headingTold, headingGiven}
 use Rattle.part_laws.specs.declared.Position.{Position}
 use Rattle.part_laws.proofs.OneGo.{opened-sound}
@@ -32,7 +32,7 @@ opened-fits s (good a) e = let v = sound (a .heading) (opened-sound s a e) in (v
 opened-fits s (bad number place) e = (zero-le, zero-le)
 
 pub given-fits : (p : Position) → Fits (headingGiven p)
-unfolding headingGiven headingIn
+unfolding headingGiven openedHeading
 given-fits p =
     by-cases (fair p) (λ e. subst Fits (yes _ _ _ e refl) (opened-fits _ _ refl)) (λ e. subst Fits (no _ _ _ e refl) (zero-le, zero-le))
 

@@ -33,8 +33,8 @@ rooms p t m r = record { position = p; tally = t; matrix = m; rights = r }
 abbrev pub placeIn : Rooms → Position
 placeIn x = positionIn (x .position)
 
-abbrev pub stateIn : Rooms → State
-stateIn x = stateOf (x .matrix) (x .rights) (tallyIn (x .tally))
+abbrev pub roomsState : Rooms → State
+roomsState x = stateOf (x .matrix) (x .rights) (tallyIn (x .tally))
 
 abbrev pub hasState : List ℕ → List ℕ → Bool
 hasState b t = both (hasPosition b) (hasTally t)
@@ -55,14 +55,14 @@ abbrev pub partLent : Rooms → ℕ → Bool
 partLent x out = both (hasState (x .position) (x .tally)) (upTo 2 out)
 
 unfoldable pub partCall : Rooms → List ℕ → ℕ → ℕ → Told
-partCall x l room out = pick (partLent x out) (partTold (placeIn x) (stateIn x) l room) (stopped 20)
+partCall x l room out = pick (partLent x out) (partTold (placeIn x) (roomsState x) l room) (stopped 20)
 
 unfoldable pub partLeft : Rooms → List ℕ → ℕ → ℕ → Rooms
 partLeft x l room out =
-    pick (changes (partCall x l room out)) (put (partPosition (placeIn x) (stateIn x) l room) (partState (placeIn x) (stateIn x) l room) x) x
+    pick (changes (partCall x l room out)) (put (partPosition (placeIn x) (roomsState x) l room) (partState (placeIn x) (roomsState x) l room) x) x
 
 unfoldable pub partAnswersLeft : Rooms → List ℕ → List ℕ → ℕ → List ℕ
-partAnswersLeft x l answers out = pick (partLent x out) (partAnswers (placeIn x) (stateIn x) l answers) answers
+partAnswersLeft x l answers out = pick (partLent x out) (partAnswers (placeIn x) (roomsState x) l answers) answers
 
 -- ---- finish, for a position's bytes b: the number of all records taken is told with 0 too
 abbrev pub placeLent : List ℕ → ℕ → Bool

@@ -28,8 +28,8 @@ use Rattle.take_room.specs.Room.{cleared}
 use Rattle.take_state.specs.State.{State, stateOf}
 use Rattle.take_laws.specs.Machine.{run, answers}
 use Rattle.take_laws.specs.Taking.{frameOf, recordAnswer, recordStep, recordsIn}
-use Rattle.part_laws.specs.Beginning.{opened, sizeOf, done, left, readAt, headingIn}
-use Rattle.part_laws.specs.Feeding.{Position, begun, Fed, moved, handed, feed, finish, joined}
+use Rattle.part_laws.specs.Beginning.{opened, sizeOf, done, left, readAt, openedHeading}
+use Rattle.part_laws.specs.Feeding.{Position, begun, Fed, moved, handed, feed, finish, fedOn}
 use Rattle.part_laws.specs.OneGo.{emptied}
 use Rattle.part_laws.specs.Entries.{positionMost, positionOf, heldOf, tidy, fair, Told, took, stopped, broken, partTold, partPosition, partState, partAnswers, toldForm, toldEnd, beginNumber, beginState, roomFor, finishNumber, finishTold, headingGiven}
 use Rattle.part_laws.specs.declared.Position as ByValue
@@ -43,7 +43,7 @@ use Rattle.part_laws.proofs.States.{Fit, part-fit, begun-fit}
 use Rattle.part_laws.proofs.Over.{placed-short, feed-moved, count-most}
 use Rattle.part_laws.proofs.Sequence.{fair-going, part-position, part-state, part-answers, part-told}
 use Rattle.list_lines.specs.Lines.{talliesOf, arcLines, refusedLine}
-use Rattle.list_tallies.specs.Tables.{counted, Roomy}
+use Rattle.list_tallies.specs.Tables.{counted, CountsFit}
 use Rattle.list_tallies.proofs.Counts.{counted-all, tallies-most}
 use Rattle.list_run.specs.Runs.{noSums, noSides, emptyState, toldOf, stateAfter, runLines, listed, listing}
 use Rattle.list_run.specs.Course.{heard, Follows, AfterBy, heardAs, countedBy, Countable}
@@ -153,7 +153,7 @@ module _ (s : List ℕ) (going : heard s .verdict ≡ good tt) where
       answers-so =
           part-answers (heldOf q) (heard s .state) fit-held clean on l out enough-out ∙ ap (λ z. lay out 0 (z .answers)) back ∙ lay-front out (f .answers) few
 
-      next : heard (s ++ l) ≡ joined (heard s) f
+      next : heard (s ++ l) ≡ fedOn (heard s) f
       next = cuts begun emptyState s l
 
       verdict-so : heard (s ++ l) .verdict ≡ f .verdict
@@ -212,7 +212,7 @@ module _ (s : List ℕ) (c : Course) (m r : List ℤ) (table : List ℕ) (h : Fo
     pub took-few : n ≤ length out
     took-few = omega (arith, took-this .0, few s (h .going) l short out room)
 
-    pub took-roomy : Roomy table n
+    pub took-roomy : CountsFit table n
     took-roomy k =
         omega (arith, ap (λ t. getD t k 0) (h .tallies), tallies-most (heard s .answers) k, many s (h .going), took-few)
 
@@ -280,7 +280,7 @@ module _ (s : List ℕ) (going : heard s .verdict ≡ good tt) where
     once : heard s ≡ handed 0 s emptyState
     once = not-over begun emptyState s refl
 
-    named : headingIn s ≡ a .heading
+    named : openedHeading s ≡ a .heading
     named = heading-good 0 s a (read-open s a e)
 
     state-end : heard s .state ≡ stateAfter (a .heading) bytes
@@ -305,7 +305,7 @@ module _ (s : List ℕ) (going : heard s .verdict ≡ good tt) where
     unfolding headingGiven
     heading-end =
         sym (yes _ _ _ held-fair refl)
-        ∙ ap (λ z. headingIn (z .kept)) (position-back (heard s .position)) ∙ ap headingIn kept-end
+        ∙ ap (λ z. openedHeading (z .kept)) (position-back (heard s .position)) ∙ ap openedHeading kept-end
         ∙ heading-good 0 (left 0 s) a (ap opened (sym (append-nil (left 0 s))) ∙ opened-left 0 s [] a (read-open s a e))
 
 -- ---- the text

@@ -13,7 +13,7 @@ use Rattle.take_state.specs.State.{stateOf}
 use Rattle.part_laws.specs.Feeding.{begun, Fed, feed}
 use Rattle.part_laws.specs.Entries.{heldOf, Told, took, stopped, broken}
 use Rattle.list_lines.specs.Lines.{talliesOf}
-use Rattle.list_tallies.specs.Tables.{counted, Roomy}
+use Rattle.list_tallies.specs.Tables.{counted, CountsFit}
 use Rattle.list_run.specs.Runs.{emptyState, listing}
 use Rattle.list_run.specs.declared.Course.{Course}
 use Rattle.list_run.specs.declared.Heard.{Heard}
@@ -51,7 +51,7 @@ countedBy (stopped number) table told = table
 countedBy (broken number place all) table told = table
 
 abbrev pub Countable : Told → List ℕ → List ℕ → Type 0
-Countable (took n) table told = (n ≤ length told) × Roomy table n
+Countable (took n) table told = (n ≤ length told) × CountsFit table n
 Countable (stopped number) table told = Unit {0}
 Countable (broken number place all) table told = Unit {0}
 

@@ -8,5 +8,5 @@ counted table [] = table
 counted table (x ∷ told) = counted (set table x (getD table x 0 + 1)) told
 
 -- n answers more can be counted in words of 64 bits
-abbrev pub Roomy : List ℕ → ℕ → Type 0
-Roomy table n = (k : ℕ) → getD table k 0 + n < 2 ^ 64
+abbrev pub CountsFit : List ℕ → ℕ → Type 0
+CountsFit table n = (k : ℕ) → getD table k 0 + n < 2 ^ 64

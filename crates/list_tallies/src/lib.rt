@@ -4,7 +4,7 @@ ghost use Prim.Native.Nat.{_+_, _<_, _^_};
 ghost use lib.ListN.{length, getD, set};
 ghost use Rattle.decimal.specs.Laid.{laid};
 ghost use Rattle.list_lines.specs.Lines.{tallyLine, tallyLines};
-ghost use Rattle.list_tallies.specs.Tables.{counted, Roomy};
+ghost use Rattle.list_tallies.specs.Tables.{counted, CountsFit};
 
 // A table has a place for each answer that a record can have: 0, accepted, and the refusals from 1 to 19.
 pub const ANSWERS: usize = 20;
@@ -22,7 +22,7 @@ fn count_one(table: &mut [u64], answer: u8)
 
 // Records more, by their answers.
 pub fn count(table: &mut [u64], told: &[u8])
-    requires { ⌜ Roomy (now table) (length (now told)) ⌝ }
+    requires { ⌜ CountsFit (now table) (length (now told)) ⌝ }
     ensures { λ _. ⌜ now (table .exit) ≡ counted (now (table .entry)) (now (told .entry)) ⌝ }
 {
     let mut i: usize = 0;

@@ -13,18 +13,18 @@ use Rattle.refusal.specs.declared.Refusal.the-variants.{Room, Count, Limits, Or
 use Rattle.refusal.proofs.Firsts.{unless-true, unless-false, first-pass, first-by, first-none-left, answered-given, answered-by}
 use Rattle.norm_system.specs.System.{System}
 use Rattle.norm_room.specs.Room.{systemInRooms, headsRoomy, sumsRoomy, countsFit, fieldsFit, ordersFit, sumsFit, systemNumber}
-use Rattle.norm_judge.specs.Judge.{Headed, Roomed, sumsNumber, valuesNumber}
+use Rattle.norm_judge.specs.Judge.{HeadsFit, Roomed, sumsNumber, valuesNumber}
 
 -- ---- 2 and 20
 pub counted : (a p : ℕ) → countsFit a p ≡ true → (a ≤ 16) × (p ≤ 500)
 unfolding countsFit
 counted a p e = (between-true _ _ _ (both-first _ _ e) .1, between-true _ _ _ (both-second _ _ e) .1)
 
-pub headed : (a p heads : ℕ) → countsFit a p ≡ true → headsRoomy a p heads ≡ true → Headed a p heads
+pub headed : (a p heads : ℕ) → countsFit a p ≡ true → headsRoomy a p heads ≡ true → HeadsFit a p heads
 unfolding headsRoomy
 headed a p heads e f = let few = counted a p e in record { arcs = few .0; parameters = few .1; heads-fit = upTo-true _ _ f }
 
-pub roomed : (a p heads matrix rights : ℕ) → Headed a p heads → sumsRoomy p matrix rights ≡ true → Roomed a p heads matrix rights
+pub roomed : (a p heads matrix rights : ℕ) → HeadsFit a p heads → sumsRoomy p matrix rights ≡ true → Roomed a p heads matrix rights
 unfolding sumsRoomy
 roomed a p heads matrix rights h e =
     record {

@@ -8,7 +8,7 @@ use Rattle.norm_system.specs.System.{System}
 use Rattle.norm_room.specs.Room.{headsLong, sumsTests, valueTests}
 
 -- counts within their limits, and the heads' room long enough for them
-pub record Headed (a p heads : ℕ) : Type 0 where
+pub record HeadsFit (a p heads : ℕ) : Type 0 where
   pub arcs : a ≤ arcsMost
   pub parameters : p ≤ labelsMost
   pub heads-fit : headsLong a p ≤ heads

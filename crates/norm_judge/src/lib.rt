@@ -14,7 +14,7 @@ ghost use Rattle.refusal.specs.Told.{toldVerdict};
 ghost use Rattle.num_packed.specs.Triangle.{tri};
 ghost use Rattle.norm_system.specs.System.{boundOf, totalsWhere, sidesWhere, sumsWhere};
 ghost use Rattle.norm_room.specs.Room.{systemInRooms, isNowhere, sumsFit, systemNumber};
-ghost use Rattle.norm_judge.specs.Judge.{sumsNumber, valuesNumber, Headed, Roomed};
+ghost use Rattle.norm_judge.specs.Judge.{sumsNumber, valuesNumber, HeadsFit, Roomed};
 
 // ---- 6
 
@@ -102,7 +102,7 @@ fn judge_sums(
     matrix: &[i64],
     rights: &[i64],
 ) -> Verdict
-    requires { ⌜ Headed arcs parameters (length (now heads)) ⌝ }
+    requires { ⌜ HeadsFit arcs parameters (length (now heads)) ⌝ }
     ensures { λ r. ⌜ toldVerdict r ≡ answered (sumsNumber parameters (length (now (matrix .entry))) (length (now (rights .entry))) (systemInRooms arcs parameters (now (heads .entry)) (now (matrix .entry)) (now (rights .entry)))) tt ⌝ }
 {
     if norm_room::sums_roomy(parameters, matrix.len(), rights.len()) {
@@ -124,7 +124,7 @@ fn judge_values(
     matrix: &[i64],
     rights: &[i64],
 ) -> Verdict
-    requires { ⌜ Headed arcs parameters (length (now heads)) ⌝ }
+    requires { ⌜ HeadsFit arcs parameters (length (now heads)) ⌝ }
     ensures { λ r. ⌜ toldVerdict r ≡ answered (valuesNumber parameters (length (now (matrix .entry))) (length (now (rights .entry))) (systemInRooms arcs parameters (now (heads .entry)) (now (matrix .entry)) (now (rights .entry)))) tt ⌝ }
 {
     if norm_fields::fields_fit(arcs, parameters, heads) {

@@ -28,7 +28,7 @@ use Rattle.take_state.specs.State.{State, roomNumber, stateNumber}
 use Rattle.take_laws.specs.Machine.{run, answers}
 use Rattle.take_laws.specs.Taking.{frameOf, recordAnswer, recordStep}
 use Rattle.take_laws.proofs.Guarded.{Held, roomy-by}
-use Rattle.part_laws.specs.Beginning.{opened, sizeOf, done, left, readAt, headingIn}
+use Rattle.part_laws.specs.Beginning.{opened, sizeOf, done, left, readAt, openedHeading}
 use Rattle.part_laws.specs.Feeding.{Position, ended, soFar, moved, Fed, feed, handed}
 use Rattle.part_laws.specs.Entries.{positionMost, positionOf, heldOf, placed, led, fair, soundAt, parametersIn, partNumber, partPosition, partState, partAnswers, partTold, toldForm}
 use Rattle.part_laws.specs.declared.Position as ByValue
@@ -42,7 +42,7 @@ use Rattle.part_laws.proofs.States.{Fit, held, parameters-opened, parameters-mo
 use Rattle.part_laws.proofs.Over.{feed-moved}
 use Rattle.part_open.specs.Told.{toldOpening}
 use Rattle.part_open.specs.declared.Opening.{Opening}
-use Rattle.part_place.specs.Looks.{completedBy, FrontOf, Roomy}
+use Rattle.part_place.specs.Looks.{completedBy, FrontOf, RoomAt}
 use Rattle.part_place.specs.declared.Front.{Front}
 use Rattle.part_take.specs.Ready.{beginning, Ready}
 use Rattle.part.specs.Going.{grown, Going}
@@ -99,7 +99,7 @@ unfolding roomNumber
 room-none h m r ok wide high =
     first-pass _ _ (unless-true 20 _ (roomy-by h m r (sound h ok .few) wide high)) ∙ first-pass _ _ (number-given _ tt ok) ∙ first-none-left
 
-pub opened-roomy : (s : List ℕ) (m r : List ℤ) (j : Judged Arc) → j ≡ opened s → tri (parametersIn s) ≤ length m → parametersIn s ≤ length r → Roomy j m r
+pub opened-roomy : (s : List ℕ) (m r : List ℤ) (j : Judged Arc) → j ≡ opened s → tri (parametersIn s) ≤ length m → parametersIn s ≤ length r → RoomAt j m r
 opened-roomy s m r (good a) e wide high =
     let same-count = parameters-opened s a (sym e) in
     room-none (a .heading) m r (opened-sound s a (sym e)) (subst (λ n. tri n ≤ length m) same-count wide) (omega (arith, same-count))
@@ -131,7 +131,7 @@ module _ (p : ByValue.Position) (s : State) (l out : List ℕ) where
     fed = not-over q s l (v .going)
 
     -- what it answers and leaves, in the definition's words
-    pub went : (n : ℕ) (h : Heading) → n ≡ length (done t b) → headingIn b ≡ h
+    pub went : (n : ℕ) (h : Heading) → n ≡ length (done t b) → openedHeading b ≡ h
         → Outcome p s l out (toldForm (soFar (readAt t b)) n (t + n)) (heldOf (moved (soFar (readAt t b)) (t + n) (left t b)))
         (run (recordStep (frameOf h)) s (done t b)) (lay out 0 (answers (recordStep (frameOf h)) (recordAnswer (frameOf h)) s (done t b)))
     unfolding partTold partPosition partState partAnswers
@@ -209,11 +209,11 @@ module _ (p : ByValue.Position) (s : State) (l out : List ℕ) where
           → Outcome p s l out (toldForm (soFar {A = Arc} (bad number place)) 0 t) (grown (soFar {A = Arc} (bad number place)) f t) s out
       unfolding run answers lay
       before n f x e =
-          let w = went 0 (headingIn b) (sym (ap length (done-bad t b o))) refl in
+          let w = went 0 (openedHeading b) (sym (ap length (done-bad t b o))) refl in
           let says : bad number place ≡ readAt t b = sym (read-bad t b o) in
           let d = done-bad t b o in
           let none-more : t + 0 ≡ t = add-zero t in
-          let h = frameOf (headingIn b) in
+          let h = frameOf (openedHeading b) in
           record {
             says = ap₂ (λ j m. toldForm (soFar j) 0 m) says (sym none-more) ∙ w .says;
             leads = grew f x ∙ ap₂ (λ j m. heldOf (moved (soFar j) m b)) says (sym none-more)

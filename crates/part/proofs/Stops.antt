@@ -21,7 +21,7 @@ use Rattle.arc_front.specs.Front.{blankHeading}
 use Rattle.arc_read.specs.Arc.{Arc}
 use Rattle.take_tally.specs.Tally.{emptyTally}
 use Rattle.take_state.specs.State.{State, stateOf}
-use Rattle.part_laws.specs.Beginning.{opened, done, readAt, headingBy, headingIn}
+use Rattle.part_laws.specs.Beginning.{opened, done, readAt, headingBy, openedHeading}
 use Rattle.part_laws.specs.Feeding.{Position, feed, finish, closing}
 use Rattle.part_laws.specs.OneGo.{emptied}
 use Rattle.part_laws.specs.Entries.{positionOf, heldOf, fair, soundAt, parametersIn, roomFor, Told, took, stopped, broken, beginNumber, beginState, partNumber, partPosition, partState, partAnswers, partTold, toldEnd, finishNumber, finishTold, finishPosition, headingTold, headingGiven}
@@ -163,7 +163,7 @@ module _ (m r : List ℤ) where
 -- ---- the heading
 module _ (p : ByValue.Position) where
   pub headed : fair p ≡ true → (j : Judged Arc) → j ≡ opened (positionOf p .kept) → (toldEnd j (p .taken) ≡ headingTold p) × (headingBy j ≡ headingGiven p)
-  unfolding headingTold headingGiven headingIn
+  unfolding headingTold headingGiven openedHeading
   headed e j f = (yes _ _ _ e (ap (λ x. toldEnd x (p .taken)) f), yes _ _ _ e (ap headingBy f))
 
   pub headed-not : fair p ≡ false → (stopped 6 ≡ headingTold p) × (blankHeading ≡ headingGiven p)

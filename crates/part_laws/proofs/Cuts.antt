@@ -16,7 +16,7 @@ use Rattle.byte_section.proofs.Walk.{not-bad, by-judged, then-good, then-bad}
 use Rattle.take_laws.proofs.Runs.{length-cut}
 use Rattle.arc_heading.specs.declared.Heading.{Heading}
 use Rattle.arc_read.specs.Arc.{Arc, readArc}
-use Rattle.part_laws.specs.Beginning.{opened, sizeOf, endsAt, closedAt, whole, behind, doneBy, leftBy, done, left, readAt, headingBy, headingIn}
+use Rattle.part_laws.specs.Beginning.{opened, sizeOf, endsAt, closedAt, whole, behind, doneBy, leftBy, done, left, readAt, headingBy, openedHeading}
 use Rattle.part_laws.proofs.Runs.{more, whole-long, whole-cut}
 use Rattle.part_laws.proofs.Opened.{opened-stays, opened-within, opened-again}
 
@@ -38,8 +38,8 @@ module _ (t : ℕ) (b : List ℕ) where
     unfolding readAt
     read-good = then-good _ _ e
 
-    pub heading-good : headingIn b ≡ a .heading
-    unfolding headingIn
+    pub heading-good : openedHeading b ≡ a .heading
+    unfolding openedHeading
     heading-good = ap headingBy e
 
   module _ {number place : ℕ} (e : opened b ≡ bad number place) where
@@ -60,7 +60,7 @@ pub record After (t : ℕ) (b m : List ℕ) : Type 0 where
   pub records : done t (b ++ m) ≡ done t b ++ done (t + length (done t b)) (left t b ++ m)
   pub rest : left t (b ++ m) ≡ left (t + length (done t b)) (left t b ++ m)
   pub read : readAt t (b ++ m) ≡ readAt (t + length (done t b)) (left t b ++ m)
-  pub heading : headingIn (b ++ m) ≡ headingIn (left t b ++ m)
+  pub heading : openedHeading (b ++ m) ≡ openedHeading (left t b ++ m)
 
 module _ (t : ℕ) (b m : List ℕ) where
   after-bad : (number place : ℕ) → opened b ≡ bad number place → After t b m
@@ -122,7 +122,7 @@ module _ (t : ℕ) (b m : List ℕ) where
   after = by-judged (opened b) after-good after-bad
 
   -- what is made of the records so far is made of them with the heading so far
-  pub before : {C : Type 0} (g : Heading → List (List ℕ) → C) → ((h k : Heading) → g h [] ≡ g k []) → g (headingIn b) (done t b) ≡ g (headingIn (b ++ m)) (done t b)
+  pub before : {C : Type 0} (g : Heading → List (List ℕ) → C) → ((h k : Heading) → g h [] ≡ g k []) → g (openedHeading b) (done t b) ≡ g (openedHeading (b ++ m)) (done t b)
   before g none =
       by-judged (opened b)
       (λ a e. ap (λ k. g k (done t b)) (heading-good t b a e ∙ sym (heading-good t (b ++ m) a (opened-stays b m .same a e))))

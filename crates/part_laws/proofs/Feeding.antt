@@ -19,8 +19,8 @@ use Rattle.take_laws.specs.Machine.{run, answers}
 use Rattle.take_laws.specs.Taking.{frameOf, recordAnswer, recordStep}
 use Rattle.take_laws.proofs.Trace.{run-append}
 use Rattle.take_laws.proofs.Appended.{answers-append}
-use Rattle.part_laws.specs.Beginning.{opened, closedAt, done, left, readAt, headingIn}
-use Rattle.part_laws.specs.Feeding.{Position, begun, ended, soFar, moved, Fed, handed, feed, finish, joined, concat, feeds}
+use Rattle.part_laws.specs.Beginning.{opened, closedAt, done, left, readAt, openedHeading}
+use Rattle.part_laws.specs.Feeding.{Position, begun, ended, soFar, moved, Fed, handed, feed, finish, fedOn, concat, feeds}
 use Rattle.part_laws.proofs.Cuts.{After, after, before, refusal-closes}
 
 -- ---- what is said of the form so far
@@ -50,16 +50,16 @@ module _ (t : ℕ) (b : List ℕ) (s : State) (m : List ℕ) where
 
   -- the records of the first, with the heading of both
   abbrev state₁ : State
-  state₁ = ran (headingIn b) s (done t b)
+  state₁ = ran (openedHeading b) s (done t b)
 
   abbrev told₁ : List ℕ
-  told₁ = told (headingIn b) s (done t b)
+  told₁ = told (openedHeading b) s (done t b)
 
-  ran-longer : ran (headingIn (b ++ m)) s (done t b) ≡ state₁
+  ran-longer : ran (openedHeading (b ++ m)) s (done t b) ≡ state₁
   unfolding run
   ran-longer = sym (before t b m (λ h l. ran h s l) (λ h k. refl))
 
-  told-longer : told (headingIn (b ++ m)) s (done t b) ≡ told₁
+  told-longer : told (openedHeading (b ++ m)) s (done t b) ≡ told₁
   unfolding answers
   told-longer = sym (before t b m (λ h l. told h s l) (λ h k. refl))
 
@@ -70,18 +70,18 @@ module _ (t : ℕ) (b : List ℕ) (s : State) (m : List ℕ) where
   u = left t b ++ m
 
   -- not refused: the second goes on where the first ended
-  on : handed t (b ++ m) s ≡ joined (made (good tt) t₁ (left t b) state₁ told₁) (handed t₁ u state₁)
+  on : handed t (b ++ m) s ≡ fedOn (made (good tt) t₁ (left t b) state₁ told₁) (handed t₁ u state₁)
   unfolding andThen
   on =
       let x = after t b m in
-      let h = headingIn (b ++ m) in
+      let h = openedHeading (b ++ m) in
       let d = done t₁ u in
       let v = soFar (readAt t₁ u) in
       let number : t + length (done t (b ++ m)) ≡ t₁ + length d =
       ap (λ l. t + length l) (x .records) ∙ ap (λ n. t + n) (length-append (done t b) d) ∙ omega arith in
-      let state : ran h s (done t (b ++ m)) ≡ ran (headingIn u) state₁ d =
+      let state : ran h s (done t (b ++ m)) ≡ ran (openedHeading u) state₁ d =
       ap (ran h s) (x .records) ∙ run-append (recordStep (frameOf h)) s (done t b) d ∙ ap₂ (λ k z. ran k z d) (x .heading) ran-longer in
-      let heard : told h s (done t (b ++ m)) ≡ told₁ ++ told (headingIn u) state₁ d =
+      let heard : told h s (done t (b ++ m)) ≡ told₁ ++ told (openedHeading u) state₁ d =
       ap (told h s) (x .records)
       ∙ answers-append (recordStep (frameOf h)) (recordAnswer (frameOf h)) s (done t b) d
       ∙ ap₂ (λ p q. p ++ q) told-longer (ap₂ (λ k z. told k z d) (x .heading) ran-longer) in
@@ -94,15 +94,15 @@ module _ (t : ℕ) (b : List ℕ) (s : State) (m : List ℕ) where
   off number place e =
       let r = so-far-bad (readAt t b) number place e in
       let x = refusal-closes t b m number place (r .0) (r .1) in
-      let h = headingIn (b ++ m) in
+      let h = openedHeading (b ++ m) in
       let v : soFar (readAt t (b ++ m)) ≡ bad number place = ap soFar (x .read ∙ sym (r .0)) ∙ e in
       ap₂ (λ w l. made w (t + length l) (left t (b ++ m)) (ran h s l) (told h s l)) v (x .records)
       ∙ ap₂ (λ z w. made (bad number place) t₁ (left t b) z w) ran-longer told-longer
 
-  then-more : handed t (b ++ m) s ≡ joined (handed t b s) (feed (handed t b s .position) (handed t b s .state) m)
+  then-more : handed t (b ++ m) s ≡ fedOn (handed t b s) (feed (handed t b s .position) (handed t b s .state) m)
   unfolding feed pick andThen
   then-more =
-      let two : Judged (Unit {0}) → Fed = λ v. joined (made v t₁ (left t b) state₁ told₁) (feed (moved v t₁ (left t b)) state₁ m) in
+      let two : Judged (Unit {0}) → Fed = λ v. fedOn (made v t₁ (left t b) state₁ told₁) (feed (moved v t₁ (left t b)) state₁ m) in
       by-judged (soFar (readAt t b))
       (λ a e. on ∙ ap two (sym e))
       (λ number place e. off number place e ∙ ap (made (bad number place) t₁ (left t b) state₁) (sym (append-nil told₁)) ∙ ap two (sym e))
@@ -118,19 +118,19 @@ module _ (p : Position) (s : State) (l : List ℕ) where
   not-over e = sym (no _ _ _ e refl)
 
 -- ---- cuts don't matter
-pub cuts : (p : Position) (s : State) (l m : List ℕ) → feed p s (l ++ m) ≡ joined (feed p s l) (feed (feed p s l .position) (feed p s l .state) m)
+pub cuts : (p : Position) (s : State) (l m : List ℕ) → feed p s (l ++ m) ≡ fedOn (feed p s l) (feed (feed p s l .position) (feed p s l .state) m)
 unfolding andThen
 cuts p s l m =
     by-cases (p .over)
     (λ e. after-over p s (l ++ m) e
-    ∙ ap₂ (λ x y. joined x y) (sym (after-over p s l e)) (sym (ap (λ x. feed (x .position) (x .state) m) (after-over p s l e) ∙ after-over p s m e)))
+    ∙ ap₂ (λ x y. fedOn x y) (sym (after-over p s l e)) (sym (ap (λ x. feed (x .position) (x .state) m) (after-over p s l e) ∙ after-over p s m e)))
     (λ e. not-over p s (l ++ m) e
     ∙ ap (λ x. handed (p .taken) x s) (sym (append-assoc (p .kept) l m)) ∙ then-more (p .taken) (p .kept ++ l) s m
-    ∙ ap (λ x. joined x (feed (x .position) (x .state) m)) (sym (not-over p s l e)))
+    ∙ ap (λ x. fedOn x (feed (x .position) (x .state) m)) (sym (not-over p s l e)))
 
 -- so the parts are what their bytes are as one part
 pub parts : (p : Position) (s : State) (l : List ℕ) (ms : List (List ℕ)) → feeds p s l ms ≡ feed p s (l ++ concat ms)
 unfolding feeds concat
 parts p s l [] = ap (feed p s) (sym (append-nil l))
 parts p s l (m ∷ ms) =
-    ap (joined (feed p s l)) (parts (feed p s l .position) (feed p s l .state) m ms) ∙ sym (cuts p s l (m ++ concat ms))
+    ap (fedOn (feed p s l)) (parts (feed p s l .position) (feed p s l .state) m ms) ∙ sym (cuts p s l (m ++ concat ms))

@@ -43,7 +43,7 @@ use Rattle.take_laws.proofs.Silence.{silence}
 use Rattle.take_laws.proofs.Guarded.{guarded-run, guarded-answers, started-is, started-held, roomy-by}
 use Rattle.take_laws.proofs.SumsOver.{sums-over}
 use Rattle.take_laws.proofs.Kept.{length-cleared}
-use Rattle.part_laws.specs.Beginning.{opened, sizeOf, endsAt, closedAt, whole, done, left, readAt, headingIn}
+use Rattle.part_laws.specs.Beginning.{opened, sizeOf, endsAt, closedAt, whole, done, left, readAt, openedHeading}
 use Rattle.part_laws.specs.Feeding.{begun, soFar, moved, feed, finish}
 use Rattle.part_laws.specs.OneGo.{emptied, fed, said, Taken, OneGo, Mixed}
 use Rattle.part_laws.proofs.Runs.{whole-cut}

@@ -20,7 +20,7 @@ use Rattle.take_state.specs.State.{State}
 use Rattle.take_laws.specs.Machine.{run, answers}
 use Rattle.take_laws.specs.Taking.{frameOf, recordAnswer, recordStep}
 use Rattle.take_laws.proofs.Runs.{length-answers}
-use Rattle.part_laws.specs.Beginning.{opened, sizeOf, endsAt, closedAt, done, left, readAt, headingIn}
+use Rattle.part_laws.specs.Beginning.{opened, sizeOf, endsAt, closedAt, done, left, readAt, openedHeading}
 use Rattle.part_laws.specs.Feeding.{Position, begun, ended, soFar, moved, feed, finish, closing}
 use Rattle.part_laws.specs.Entries.{placedBy, placed, endsBy, ends}
 use Rattle.part_laws.proofs.Opened.{opened-within}
@@ -63,7 +63,7 @@ feed-moved p s f l =
     let b = p .kept ++ l in
     let t = p .taken in
     let x = not-over p s l f in
-    let h = frameOf (headingIn b) in
+    let h = frameOf (openedHeading b) in
     let place = ap (λ y. y .position) x in
     let says = ap (λ y. y .verdict) x in
     record {

@@ -23,8 +23,8 @@ use Rattle.take_state.specs.State.{State}
 use Rattle.take_laws.specs.Machine.{run, answers}
 use Rattle.take_laws.specs.Taking.{frameOf, recordAnswer, recordStep}
 use Rattle.take_laws.proofs.Runs.{length-answers}
-use Rattle.part_laws.specs.Beginning.{opened, done, left, readAt, headingIn}
-use Rattle.part_laws.specs.Feeding.{Position, begun, ended, soFar, moved, Fed, handed, feed, finish, joined}
+use Rattle.part_laws.specs.Beginning.{opened, done, left, readAt, openedHeading}
+use Rattle.part_laws.specs.Feeding.{Position, begun, ended, soFar, moved, Fed, handed, feed, finish, fedOn}
 use Rattle.part_laws.specs.OneGo.{emptied, fed}
 use Rattle.part_laws.specs.Entries.{positionMost, positionOf, heldOf, tidy, parametersIn, roomFor, placed, led, fair, soundAt, partNumber, partPosition, partState, partAnswers, toldForm, partTold, beginNumber, beginState}
 use Rattle.part_laws.specs.Sequence.{Piece, bytesIn, formOf, Gone, gonePart, goneOn, gone, Enough, goneOf}
@@ -161,7 +161,7 @@ gone-feed q s fit going (x ∷ xs) e =
     let f = feed q s (x .bytes) in
     let rest = bytesIn xs in
     let one : gonePart (heldOf q) s x ≡ goneOf f = one-gone q s fit going x (e .0 going) in
-    let both-parts : Fed = joined f (feed (f .position) (f .state) rest) in
+    let both-parts : Fed = fedOn f (feed (f .position) (f .state) rest) in
     let more : Enough (heldOf (f .position)) (f .state) xs = subst₂ (λ p z. Enough p z xs) (ap (λ y. y .position) one) (ap (λ y. y .state) one) (e .1) in
     ap (λ y. goneOn y (gone (y .position) (y .state) xs)) one
     ∙ by-judged (f .verdict)

@@ -18,7 +18,7 @@ use Rattle.arc_read.specs.Arc.{Arc}
 use Rattle.take_state.specs.State.{State}
 use Rattle.take_laws.specs.Machine.{run, answers}
 use Rattle.take_laws.specs.Taking.{frameOf, recordAnswer, recordStep}
-use Rattle.part_laws.specs.Beginning.{opened, sizeOf, endsAt, closedAt, whole, behind, done, left, readAt, headingIn}
+use Rattle.part_laws.specs.Beginning.{opened, sizeOf, endsAt, closedAt, whole, behind, done, left, readAt, openedHeading}
 use Rattle.part_laws.specs.Feeding.{Position, begun, ended, soFar, moved, Fed, handed, feed}
 use Rattle.part_laws.specs.Entries.{placedBy, placed}
 use Rattle.part_laws.proofs.Runs.{more, whole-long, whole-more, behind-more}
@@ -256,7 +256,7 @@ module _ (p : Position) (ok : placed p ≡ true) (s : State) (f : p .over ≡ fa
   unfolding run answers
   feed-is d k v =
       let t = p .taken in
-      let h = frameOf (headingIn (p .kept)) in
+      let h = frameOf (openedHeading (p .kept)) in
       not-over p s [] f
       ∙ ap (λ b. handed t b s) (append-nil (p .kept))
       ∙ (λ i. record {

@@ -35,7 +35,7 @@ use Rattle.take_laws.proofs.Parts as Goods
 use Rattle.take_laws.proofs.Accepted.{accepted-in}
 use Rattle.take_laws.proofs.Kept.{Shaped, step-keeps, book-accepted, empty-sound, length-cleared}
 use Rattle.take_laws.proofs.Guarded.{Held, Whole, whole, whole-none, roomy-by, held-run, held-step, held-shaped, held-heading, fine}
-use Rattle.part_laws.specs.Beginning.{opened, done, left, readAt, headingIn}
+use Rattle.part_laws.specs.Beginning.{opened, done, left, readAt, openedHeading}
 use Rattle.part_laws.specs.Feeding.{Position, begun, soFar, moved, feed}
 use Rattle.part_laws.specs.OneGo.{emptied}
 use Rattle.part_laws.specs.Entries.{countBy, parametersIn, placedBy, placed, soundBy, soundAt}
@@ -192,13 +192,13 @@ module _ (p : Position) (s : State) (fit : Fit p s) (l : List ℕ) where
   next = record { kept = left t b; taken = t + length (done t b); over = false }
 
   abbrev after : State
-  after = run (recordStep (frameOf (headingIn b))) s (done t b)
+  after = run (recordStep (frameOf (openedHeading b))) s (done t b)
 
   fit-before : (number place : ℕ) → opened b ≡ bad number place → placed next ≡ true → Fit next after
   unfolding soundAt run
   fit-before number place o v =
       let kept = left-bad t b o in
-      let same-state : s ≡ after = sym (ap (run (recordStep (frameOf (headingIn b))) s) (done-bad t b o)) in
+      let same-state : s ≡ after = sym (ap (run (recordStep (frameOf (openedHeading b))) s) (done-bad t b o)) in
       subst (Fit next) same-state
       (record {
         place = v;

@@ -26,7 +26,7 @@ use Rattle.take_laws.specs.Mix.{pairs, taken, toldTo}
 use Rattle.take_laws.specs.SumsOver.{partialOf, SumsOver}
 use Rattle.take_laws.specs.Order.{whose, Mixes}
 use Rattle.num_whole.specs.Lists.{Each}
-use Rattle.part_laws.specs.Beginning.{opened, closedAt, done, readAt, headingIn}
+use Rattle.part_laws.specs.Beginning.{opened, closedAt, done, readAt, openedHeading}
 use Rattle.part_laws.specs.Feeding.{Position, begun, Fed, feed, finish, closing}
 use Rattle.part_laws.specs.OneGo.{emptied, fed, said}
 use Rattle.part_laws.specs.Entries.{positionMost, positionOf, heldOf, tidy, roomFor, placed, ends, led, fair, took, beginNumber, beginState, toldEnd, finishNumber, finishTold, finishPosition, headingTold, headingGiven}
@@ -84,7 +84,7 @@ module _ (q : Position) (s : State) (fit : Fit q s) (going : q .over ≡ false) 
     asks-heading =
         ap headingGiven leads-last
         ∙ sym (yes _ _ _ fair-last refl)
-        ∙ ap (λ x. headingIn (x .kept)) (position-back last)
+        ∙ ap (λ x. openedHeading (x .kept)) (position-back last)
         ∙ heading-good 0 (q .kept) a (finish-all q (fit .place) going a e .opens)
 
 -- ---- from begin on

@@ -69,5 +69,5 @@ abbrev pub headingBy : Judged Arc → Heading
 headingBy (good a) = a .heading
 headingBy (bad number place) = blankHeading
 
-unfoldable pub headingIn : List ℕ → Heading
-headingIn s = headingBy (opened s)
+unfoldable pub openedHeading : List ℕ → Heading
+openedHeading s = headingBy (opened s)

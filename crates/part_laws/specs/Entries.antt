@@ -19,7 +19,7 @@ use Rattle.arc_read.specs.Arc.{Arc}
 use Rattle.num_packed.specs.Triangle.{tri}
 use Rattle.take_tally.specs.Tally.{accepted, emptyTally}
 use Rattle.take_state.specs.State.{State, stateOf, soundState}
-use Rattle.part_laws.specs.Beginning.{opened, sizeOf, done, headingIn}
+use Rattle.part_laws.specs.Beginning.{opened, sizeOf, done, openedHeading}
 use Rattle.part_laws.specs.Feeding.{Position, ended, feed, finish, closing}
 use Rattle.part_laws.specs.OneGo.{emptied}
 use Rattle.part_laws.specs.declared.Position as ByValue
@@ -163,4 +163,4 @@ unfoldable pub headingTold : ByValue.Position → Told
 headingTold p = pick (fair p) (toldEnd (opened (positionOf p .kept)) (p .taken)) (stopped 6)
 
 unfoldable pub headingGiven : ByValue.Position → Heading
-headingGiven p = pick (fair p) (headingIn (positionOf p .kept)) blankHeading
+headingGiven p = pick (fair p) (openedHeading (positionOf p .kept)) blankHeading

@@ -11,7 +11,7 @@ use Rattle.arc_read.specs.Arc.{Arc}
 use Rattle.take_state.specs.State.{State}
 use Rattle.take_laws.specs.Machine.{run, answers}
 use Rattle.take_laws.specs.Taking.{Frame, frameOf, recordAnswer, recordStep}
-use Rattle.part_laws.specs.Beginning.{done, left, readAt, headingIn}
+use Rattle.part_laws.specs.Beginning.{done, left, readAt, openedHeading}
 
 -- A position: the bytes handed over without those of the records taken, so the heading as far as it is read and the bytes of an unfinished
 -- count or record; how many records were taken; whether the file is over. One that is over after a refusal keeps no bytes, one after a finish
@@ -47,7 +47,7 @@ pub record Fed : Type 0 where
 -- the bytes s of a file without `taken` records: the whole ones are taken
 module _ (taken : ℕ) (s : List ℕ) (old : State) where
   abbrev frame : Frame
-  frame = frameOf (headingIn s)
+  frame = frameOf (openedHeading s)
 
   abbrev pub handed : Fed
   handed =
@@ -73,8 +73,8 @@ closing (good a) p = record { kept = p .kept; taken = p .taken; over = true }
 closing (bad number place) p = ended (p .taken)
 
 -- ---- one part after another: the answers of both; of the form, what the first refuses, else what the second says
-abbrev pub joined : Fed → Fed → Fed
-joined x y =
+abbrev pub fedOn : Fed → Fed → Fed
+fedOn x y =
     record {
       position = y .position;
       state = y .state;
@@ -90,4 +90,4 @@ concat (l ∷ ls) = l ++ concat ls
 -- a part, and the parts after it
 unfoldable pub feeds : Position → State → List ℕ → List (List ℕ) → Fed
 feeds p s l [] = feed p s l
-feeds p s l (m ∷ ms) = joined (feed p s l) (feeds (feed p s l .position) (feed p s l .state) m ms)
+feeds p s l (m ∷ ms) = fedOn (feed p s l) (feeds (feed p s l .position) (feed p s l .state) m ms)

@@ -31,7 +31,7 @@ use Rattle.take_tally.specs.Tally.{accepted, tallySound}
 use Rattle.take_state.specs.State.{State, matrixTop, rightTop, matrixSound, rightsSound, soundState, roomNumber, stateNumber}
 use Rattle.part_laws.specs.Entries.{countBy, parametersIn, soundBy}
 use Rattle.part_laws.proofs.States.{none-accepted}
-use Rattle.part_place.specs.Looks.{Roomy}
+use Rattle.part_place.specs.Looks.{RoomAt}
 
 -- ---- the parameters
 module _ (s : List ℕ) where
@@ -75,8 +75,8 @@ module _ (parameters taken : ℕ) (s : State) (j : Judged Arc) where
   sound-unread number place e f = f ∙ ap (soundBy parameters taken s) (sym e)
 
 -- what has room
-pub roomy-read : (j : Judged Arc) (m r : List ℤ) (a : Arc) → Roomy j m r → j ≡ good a → roomNumber (a .heading) m r ≡ 0
-roomy-read j m r a v e = subst (λ k. Roomy k m r) e v
+pub roomy-read : (j : Judged Arc) (m r : List ℤ) (a : Arc) → RoomAt j m r → j ≡ good a → roomNumber (a .heading) m r ≡ 0
+roomy-read j m r a v e = subst (λ k. RoomAt k m r) e v
 
 -- ---- a state that holds nothing
 module _ (p : ℕ) (s : State) (long : length (s .tally .counts) ≡ stationsMost) where

@@ -37,6 +37,6 @@ pub record FrontOf (p : ByValue.Position) (l : List ℕ) (f : Front) : Type 0 wh
   pub long : f .held ≡ length (positionOf p .kept)
 
 -- sums that have room for what was opened, whose heading is sound
-abbrev pub Roomy : Judged Arc → List ℤ → List ℤ → Type 0
-Roomy (good a) m r = roomNumber (a .heading) m r ≡ 0
-Roomy (bad number place) m r = Unit {0}
+abbrev pub RoomAt : Judged Arc → List ℤ → List ℤ → Type 0
+RoomAt (good a) m r = roomNumber (a .heading) m r ≡ 0
+RoomAt (bad number place) m r = Unit {0}

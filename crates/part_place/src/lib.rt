@@ -31,7 +31,7 @@ ghost use Rattle.part_laws.specs.Beginning.{readAt};
 ghost use Rattle.part_laws.specs.Feeding.{ended, begun, closing};
 ghost use Rattle.part_laws.specs.Entries.{positionMost, positionOf, heldOf, tidy, fair, parametersIn, placedBy, endsBy, soundBy, toldPart, toldEnd};
 ghost use Rattle.part_open.specs.Told.{toldOpening};
-ghost use Rattle.part_place.specs.Looks.{completedBy, OpensAt, FrontOf, Roomy};
+ghost use Rattle.part_place.specs.Looks.{completedBy, OpensAt, FrontOf, RoomAt};
 
 // ---- positions
 
@@ -269,7 +269,7 @@ pub fn is_sound_at(
     rights: &[i64],
 ) -> bool
     requires { ⌜ (parameters ≤ parametersMost) × (tri parameters ≤ length (now matrix)) × (parameters ≤ length (now rights)) ⌝ }
-    requires { ⌜ Roomy (toldOpening old) (now matrix) (now rights) ⌝ }
+    requires { ⌜ RoomAt (toldOpening old) (now matrix) (now rights) ⌝ }
     ensures { λ r. ⌜ r ≡ soundBy parameters taken (stateOf (now (matrix .entry)) (now (rights .entry)) t) (toldOpening old) ⌝ }
 {
     let answer = old.answer;

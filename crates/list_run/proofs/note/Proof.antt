@@ -6,7 +6,7 @@ use native.Mathlib.Omega.{arith}
 use lib.ListN.{length, length-take}
 use borrow.Author.Needs.{needs}
 use Rattle.part_laws.specs.Entries.{took, toldPart}
-use Rattle.list_tallies.specs.Tables.{Roomy}
+use Rattle.list_tallies.specs.Tables.{CountsFit}
 use Rattle.list_run.specs.Course.{heardAs, countedBy, Countable}
 use Rattle.list_run.proofs.note.Statement.{statement}
 use Rattle.list_run.proofs.note.Tie as tie

@@ -5,14 +5,14 @@ use mathlib.Core.Path.{_≡_, refl, sym, ap, _∙_}
 use native.Mathlib.Omega.{arith}
 use lib.ListN.{length, getD, drop}
 use borrow.Author.Needs.{needs}
-use Rattle.list_tallies.specs.Tables.{counted, Roomy}
+use Rattle.list_tallies.specs.Tables.{counted, CountsFit}
 use Rattle.list_tallies.proofs.Counts.{counted-end, counted-turn, bumped-most}
 use Rattle.list_tallies.proofs.count.Statement.{statement}
 use Rattle.list_tallies.proofs.count.Tie as tie
 
 abbrev Inv-loop : tie.InvT-loop
 Inv-loop table₀ told i₀ table i =
-    (i ≤ length told) × (length table ≡ length table₀) × Roomy table (length told - i) × (counted table (drop i told) ≡ counted table₀ told)
+    (i ≤ length told) × (length table ≡ length table₀) × CountsFit table (length told - i) × (counted table (drop i told) ≡ counted table₀ told)
 
 abbrev μ-loop : tie.MeasureT-loop
 μ-loop table₀ told i₀ table i = length told - i
