@@ -31,7 +31,8 @@ use Rattle.take_laws.specs.Taking.{frameOf, recordAnswer, recordStep, recordsIn
 use Rattle.part_laws.specs.Beginning.{opened, sizeOf, done, left, readAt, openedHeading}
 use Rattle.part_laws.specs.Feeding.{Position, begun, Fed, moved, handed, feed, finish, fedOn}
 use Rattle.part_laws.specs.OneGo.{emptied}
-use Rattle.part_laws.specs.Entries.{positionMost, positionOf, heldOf, tidy, fair, Told, took, stopped, broken, partTold, partPosition, partState, partAnswers, toldForm, toldEnd, beginNumber, beginState, roomFor, finishNumber, finishTold, headingGiven}
+use Rattle.num_packed.specs.Room.{sumsRoomy}
+use Rattle.part_laws.specs.Entries.{positionMost, positionOf, heldOf, tidy, fair, Told, took, stopped, broken, partTold, partPosition, partState, partAnswers, toldForm, toldEnd, beginNumber, beginState, finishNumber, finishTold, headingGiven}
 use Rattle.part_laws.specs.declared.Position as ByValue
 use Rattle.part_laws.proofs.ByValue.{position-back, held-tidy}
 use Rattle.part_laws.proofs.Cuts.{done-good, done-bad, heading-good, opened-left}
@@ -71,7 +72,7 @@ unfolding emptied noSums noSides
 emptied-so m r a b = ap₂ (λ x y. stateOf x y emptyTally) (cleared-all (tri parametersMost) m (a ∙ sym fifty) ∙ ap (λ n. replicate n (pos 0)) fifty) (cleared-all parametersMost r b)
 
 pub begin-state : (m r : List ℤ) → length m ≡ arcSumsMost → length r ≡ parametersMost → beginState m r ≡ emptyState
-unfolding beginState beginNumber roomFor
+unfolding beginState beginNumber sumsRoomy
 begin-state m r a b =
     let none : beginNumber m r ≡ 0 = first-one _ ∙ unless-true 20 _ (sym (holds _ _ (is-upTo _ _ (omega (arith, fifty))) (sym (is-upTo _ _ (omega arith))))) in
     sym (yes _ _ _ (is-same _ _ none) refl) ∙ emptied-so m r a b

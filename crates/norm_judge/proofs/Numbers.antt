@@ -12,7 +12,8 @@ use Rattle.refusal.specs.First.{answered}
 use Rattle.refusal.specs.declared.Refusal.the-variants.{Room, Count, Limits, Order, Unsound}
 use Rattle.refusal.proofs.Firsts.{unless-true, unless-false, first-pass, first-by, first-none-left, answered-given, answered-by}
 use Rattle.norm_system.specs.System.{System}
-use Rattle.norm_room.specs.Room.{systemInRooms, headsRoomy, sumsRoomy, countsFit, fieldsFit, ordersFit, sumsFit, systemNumber}
+use Rattle.num_packed.specs.Room.{sumsRoomy}
+use Rattle.norm_room.specs.Room.{systemInRooms, headsRoomy, countsFit, fieldsFit, ordersFit, sumsFit, systemNumber}
 use Rattle.norm_judge.specs.Judge.{HeadsFit, Roomed, sumsNumber, valuesNumber}
 
 -- ---- 2 and 20

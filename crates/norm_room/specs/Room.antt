@@ -14,6 +14,7 @@ use Rattle.num_whole.specs.Lists.{all, ascend}
 use Rattle.byte_section.specs.Section.{encoded}
 use Rattle.refusal.specs.First.{unless, first}
 use Rattle.num_packed.specs.Triangle.{tri}
+use Rattle.num_packed.specs.Room.{sumsRoomy}
 use Rattle.norm_system.specs.System.{System, arcOk, normalLabelOk, keyOf, Where, nowhere, inMatrix, inRights, inAccepted, inSquare, unsoundIn}
 use Rattle.norm_system.specs.declared.NormalLabel.{NormalLabel}
 use Rattle.byte_words.specs.Stands.{stands}
@@ -64,11 +65,7 @@ fileLong a p = 36 + 4 * a + 32 * p + 8 * tri p
 unfoldable pub headsRoomy : ℕ → ℕ → ℕ → Bool
 headsRoomy a p heads = upTo (headsLong a p) heads
 
--- 20: and so have the rooms of the matrix sums and the right sides
-unfoldable pub sumsRoomy : ℕ → ℕ → ℕ → Bool
-sumsRoomy p matrix rights = both (upTo (tri p) matrix) (upTo p rights)
-
--- 20 for all three
+-- 20 for all three: and so have the rooms of the matrix sums and the right sides
 unfoldable pub roomyFor : ℕ → ℕ → ℕ → ℕ → ℕ → Bool
 roomyFor a p heads matrix rights = both (headsRoomy a p heads) (sumsRoomy p matrix rights)
 

@@ -2,7 +2,8 @@
 ghost use mathlib.Core.Path.{_≡_};
 ghost use Prim.Native.Nat.{_+_, _*_, _≤_};
 ghost use Rattle.num_limits.specs.Capacities.{arcsMost, labelsMost};
-ghost use Rattle.norm_room.specs.Room.{headsRoomy, sumsRoomy, roomyFor, fileLong};
+ghost use Rattle.num_packed.specs.Room.{sumsRoomy};
+ghost use Rattle.norm_room.specs.Room.{headsRoomy, roomyFor, fileLong};
 
 // The length of a file of so many arcs and parameters.
 pub fn needed(arcs: usize, parameters: usize) -> usize

@@ -19,7 +19,8 @@ use Rattle.byte_words.specs.Stands.{stands}
 use Rattle.byte_words.proofs.Stands.{length-stands}
 use Rattle.norm_kinds.specs.Kinds.{normalLabelAt}
 use Rattle.norm_heads.specs.Heads.{arcsAt}
-use Rattle.norm_room.specs.Room.{headsLong, labelNumbers, headsRoomy, sumsRoomy, roomyFor}
+use Rattle.num_packed.specs.Room.{sumsRoomy}
+use Rattle.norm_room.specs.Room.{headsLong, labelNumbers, headsRoomy, roomyFor}
 use Rattle.norm_unpack.specs.Parts.{labelNumbersFrom, headsAt}
 
 -- ---- a label

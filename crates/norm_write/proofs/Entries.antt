@@ -24,7 +24,8 @@ use Rattle.norm_kinds.specs.Bytes.{normalBytes}
 use Rattle.norm_read.specs.Normal.{Normal, readNormal}
 use Rattle.norm_read.proofs.Accepted.{accepted-sound}
 use Rattle.norm_read.proofs.Back.{placed}
-use Rattle.norm_room.specs.Room.{headsLong, systemInRooms, headsOf, headsRoomy, sumsRoomy, roomyFor, systemNumber}
+use Rattle.num_packed.specs.Room.{sumsRoomy}
+use Rattle.norm_room.specs.Room.{headsLong, systemInRooms, headsOf, headsRoomy, roomyFor, systemNumber}
 use Rattle.norm_judge.specs.Judge.{Roomed}
 use Rattle.norm_put.proofs.Laid.{arcs-in, labels-in}
 use Rattle.norm_unpack.specs.Unpack.{roomily, unpackNormal, filled, matrixOf, rightsOf}

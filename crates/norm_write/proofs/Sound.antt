@@ -12,7 +12,8 @@ use Rattle.refusal.proofs.Firsts.{unless-true, unless-none, first-pass, first-n
 use Rattle.num_packed.specs.Triangle.{tri}
 use Rattle.norm_system.specs.System.{System, Where, nowhere, inMatrix, inRights, inAccepted, inSquare}
 use Rattle.norm_system.proofs.Sound.{SoundSystem}
-use Rattle.norm_room.specs.Room.{systemInRooms, headsRoomy, sumsRoomy, countsFit, fieldsFit, ordersFit, isNowhere, sumsFit, systemNumber, fileLong}
+use Rattle.num_packed.specs.Room.{sumsRoomy}
+use Rattle.norm_room.specs.Room.{systemInRooms, headsRoomy, countsFit, fieldsFit, ordersFit, isNowhere, sumsFit, systemNumber, fileLong}
 use Rattle.norm_put.proofs.Laid.{arcs-in, labels-in, matrix-in, rights-in, file-long}
 use Rattle.norm_judge.specs.Judge.{Roomed}
 use Rattle.norm_judge.proofs.Numbers.{headed, roomed}

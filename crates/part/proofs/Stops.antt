@@ -7,7 +7,7 @@ use mathlib.Core.Bool.{Bool, true, false}
 use native.Mathlib.Omega.{arith}
 use lib.IntN.{ℤ}
 use lib.ListN.{length}
-use Rattle.num_whole.specs.Tests.{upTo, same, pick, both}
+use Rattle.num_whole.specs.Tests.{same, pick, both}
 use Rattle.num_whole.specs.Answer.{Judged, good, bad, given, refused}
 use Rattle.num_whole.proofs.Cases.{yes, no, is-same, not-same, is-upTo, not-upTo, upTo-true, both-first, both-second}
 use Rattle.num_limits.specs.Capacities.{parametersMost}
@@ -24,19 +24,19 @@ use Rattle.take_state.specs.State.{State, stateOf}
 use Rattle.part_laws.specs.Beginning.{opened, done, readAt, headingBy, openedHeading}
 use Rattle.part_laws.specs.Feeding.{Position, feed, finish, closing}
 use Rattle.part_laws.specs.OneGo.{emptied}
-use Rattle.part_laws.specs.Entries.{positionOf, heldOf, fair, soundAt, parametersIn, roomFor, Told, took, stopped, broken, beginNumber, beginState, partNumber, partPosition, partState, partAnswers, partTold, toldEnd, finishNumber, finishTold, finishPosition, headingTold, headingGiven}
+use Rattle.num_packed.specs.Room.{sumsRoomy}
+use Rattle.part_laws.specs.Entries.{positionOf, heldOf, fair, soundAt, parametersIn, Told, took, stopped, broken, beginNumber, beginState, partNumber, partPosition, partState, partAnswers, partTold, toldEnd, finishNumber, finishTold, finishPosition, headingTold, headingGiven}
 use Rattle.part_laws.specs.declared.Position as ByValue
 
 -- ---- the room, as the code asks for it
 pub room-asked : (k n : ℕ) (m r : List ℤ) → k ≡ n → n ≤ parametersMost
-    → both (upTo (tri (min k parametersMost)) (length m)) (upTo (min k parametersMost) (length r)) ≡ roomFor n m r
-unfolding roomFor
+    → sumsRoomy (min k parametersMost) (length m) (length r) ≡ sumsRoomy n (length m) (length r)
 room-asked k n m r e h =
     let least : min k parametersMost ≡ n = omega arith in
-    ap (λ i. both (upTo (tri i) (length m)) (upTo i (length r))) least
+    ap (λ i. sumsRoomy i (length m) (length r)) least
 
-pub room-given : (n : ℕ) (m r : List ℤ) → roomFor n m r ≡ true → (tri n ≤ length m) × (n ≤ length r)
-unfolding roomFor
+pub room-given : (n m r : ℕ) → sumsRoomy n m r ≡ true → (tri n ≤ m) × (n ≤ r)
+unfolding sumsRoomy
 room-given n m r e = (upTo-true _ _ (both-first _ _ e), upTo-true _ _ (both-second _ _ e))
 
 -- ---- a part
@@ -65,12 +65,12 @@ module _ (p : ByValue.Position) (s : State) (l out : List ℕ) where
 
   module _ (going : p .over ≡ false) where
     -- 20: the sums
-    pub stop-room : roomFor (parametersIn (positionOf p .kept)) (s .matrix) (s .rights) ≡ false → Outcome (stopped 20) p s out
+    pub stop-room : sumsRoomy (parametersIn (positionOf p .kept)) (length (s .matrix)) (length (s .rights)) ≡ false → Outcome (stopped 20) p s out
     unfolding partNumber
     stop-room e =
         stops 20 (first-pass _ _ (when-false 28 _ going) ∙ first-stop _ _ (λ x. omega (arith, unless-false 20 _ e)) ∙ unless-false 20 _ e) (λ z. omega arith)
 
-    module _ (room : roomFor (parametersIn (positionOf p .kept)) (s .matrix) (s .rights) ≡ true) where
+    module _ (room : sumsRoomy (parametersIn (positionOf p .kept)) (length (s .matrix)) (length (s .rights)) ≡ true) where
       -- 20: the answers
       pub stop-answers : length out < length (done (p .taken) (positionOf p .kept ++ l)) → Outcome (stopped 20) p s out
       unfolding partNumber
@@ -105,7 +105,7 @@ module _ (p : ByValue.Position) (s : State) (l out : List ℕ) where
 
   module _ (e : partNumber p s l (length out) ≡ 0) where
     pub fine : Fine
-    unfolding partNumber roomFor
+    unfolding partNumber sumsRoomy
     fine =
         let a = first-none _ _ e in
         let b = first-none _ _ (a .1) in
@@ -150,11 +150,11 @@ module _ (p : ByValue.Position) where
 
 -- ---- begin
 module _ (m r : List ℤ) where
-  pub begins : roomFor parametersMost m r ≡ true → (given (tt {0}) ≡ answered (beginNumber m r) tt) × (emptied m r ≡ beginState m r)
+  pub begins : sumsRoomy parametersMost (length m) (length r) ≡ true → (given (tt {0}) ≡ answered (beginNumber m r) tt) × (emptied m r ≡ beginState m r)
   unfolding beginNumber beginState
   begins e = let k = first-one _ ∙ unless-true 20 _ e in (answered-given _ tt k, yes _ _ _ (is-same _ _ k) refl)
 
-  pub begins-not : roomFor parametersMost m r ≡ false → (refused 20 ≡ answered (beginNumber m r) (tt {0})) × (stateOf m r emptyTally ≡ beginState m r)
+  pub begins-not : sumsRoomy parametersMost (length m) (length r) ≡ false → (refused 20 ≡ answered (beginNumber m r) (tt {0})) × (stateOf m r emptyTally ≡ beginState m r)
   unfolding beginNumber beginState
   begins-not e =
       let k = first-one _ ∙ unless-false 20 _ e in

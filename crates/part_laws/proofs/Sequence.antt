@@ -26,7 +26,8 @@ use Rattle.take_laws.proofs.Runs.{length-answers}
 use Rattle.part_laws.specs.Beginning.{opened, done, left, readAt, openedHeading}
 use Rattle.part_laws.specs.Feeding.{Position, begun, ended, soFar, moved, Fed, handed, feed, finish, fedOn}
 use Rattle.part_laws.specs.OneGo.{emptied, fed}
-use Rattle.part_laws.specs.Entries.{positionMost, positionOf, heldOf, tidy, parametersIn, roomFor, placed, led, fair, soundAt, partNumber, partPosition, partState, partAnswers, toldForm, partTold, beginNumber, beginState}
+use Rattle.num_packed.specs.Room.{sumsRoomy}
+use Rattle.part_laws.specs.Entries.{positionMost, positionOf, heldOf, tidy, parametersIn, placed, led, fair, soundAt, partNumber, partPosition, partState, partAnswers, toldForm, partTold, beginNumber, beginState}
 use Rattle.part_laws.specs.Sequence.{Piece, bytesIn, formOf, Gone, gonePart, goneOn, gone, Enough, goneOf}
 use Rattle.part_laws.specs.declared.Position as ByValue
 use Rattle.part_laws.proofs.ByValue.{position-back, held-tidy}
@@ -42,7 +43,7 @@ module _ (p : ByValue.Position) (s : State) (fit : Fit (positionOf p) s) (clean 
   fair-going = sym (holds _ _ clean (no _ _ _ going (sym (fit .place))))
 
   pub part-goes : (room : ℕ) → length (done (p .taken) (positionOf p .kept ++ l)) ≤ room → partNumber p s l room ≡ 0
-  unfolding partNumber roomFor
+  unfolding partNumber sumsRoomy
   part-goes room enough =
       first-pass _ _ (when-false 28 _ going)
       ∙ first-pass _ _ (unless-true 20 _ (sym (holds _ _ (is-upTo _ _ (fit .matrix)) (sym (is-upTo _ _ (fit .rights))))))

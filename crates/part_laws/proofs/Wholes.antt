@@ -29,7 +29,8 @@ use Rattle.num_whole.specs.Lists.{Each}
 use Rattle.part_laws.specs.Beginning.{opened, closedAt, done, readAt, openedHeading}
 use Rattle.part_laws.specs.Feeding.{Position, begun, Fed, feed, finish, closing}
 use Rattle.part_laws.specs.OneGo.{emptied, fed, said}
-use Rattle.part_laws.specs.Entries.{positionMost, positionOf, heldOf, tidy, roomFor, placed, ends, led, fair, took, beginNumber, beginState, toldEnd, finishNumber, finishTold, finishPosition, headingTold, headingGiven}
+use Rattle.num_packed.specs.Room.{sumsRoomy}
+use Rattle.part_laws.specs.Entries.{positionMost, positionOf, heldOf, tidy, placed, ends, led, fair, took, beginNumber, beginState, toldEnd, finishNumber, finishTold, finishPosition, headingTold, headingGiven}
 use Rattle.part_laws.specs.Sequence.{Piece, bytesIn, formOf, Gone, gone, Enough, goneOf, formOnly, goneAll, GoodForm, BadForm, TakenParts, MixedParts}
 use Rattle.part_laws.proofs.ByValue.{position-back, held-tidy}
 use Rattle.part_laws.proofs.Cuts.{heading-good}
@@ -94,7 +95,7 @@ form-end (bad number place) n = refl
 
 module _ (m r : List ℤ) (wide : tri parametersMost ≤ length m) (high : parametersMost ≤ length r) where
   pub begin-none : beginNumber m r ≡ 0
-  unfolding beginNumber roomFor
+  unfolding beginNumber sumsRoomy
   begin-none = first-one _ ∙ unless-true 20 _ (sym (holds _ _ (is-upTo _ _ wide) (sym (is-upTo _ _ high))))
 
   pub begin-empty : beginState m r ≡ emptied m r

@@ -16,7 +16,7 @@ use Rattle.arc_kinds.specs.Kinds.{settingsKind}
 use Rattle.arc_heading.specs.declared.Heading.{Heading}
 use Rattle.arc_front.specs.Front.{blankHeading}
 use Rattle.arc_read.specs.Arc.{Arc}
-use Rattle.num_packed.specs.Triangle.{tri}
+use Rattle.num_packed.specs.Room.{sumsRoomy}
 use Rattle.take_tally.specs.Tally.{accepted, emptyTally}
 use Rattle.take_state.specs.State.{State, stateOf, soundState}
 use Rattle.part_laws.specs.Beginning.{opened, sizeOf, done, openedHeading}
@@ -54,9 +54,6 @@ countBy (bad number place) = parametersMost
 
 unfoldable pub parametersIn : List ℕ → ℕ
 parametersIn s = countBy (andThen (sectionAt settingsKind s 1 1 0) (λ a. countAt s (a .next) 1 parametersMost))
-
-unfoldable pub roomFor : ℕ → List ℤ → List ℤ → Bool
-roomFor p m r = both (upTo (tri p) (length m)) (upTo p (length r))
 
 -- ---- 6: no use of the entries leads to such a position. Before a file is opened it has taken no record, and more bytes may open it; once opened
 -- it has taken no more than there are, and keeps no whole record, and no byte after the last
@@ -106,7 +103,7 @@ toldPart (Answers.Broken r place n) = broken (numberOf r) place n
 
 -- ---- begin: "Begin clears room for fifty parameters, since P is not known yet"
 unfoldable pub beginNumber : List ℤ → List ℤ → ℕ
-beginNumber m r = first (unless 20 (roomFor parametersMost m r) ∷ [])
+beginNumber m r = first (unless 20 (sumsRoomy parametersMost (length m) (length r)) ∷ [])
 
 unfoldable pub beginState : List ℤ → List ℤ → State
 beginState m r = pick (same (beginNumber m r) 0) (emptied m r) (stateOf m r emptyTally)
@@ -117,7 +114,7 @@ module _ (p : ByValue.Position) (s : State) where
   partNumber l room =
       first
       (when 28 (p .over)
-      ∷ unless 20 (roomFor (parametersIn (positionOf p .kept)) (s .matrix) (s .rights))
+      ∷ unless 20 (sumsRoomy (parametersIn (positionOf p .kept)) (length (s .matrix)) (length (s .rights)))
       ∷ unless 20 (upTo (length (done (p .taken) (positionOf p .kept ++ l))) room)
       ∷ unless 6 (both (fair p) (soundAt (positionOf p) s))
       ∷ [])

@@ -17,6 +17,7 @@ use Rattle.arc_heading.specs.Judge.{stationsOf, numbersOf, judged}
 use Rattle.arc_heading.specs.declared.Heading.{Heading}
 use Rattle.arc_heading.proofs.Sound.{Sound, sound as sound-heading}
 use Rattle.num_packed.specs.Triangle.{tri}
+use Rattle.num_packed.specs.Room.{sumsRoomy}
 use Rattle.take_tally.specs.Tally.{emptyTally}
 use Rattle.take_room.specs.Room.{cleared}
 use Rattle.take_state.specs.State.{State, stateOf, capped, soundState, roomy, roomNumber, stateNumber, started}
@@ -72,7 +73,7 @@ whole-none h s w =
 
 -- room for the sums of a sound heading
 pub roomed : (h : Heading) (m r : List ℤ) → h .parameters ≤ 50 → roomy h m r ≡ true → (tri (h .parameters) ≤ length m) × (h .parameters ≤ length r)
-unfolding roomy
+unfolding roomy sumsRoomy
 roomed h m r l e =
     let least : capped h ≡ h .parameters = omega arith in (
       subst (λ n. tri n ≤ length m) least (upTo-true _ _ (both-first _ _ e)),
@@ -80,7 +81,7 @@ roomed h m r l e =
     )
 
 pub roomy-by : (h : Heading) (m r : List ℤ) → h .parameters ≤ 50 → tri (h .parameters) ≤ length m → h .parameters ≤ length r → roomy h m r ≡ true
-unfolding roomy
+unfolding roomy sumsRoomy
 roomy-by h m r l a b =
     let least : h .parameters ≡ capped h = omega arith in
     sym (holds _ _ (is-upTo _ _ (subst (λ n. tri n ≤ length m) least a)) (sym (is-upTo _ _ (subst (λ n. n ≤ length r) least b))))

@@ -4,13 +4,12 @@ ghost use mathlib.Core.Path.{_≡_};
 ghost use Prim.Native.Nat.{_≤_, min};
 ghost use lib.ListN.{length};
 ghost use Rattle.num_limits.specs.Capacities.{parametersMost};
-ghost use Rattle.num_whole.specs.Tests.{upTo, both};
-ghost use Rattle.num_packed.specs.Triangle.{tri};
+ghost use Rattle.num_packed.specs.Room.{sumsRoomy};
 ghost use Rattle.take_room.specs.Room.{cleared};
 
 // Whether so many parameters have room for their sums.
 pub fn is_roomy(parameters: usize, matrix: &[i64], rights: &[i64]) -> bool
-    ensures { λ r. ⌜ r ≡ both (upTo (tri (min parameters parametersMost)) (length (now (matrix .entry)))) (upTo (min parameters parametersMost) (length (now (rights .entry)))) ⌝ }
+    ensures { λ r. ⌜ r ≡ sumsRoomy (min parameters parametersMost) (length (now (matrix .entry))) (length (now (rights .entry))) ⌝ }
 {
     let p = num_whole::least(parameters, PARAMETERS_MOST);
     if num_packed::place(0, p) <= matrix.len() {

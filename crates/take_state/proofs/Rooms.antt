@@ -19,6 +19,7 @@ use Rattle.refusal.specs.declared.Refusal.the-variants.{Limits, Room, Unsound}
 use Rattle.refusal.proofs.Apart.{not-none}
 use Rattle.refusal.proofs.Firsts.{unless-true, unless-false, unless-none, first-pass, first-none, first-by, answered-given, answered-refused, answered-by, answered-is, answered-not, first-one}
 use Rattle.num_packed.specs.Triangle.{tri}
+use Rattle.num_packed.specs.Room.{sumsRoomy}
 use Rattle.num_packed.proofs.Places.{tri-within}
 use Rattle.arc_heading.specs.Judge.{judged}
 use Rattle.refusal.specs.Told.{toldVerdict}
@@ -76,7 +77,7 @@ pub record Roomed (h : Heading) (m r : List ℤ) : Type 0 where
   pub rights : h .parameters ≤ length r
 
 pub roomed : (h : Heading) (m r : List ℤ) → roomNumber h m r ≡ 0 → Roomed h m r
-unfolding roomNumber roomy
+unfolding roomNumber roomy sumsRoomy
 roomed h m r e =
     let a = first-none _ _ e in
     let room = unless-none 20 _ (λ z. omega arith) (a .0) in

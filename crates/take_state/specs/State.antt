@@ -7,11 +7,12 @@ use lib.IntN.{ℤ, pos}
 use lib.ListN.{length}
 use Rattle.num_limits.specs.Capacities.{parametersMost}
 use Rattle.take_room.specs.Room.{cleared}
-use Rattle.num_whole.specs.Tests.{less, upTo, same, pick, both, below}
+use Rattle.num_whole.specs.Tests.{less, same, pick, both, below}
 use Rattle.num_whole.specs.Answer.{Answered, given, refused}
 use Rattle.refusal.specs.Number.{numberOf}
 use Rattle.refusal.specs.First.{unless, numberIn, first, answered}
 use Rattle.num_packed.specs.Triangle.{tri}
+use Rattle.num_packed.specs.Room.{sumsRoomy}
 use Rattle.num_packed.specs.Sound.{entry, isZero, breaks, breaksSide}
 use Rattle.arc_heading.specs.Judge.{judged}
 use Rattle.arc_heading.specs.declared.Heading.{Heading}
@@ -63,7 +64,7 @@ capped h = min (h .parameters) parametersMost
 
 -- "a lent buffer shorter than needed": one element for each matrix sum, and one for each right side
 unfoldable pub roomy : Heading → List ℤ → List ℤ → Bool
-roomy h m r = both (upTo (tri (capped h)) (length m)) (upTo (capped h) (length r))
+roomy h m r = sumsRoomy (capped h) (length m) (length r)
 
 -- 20, 2, 4, 5: a heading with room for its state
 unfoldable pub roomNumber : Heading → List ℤ → List ℤ → ℕ

@@ -10,7 +10,6 @@ ghost use Prim.Native.Nat.{_+_, _*_, _^_, _≤_, _<_, min};
 ghost use lib.IntN.{pos};
 ghost use lib.ListN.{length};
 ghost use Rattle.num_limits.specs.Capacities.{acceptedMost, parametersMost};
-ghost use Rattle.num_whole.specs.Tests.{upTo, both};
 ghost use Rattle.num_packed.specs.Triangle.{tri};
 ghost use Rattle.refusal.specs.First.{answered};
 ghost use Rattle.refusal.specs.Told.{toldVerdict};

@@ -2,7 +2,7 @@
 -- Assumes nothing.
 use native.Mathlib.Omega.{arith}
 use Rattle.num_whole.proofs.Cases.{holds, fails, is-upTo, not-upTo, by-upTo}
-use Rattle.norm_room.specs.Room.{sumsRoomy}
+use Rattle.num_packed.specs.Room.{sumsRoomy}
 use borrow.Author.Needs.{needs}
 use Rattle.norm_room.proofs.sums_roomy.Statement.{statement}
 use Rattle.norm_room.proofs.sums_roomy.Tie as tie

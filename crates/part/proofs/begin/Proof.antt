@@ -9,7 +9,7 @@ use Rattle.num_packed.specs.Triangle.{tri}
 use Rattle.take_room.specs.Room.{cleared}
 use Rattle.take_state.specs.State.{stateOf}
 use Rattle.part_laws.specs.OneGo.{emptied}
-use Rattle.part_laws.specs.Entries.{roomFor}
+use Rattle.num_packed.specs.Room.{sumsRoomy}
 use Rattle.part.proofs.Stops.{room-asked, room-given, begins, begins-not}
 use borrow.Author.Needs.{needs}
 use Rattle.part.proofs.begin.Statement.{statement}
@@ -26,7 +26,7 @@ abbrev sums-of-sides : tie.After-clear2 → tie.After-clear
 sums-of-sides c = c .before .before .before
 
 -- the room that is asked for
-room-is : (c : tie.After-is-roomy) → let a = start-of-asked c .args in roomFor 50 (a .matrix .now) (a .rights .now) ≡ c .is-roomy .result
+room-is : (c : tie.After-is-roomy) → let a = start-of-asked c .args in sumsRoomy 50 (length (a .matrix .now)) (length (a .rights .now)) ≡ c .is-roomy .result
 room-is c = let a = start-of-asked c .args in sym (c .is-roomy .ensures ∙ room-asked 50 50 (a .matrix .now) (a .rights .now) refl (omega arith))
 
 is-roomy-requires : tie.Need-is-roomy-requires

@@ -10,7 +10,8 @@ use lib.Seq.{length-take-le}
 use Rattle.num_packed.specs.Triangle.{tri}
 use Rattle.take_state.specs.State.{stateOf}
 use Rattle.part_laws.specs.Beginning.{opened, done}
-use Rattle.part_laws.specs.Entries.{positionOf, parametersIn, roomFor}
+use Rattle.num_packed.specs.Room.{sumsRoomy}
+use Rattle.part_laws.specs.Entries.{positionOf, parametersIn}
 use Rattle.part_laws.proofs.States.{parameters-most}
 use Rattle.part_open.specs.Told.{toldOpening}
 use Rattle.part_place.specs.Looks.{completedBy}
@@ -57,13 +58,13 @@ bytes-short c = omega arith
 
 -- the room that is asked for
 room-is : (c : tie.After-is-roomy) → let a = start-of-asked c .args in
-    roomFor (parametersIn (positionOf (a .p) .kept)) (a .matrix .now) (a .rights .now) ≡ c .is-roomy .result
+    sumsRoomy (parametersIn (positionOf (a .p) .kept)) (length (a .matrix .now)) (length (a .rights .now)) ≡ c .is-roomy .result
 room-is c =
     let a = start-of-asked c .args in
     sym (c .is-roomy .ensures ∙ room-asked _ _ (a .matrix .now) (a .rights .now) (c .before .before .before .parameters-at .ensures) (parameters-most (positionOf (a .p) .kept)))
 
 roomy : (c : tie.After-is-roomy) → c .is-roomy .result ≡ true → let a = start-of-asked c .args in
-    roomFor (parametersIn (positionOf (a .p) .kept)) (a .matrix .now) (a .rights .now) ≡ true
+    sumsRoomy (parametersIn (positionOf (a .p) .kept)) (length (a .matrix .now)) (length (a .rights .now)) ≡ true
 roomy c e = room-is c ∙ e
 
 -- what was opened

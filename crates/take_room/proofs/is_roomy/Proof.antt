@@ -7,6 +7,7 @@ use Prim.Native.Nat.{min}
 use native.Mathlib.Nat.{add-zero}
 use Rattle.num_whole.specs.Tests.{upTo}
 use Rattle.num_packed.specs.Triangle.{tri}
+use Rattle.num_packed.specs.Room.{sumsRoomy}
 use Rattle.num_whole.proofs.Cases.{holds, fails, is-upTo, not-upTo, by-upTo}
 use borrow.Author.Needs.{needs}
 use Rattle.take_room.proofs.is_roomy.Statement.{statement}
@@ -23,11 +24,13 @@ entry : (c : tie.After-place) → c .place .result ≡ tri (min (c .before .befo
 entry c = c .place .ensures ∙ add-zero _ ∙ ap tri (c .before .least .ensures)
 
 returns : tie.Need-returns
+unfolding sumsRoomy
 returns c =
     holds _ _ (is-upTo _ _ (omega (arith, entry (c .before))))
     (by-upTo _ _ ∙ ap (λ p. upTo p (length (c .before .before .before .args .rights .now))) (c .before .before .least .ensures))
 
 returns-2 : tie.Need-returns-2
+unfolding sumsRoomy
 returns-2 c = fails _ _ (not-upTo _ _ (omega (arith, entry (c .before))))
 
 pub is-roomy-spec : {M : Type 1} → statement M
