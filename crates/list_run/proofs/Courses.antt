@@ -33,6 +33,7 @@ use Rattle.part_laws.specs.Feeding.{Position, begun, Fed, moved, handed, feed, 
 use Rattle.part_laws.specs.OneGo.{emptied}
 use Rattle.num_packed.specs.Room.{sumsRoomy}
 use Rattle.part_laws.specs.Entries.{positionMost, positionOf, heldOf, tidy, fair, Told, took, stopped, broken, partTold, partPosition, partState, partAnswers, toldForm, toldEnd, beginNumber, beginState, finishNumber, finishTold, headingGiven}
+use Rattle.part_laws.specs.Sequence.{formOf}
 use Rattle.part_laws.specs.declared.Position as ByValue
 use Rattle.part_laws.proofs.ByValue.{position-back, held-tidy}
 use Rattle.part_laws.proofs.Cuts.{done-good, done-bad, heading-good, opened-left}
@@ -47,7 +48,7 @@ use Rattle.list_lines.specs.Lines.{talliesOf, arcLines, refusedLine}
 use Rattle.list_tallies.specs.Tables.{counted, CountsFit}
 use Rattle.list_tallies.proofs.Counts.{counted-all, tallies-most}
 use Rattle.list_run.specs.Runs.{noSums, noSides, emptyState, toldOf, stateAfter, runLines, listed, listing}
-use Rattle.list_run.specs.Course.{heard, Follows, AfterBy, heardAs, countedBy, Countable}
+use Rattle.list_run.specs.Course.{heard, Follows, AfterBy, countedBy, Countable}
 use Rattle.list_run.specs.declared.Course.{Course}
 
 -- ---- the empty state is the one that begin makes, in room for fifty parameters
@@ -189,7 +190,7 @@ took-so (bad a b) n k m e = absurd (subst is-took e tt)
 
 broken-so : (v : Judged (Unit {0})) (a b c k m : ℕ) → broken a b c ≡ toldForm v k m → v ≡ bad a b
 broken-so (good u) a b c k m e = absurd (subst is-broken-one e tt)
-broken-so (bad x y) a b c k m e = ap heardAs (sym e)
+broken-so (bad x y) a b c k m e = ap formOf (sym e)
 
 not-stopped : (v : Judged (Unit {0})) (a k m : ℕ) → stopped a ≡ toldForm v k m → ⊥
 not-stopped (good u) a k m e = subst is-stopped e tt
@@ -248,7 +249,7 @@ module _ (s : List ℕ) (c : Course) (m r : List ℤ) (table : List ℕ) (h : Fo
 
   pub leads : (t : Told) → t ≡ partTold (c .position) old l (length out) → (c₁ : Course) (m₁ r₁ : List ℤ) (told : List ℕ)
       → c₁ .position ≡ partPosition (c .position) old l (length out) → stateOf m₁ r₁ (c₁ .tally) ≡ partState (c .position) old l (length out)
-      → told ≡ partAnswers (c .position) old l out → AfterBy (heardAs t) (s ++ l) c₁ m₁ r₁ (countedBy t table told)
+      → told ≡ partAnswers (c .position) old l out → AfterBy (formOf t) (s ++ l) c₁ m₁ r₁ (countedBy t table told)
   leads (took n) e c₁ m₁ r₁ told a b d = goes-on n e c₁ m₁ r₁ (counted table (take n told)) told a b d refl
   leads (stopped number) e c₁ m₁ r₁ told a b d = absurd (never-stopped number e)
   leads (broken number place all) e c₁ m₁ r₁ told a b d = is-broken number place all e

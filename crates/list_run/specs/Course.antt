@@ -38,12 +38,6 @@ abbrev pub AfterBy : Judged (Unit {0}) → List ℕ → Course → List ℤ → 
 AfterBy (good u) s c m r table = Follows s c m r table
 AfterBy (bad number place) s c m r table = heard s .verdict ≡ bad number place
 
--- what an answer to a part comes to
-abbrev pub heardAs : Told → Judged (Unit {0})
-heardAs (took n) = good tt
-heardAs (stopped number) = bad number 0
-heardAs (broken number place all) = bad number place
-
 -- the table with the answers of the records that it took; they are there, and can be counted
 abbrev pub countedBy : Told → List ℕ → List ℕ → List ℕ
 countedBy (took n) table told = counted table (take n told)

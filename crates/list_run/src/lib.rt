@@ -11,8 +11,9 @@ ghost use lib.ListN.{length};
 ghost use Rattle.num_limits.specs.Capacities.{arcSumsMost, parametersMost};
 ghost use Rattle.byte_section.specs.Told.{toldAnswer};
 ghost use Rattle.part_laws.specs.Entries.{toldPart};
+ghost use Rattle.part_laws.specs.Sequence.{formOf};
 ghost use Rattle.list_lines.specs.Lines.{talliesOf};
-ghost use Rattle.list_run.specs.Course.{Follows, Open, Leads, Texts, Ended, EndTexts, heardAs, countedBy, Countable};
+ghost use Rattle.list_run.specs.Course.{Follows, Open, Leads, Texts, Ended, EndTexts, countedBy, Countable};
 
 // The bytes that a part may have: 64 KiB.
 pub const PART_MOST: usize = 65536;
@@ -58,7 +59,7 @@ fn note(
     told: &[u8],
 ) -> Heard
     requires { ⌜ Countable (toldPart answer) (now table) (now told) ⌝ }
-    ensures answer { λ x. ⌜ toldAnswer (x .answer) ≡ heardAs (toldPart answer) ⌝ }
+    ensures answer { λ x. ⌜ toldAnswer (x .answer) ≡ formOf (toldPart answer) ⌝ }
     ensures course { λ x. ⌜ (x .course .position ≡ position) × (x .course .tally ≡ tally) ⌝ }
     ensures table { λ _. ⌜ now (table .exit) ≡ countedBy (toldPart answer) (now (table .entry)) (now (told .entry)) ⌝ }
 {

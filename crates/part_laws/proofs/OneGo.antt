@@ -45,7 +45,7 @@ use Rattle.take_laws.proofs.SumsOver.{sums-over}
 use Rattle.take_laws.proofs.Kept.{length-cleared}
 use Rattle.part_laws.specs.Beginning.{opened, sizeOf, endsAt, closedAt, whole, done, left, readAt, openedHeading}
 use Rattle.part_laws.specs.Feeding.{begun, soFar, moved, feed, finish}
-use Rattle.part_laws.specs.OneGo.{emptied, fed, said, Taken, OneGo, Mixed}
+use Rattle.part_laws.specs.OneGo.{emptied, fed, said, TakenOneByOne, OneGo, MixedAlike}
 use Rattle.part_laws.proofs.Runs.{whole-cut}
 use Rattle.part_laws.proofs.Opened.{opened-within, opened-again, read-opened}
 use Rattle.part_laws.proofs.Cuts.{after, done-good, heading-good}
@@ -138,7 +138,7 @@ module _ (m r : List ℤ) (wide : tri parametersMost ≤ length m) (high : param
       ap (λ x. x .answers) (not-over begun (emptied m r) l refl)
       ∙ ap₂ (λ k s. answers (recordStep (frameOf k)) (recordAnswer (frameOf k)) s (done 0 l)) (heading-good 0 l a e) (emptied-is m r wide high h ok)
 
-  pub taken-so : Taken m r l a
+  pub taken-so : TakenOneByOne m r h (done 0 l) (fed m r l .answers) (fed m r l .state)
   taken-so =
       let room = has-room m r wide high h ok in
       let held = started-held h (cleared (tri parametersMost) m) (cleared parametersMost r) room in
@@ -158,7 +158,8 @@ module _ (m r : List ℤ) (wide : tri parametersMost ≤ length m) (high : param
 module _ (m r : List ℤ) (wide : tri parametersMost ≤ length m) (high : parametersMost ≤ length r) (l l₁ : List ℕ) (a a₁ : Arc) (e : opened l ≡ good a) (e₁ : opened l₁ ≡ good a₁)
     (alike : a₁ .heading ≡ a .heading)
   where
-    pub mixed : Mixes (frameOf (a .heading)) (done 0 l) (done 0 l₁) → Mixed m r l l₁ (a .heading)
+    pub mixed : Mixes (frameOf (a .heading)) (done 0 l) (done 0 l₁)
+        → MixedAlike (a .heading) (done 0 l) (done 0 l₁) (fed m r l .answers) (fed m r l₁ .answers) (fed m r l .state) (fed m r l₁ .state)
     mixed x =
         let h = a .heading in
         let matrix = cleared (tri parametersMost) m in

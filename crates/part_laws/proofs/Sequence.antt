@@ -24,7 +24,7 @@ use Rattle.take_laws.specs.Machine.{run, answers}
 use Rattle.take_laws.specs.Taking.{frameOf, recordAnswer, recordStep}
 use Rattle.take_laws.proofs.Runs.{length-answers}
 use Rattle.part_laws.specs.Beginning.{opened, done, left, readAt, openedHeading}
-use Rattle.part_laws.specs.Feeding.{Position, begun, ended, soFar, moved, Fed, handed, feed, finish, fedOn}
+use Rattle.part_laws.specs.Feeding.{Position, begun, ended, soFar, moved, Fed, handed, feed, finish, fedOn, concat}
 use Rattle.part_laws.specs.OneGo.{emptied, fed}
 use Rattle.num_packed.specs.Room.{sumsRoomy}
 use Rattle.part_laws.specs.Entries.{positionMost, positionOf, heldOf, tidy, parametersIn, placed, led, fair, soundAt, partNumber, partPosition, partState, partAnswers, toldForm, partTold, beginNumber, beginState}
@@ -156,7 +156,7 @@ closes g number place = refl
 
 pub gone-feed : (q : Position) (s : State) → Fit q s → q .over ≡ false → (xs : List Piece) → Enough (heldOf q) s xs
     → gone (heldOf q) s xs ≡ goneOf (feed q s (bytesIn xs))
-unfolding gone bytesIn Enough
+unfolding gone concat Enough
 gone-feed q s fit going [] e = ap goneOf (sym (feed-nothing q (fit .place) s going))
 gone-feed q s fit going (x ∷ xs) e =
     let f = feed q s (x .bytes) in

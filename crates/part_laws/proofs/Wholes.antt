@@ -4,10 +4,9 @@ use Prim.Native.Nat.{ℕ, zero, suc, _+_, _*_, _≤_, _<_}
 use mathlib.Core.Path.{_≡_, refl, sym, ap, ap₂, _∙_, subst, subst₂}
 use mathlib.Core.List.{List, [], _∷_, _++_, append-nil}
 use mathlib.Core.Bool.{Bool, true, false}
-use mathlib.Core.Logic.{_↔_}
 use native.Mathlib.Omega.{arith}
 use native.Mathlib.Nat.{zero-add}
-use lib.IntN.{ℤ, pos}
+use lib.IntN.{ℤ}
 use lib.ListN.{length}
 use Rattle.num_whole.specs.Tests.{less, upTo, same, pick, both}
 use Rattle.num_whole.specs.Answer.{Judged, good, bad}
@@ -20,15 +19,12 @@ use Rattle.byte_section.proofs.Walk.{by-judged, then-good, then-bad, then-read,
 use Rattle.arc_heading.specs.declared.Heading.{Heading}
 use Rattle.arc_read.specs.Arc.{Arc, readArc}
 use Rattle.num_packed.specs.Triangle.{tri}
-use Rattle.take_state.specs.State.{State, seenIn}
+use Rattle.take_state.specs.State.{State}
 use Rattle.take_laws.specs.Taking.{frameOf}
-use Rattle.take_laws.specs.Mix.{pairs, taken, toldTo}
-use Rattle.take_laws.specs.SumsOver.{partialOf, SumsOver}
-use Rattle.take_laws.specs.Order.{whose, Mixes}
-use Rattle.num_whole.specs.Lists.{Each}
+use Rattle.take_laws.specs.Order.{Mixes}
 use Rattle.part_laws.specs.Beginning.{opened, closedAt, done, readAt, openedHeading}
-use Rattle.part_laws.specs.Feeding.{Position, begun, Fed, feed, finish, closing}
-use Rattle.part_laws.specs.OneGo.{emptied, fed, said}
+use Rattle.part_laws.specs.Feeding.{Position, begun, Fed, feed, finish, closing, concat}
+use Rattle.part_laws.specs.OneGo.{emptied, fed, said, TakenOneByOne, MixedAlike}
 use Rattle.num_packed.specs.Room.{sumsRoomy}
 use Rattle.part_laws.specs.Entries.{positionMost, positionOf, heldOf, tidy, placed, ends, led, fair, took, beginNumber, beginState, toldEnd, finishNumber, finishTold, finishPosition, headingTold, headingGiven}
 use Rattle.part_laws.specs.Sequence.{Piece, bytesIn, formOf, Gone, gone, Enough, goneOf, formOnly, goneAll, GoodForm, BadForm, TakenParts, MixedParts}
@@ -150,16 +146,7 @@ module _ (m r : List ℤ) (wide : tri parametersMost ≤ length m) (high : param
 
     -- ---- every file that is opened
     pub parts-taken : (a : Arc) → opened l ≡ good a → TakenParts m r xs a
-    parts-taken a o =
-        let x = taken-so m r wide high l a o in
-        let z = ap (λ g. g .state) (sym gone-parts) in
-        let w = ap (λ g. pairs (done 0 l) (g .answers)) (sym gone-parts) in
-        record {
-          end = sym z ∙ x .end;
-          told = sym w ∙ x .told;
-          sums = subst₂ (λ y v. SumsOver (frameOf (a .heading)) y (taken v)) z w (x .sums);
-          unseen = λ i k. subst₂ (λ y v. (seenIn (y .matrix) i ≡ false) ↔ Each (λ b. partialOf (frameOf (a .heading)) b i ≡ pos 0) (taken v)) z w (x .unseen i k);
-        }
+    parts-taken a o = subst (λ g. TakenOneByOne m r (a .heading) (done 0 l) (g .answers) (g .state)) (sym gone-parts) (taken-so m r wide high l a o)
 
     -- ---- bad form
     pub bad-form : (number place : ℕ) → readArc l ≡ bad number place → BadForm m r xs number place
@@ -174,7 +161,7 @@ module _ (m r : List ℤ) (wide : tri parametersMost ≤ length m) (high : param
   -- ---- so one part of all the bytes does the same, and finish after it
   pub one-part : (xs : List Piece) → Enough (heldOf begun) (beginState m r) xs
       → (y : Piece) → y .bytes ≡ bytesIn xs → Enough (heldOf begun) (beginState m r) (y ∷ []) → goneAll m r xs ≡ goneAll m r (y ∷ [])
-  unfolding bytesIn
+  unfolding concat
   one-part xs enough y e room =
       gone-parts xs enough
       ∙ ap (λ l. goneOf (fed m r l)) (sym (append-nil (y .bytes) ∙ e))
@@ -185,12 +172,6 @@ module _ (m r : List ℤ) (wide : tri parametersMost ≤ length m) (high : param
       → (a b : Arc) → opened (bytesIn xs) ≡ good a → opened (bytesIn ys) ≡ good b → b .heading ≡ a .heading
       → Mixes (frameOf (a .heading)) (done 0 (bytesIn xs)) (done 0 (bytesIn ys)) → MixedParts m r xs ys (a .heading)
   parts-mixed xs ys e f a b o o₁ alike x =
-      let y = mixed m r wide high (bytesIn xs) (bytesIn ys) a b o o₁ alike x in
-      let g = gone-parts xs e in
-      let h = gone-parts ys f in
-      let tell = toldTo (whose (frameOf (a .heading))) in
-      record {
-        same-answers = λ k c. ap (λ z. tell k (pairs (done 0 (bytesIn xs)) (z .answers))) g
-            ∙ y .same-answers k c ∙ sym (ap (λ z. tell k (pairs (done 0 (bytesIn ys)) (z .answers))) h);
-        same-end = ap (λ z. z .state) g ∙ y .same-end ∙ sym (ap (λ z. z .state) h);
-      }
+      subst₂ (λ g h. MixedAlike (a .heading) (done 0 (bytesIn xs)) (done 0 (bytesIn ys)) (g .answers) (h .answers) (g .state) (h .state))
+      (sym (gone-parts xs e)) (sym (gone-parts ys f))
+      (mixed m r wide high (bytesIn xs) (bytesIn ys) a b o o₁ alike x)

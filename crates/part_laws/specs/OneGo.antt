@@ -39,35 +39,38 @@ module _ (m r : List ℤ) (l : List ℕ) where
   abbrev pub said : Judged Arc
   said = andThen (fed .verdict) (λ u. finish (fed .position))
 
--- of a file that opens with a: its records so far were taken one by one from the empty state, so all the demands hold of them
+-- the lent sums of an empty state
+abbrev matrix : List ℤ → List ℤ
+matrix m = cleared (tri parametersMost) m
+
+abbrev rights : List ℤ → List ℤ
+rights r = cleared parametersMost r
+
+-- records of a file with this heading, their answers, and the state after them: they were taken one by one from the empty state, so demand 2
+-- holds of them
+pub record TakenOneByOne (m r : List ℤ) (h : Heading) (records : List (List ℕ)) (answers : List ℕ) (state : State) : Type 0 where
+  pub end : state ≡ endOf h (matrix m) (rights r) records
+  pub told : pairs records answers ≡ toldIn h (matrix m) (rights r) records
+  pub sums : SumsOver (frameOf h) state (taken (pairs records answers))
+  pub unseen : (i : ℕ) → i < h .parameters
+      → (seenIn (state .matrix) i ≡ false) ↔ Each (λ b. partialOf (frameOf h) b i ≡ pos 0) (taken (pairs records answers))
+
+-- of a file of good form that opens with a: its records are all there are, and end and answers are those of its run taken in one go
 module _ (m r : List ℤ) (l : List ℕ) (a : Arc) where
-  abbrev matrix : List ℤ
-  matrix = cleared (tri parametersMost) m
-
-  abbrev rights : List ℤ
-  rights = cleared parametersMost r
-
-  pub record Taken : Type 0 where
-    pub end : fed m r l .state ≡ endOf (a .heading) matrix rights (done 0 l)
-    pub told : pairs (done 0 l) (fed m r l .answers) ≡ toldIn (a .heading) matrix rights (done 0 l)
-    pub sums : SumsOver (frameOf (a .heading)) (fed m r l .state) (taken (pairs (done 0 l) (fed m r l .answers)))
-    pub unseen : (i : ℕ) → i < a .heading .parameters
-        → (seenIn (fed m r l .state .matrix) i ≡ false) ↔ Each (λ b. partialOf (frameOf (a .heading)) b i ≡ pos 0) (taken (pairs (done 0 l) (fed m r l .answers)))
-
-  -- of one of good form: its records are all there are, and end and answers are those of its run taken in one go
   abbrev run : List ℕ
   run = drop (a .start) l
 
+  abbrev empty : State
+  empty = started (a .heading) (matrix m) (rights r)
+
   pub record OneGo : Type 0 where
     pub records : done 0 l ≡ recordsIn (a .heading) run
-    pub state : (room : ℕ) → runNumber (a .heading) run room (started (a .heading) matrix rights) ≡ 0
-        → fed m r l .state ≡ runState (a .heading) run room (started (a .heading) matrix rights)
-    pub answers : (out : List ℕ) → runNumber (a .heading) run (length out) (started (a .heading) matrix rights) ≡ 0
-        → lay out 0 (fed m r l .answers) ≡ runAnswers (a .heading) run out (started (a .heading) matrix rights)
+    pub state : (room : ℕ) → runNumber (a .heading) run room empty ≡ 0 → fed m r l .state ≡ runState (a .heading) run room empty
+    pub answers : (out : List ℕ) → runNumber (a .heading) run (length out) empty ≡ 0 → lay out 0 (fed m r l .answers) ≡ runAnswers (a .heading) run out empty
 
--- demand 3 of two files that open with one heading: however the stations' records are mixed
-module _ (m r : List ℤ) (l l₁ : List ℕ) (h : Heading) where
-  pub record Mixed : Type 0 where
-    pub same-answers : (k : ℕ) → k < stationsMost
-        → toldTo (whose (frameOf h)) k (pairs (done 0 l) (fed m r l .answers)) ≡ toldTo (whose (frameOf h)) k (pairs (done 0 l₁) (fed m r l₁ .answers))
-    pub same-end : fed m r l .state ≡ fed m r l₁ .state
+-- demand 3 of the records of two files that open with one heading, with their answers and the states after them: however the stations' records
+-- are mixed
+pub record MixedAlike (h : Heading) (records records₁ : List (List ℕ)) (answers answers₁ : List ℕ) (state state₁ : State) : Type 0 where
+  pub same-answers : (k : ℕ) → k < stationsMost
+      → toldTo (whose (frameOf h)) k (pairs records answers) ≡ toldTo (whose (frameOf h)) k (pairs records₁ answers₁)
+  pub same-end : state ≡ state₁

@@ -1,28 +1,23 @@
 -- Document 02, #102, the entries one after another: parts handed over from begin on, each with a room of its own for its answers.
-use Prim.Native.Nat.{ℕ, _-_, _≤_, _<_}
+use Prim.Native.Nat.{ℕ, _-_, _≤_}
 use mathlib.Core.Path.{_≡_}
-use mathlib.Core.List.{List, [], _∷_, _++_}
+use mathlib.Core.List.{List, [], _∷_, _++_, map}
 use mathlib.Core.Bool.{false}
-use mathlib.Core.Logic.{_↔_}
-use lib.IntN.{ℤ, pos}
+use lib.IntN.{ℤ}
 use lib.ListN.{length, take, drop}
 use Rattle.num_whole.specs.Answer.{Judged, good, bad}
 use Rattle.byte_section.specs.Section.{andThen}
 use Rattle.byte_words.specs.Words.{lay}
 use Rattle.arc_read.specs.Arc.{Arc}
-use Rattle.num_whole.specs.Lists.{Each}
-use Rattle.num_limits.specs.Capacities.{parametersMost, stationsMost}
+use Rattle.num_limits.specs.Capacities.{parametersMost}
 use Rattle.arc_heading.specs.declared.Heading.{Heading}
 use Rattle.num_packed.specs.Triangle.{tri}
 use Rattle.take_room.specs.Room.{cleared}
-use Rattle.take_state.specs.State.{State, started, seenIn}
-use Rattle.take_laws.specs.Taking.{frameOf, runNumber, runState, runAnswers}
-use Rattle.take_laws.specs.Arc.{endOf, toldIn}
-use Rattle.take_laws.specs.Mix.{pairs, taken, toldTo}
-use Rattle.take_laws.specs.SumsOver.{partialOf, SumsOver}
-use Rattle.take_laws.specs.Order.{whose}
+use Rattle.take_state.specs.State.{State, started}
+use Rattle.take_laws.specs.Taking.{runNumber, runState, runAnswers}
 use Rattle.part_laws.specs.Beginning.{done}
-use Rattle.part_laws.specs.Feeding.{Fed, begun}
+use Rattle.part_laws.specs.Feeding.{Fed, begun, concat}
+use Rattle.part_laws.specs.OneGo.{TakenOneByOne, MixedAlike}
 use Rattle.part_laws.specs.Entries.{positionOf, heldOf, Told, took, stopped, broken, beginState, partPosition, partState, partAnswers, partTold, finishTold, finishPosition, headingTold, headingGiven}
 use Rattle.part_laws.specs.declared.Position as ByValue
 
@@ -32,9 +27,8 @@ pub record Piece : Type 0 where
   pub room : List ℕ
 
 -- the bytes of pieces, end to end
-unfoldable pub bytesIn : List Piece → List ℕ
-bytesIn [] = []
-bytesIn (x ∷ xs) = x .bytes ++ bytesIn xs
+abbrev pub bytesIn : List Piece → List ℕ
+bytesIn xs = concat (map (λ x. x .bytes) xs)
 
 -- what an answer says of the form; 28, 20 and 6 carry no place
 abbrev pub formOf : Told → Judged (Unit {0})
@@ -118,21 +112,10 @@ module _ (m r : List ℤ) (xs : List Piece) where
     pub answers : length (goneAll .answers) ≡ length (done 0 (bytesIn xs))
 
   -- of every file that is opened, bad form too: its records so far were taken one by one from the empty state, and demand 2 holds of them
-  module _ (a : Arc) where
-    abbrev pub pairsIn : List (List ℕ × ℕ)
-    pairsIn = pairs (done 0 (bytesIn xs)) (goneAll .answers)
-
-    pub record TakenParts : Type 0 where
-      pub end : goneAll .state ≡ endOf (a .heading) (cleared (tri parametersMost) m) (cleared parametersMost r) (done 0 (bytesIn xs))
-      pub told : pairsIn ≡ toldIn (a .heading) (cleared (tri parametersMost) m) (cleared parametersMost r) (done 0 (bytesIn xs))
-      pub sums : SumsOver (frameOf (a .heading)) (goneAll .state) (taken pairsIn)
-      pub unseen : (i : ℕ) → i < a .heading .parameters
-          → (seenIn (goneAll .state .matrix) i ≡ false) ↔ Each (λ b. partialOf (frameOf (a .heading)) b i ≡ pos 0) (taken pairsIn)
+  abbrev pub TakenParts : Arc → Type 0
+  TakenParts a = TakenOneByOne m r (a .heading) (done 0 (bytesIn xs)) (goneAll .answers) (goneAll .state)
 
 -- demand 3 of two files in parts that open with one heading, however the stations' records are mixed and however the bytes are cut
-module _ (m r : List ℤ) (xs ys : List Piece) (h : Heading) where
-  pub record MixedParts : Type 0 where
-    pub same-answers : (k : ℕ) → k < stationsMost
-        → toldTo (whose (frameOf h)) k (pairs (done 0 (bytesIn xs)) (goneAll m r xs .answers))
-        ≡ toldTo (whose (frameOf h)) k (pairs (done 0 (bytesIn ys)) (goneAll m r ys .answers))
-    pub same-end : goneAll m r xs .state ≡ goneAll m r ys .state
+abbrev pub MixedParts : List ℤ → List ℤ → List Piece → List Piece → Heading → Type 0
+MixedParts m r xs ys h =
+    MixedAlike h (done 0 (bytesIn xs)) (done 0 (bytesIn ys)) (goneAll m r xs .answers) (goneAll m r ys .answers) (goneAll m r xs .state) (goneAll m r ys .state)

@@ -6,8 +6,9 @@ use native.Mathlib.Omega.{arith}
 use lib.ListN.{length, length-take}
 use borrow.Author.Needs.{needs}
 use Rattle.part_laws.specs.Entries.{took, toldPart}
+use Rattle.part_laws.specs.Sequence.{formOf}
 use Rattle.list_tallies.specs.Tables.{CountsFit}
-use Rattle.list_run.specs.Course.{heardAs, countedBy, Countable}
+use Rattle.list_run.specs.Course.{countedBy, Countable}
 use Rattle.list_run.proofs.note.Statement.{statement}
 use Rattle.list_run.proofs.note.Tie as tie
 
@@ -46,17 +47,17 @@ same-length c = search needs
 returns : tie.Need-returns
 returns c =
     let lent = lent-of-counted c in let a = start-of-lent lent .args in
-    (ap heardAs (sym (took-at lent)), ((refl, refl), c .before .before .count .ensures ∙ ap (λ t. countedBy t (a .table .now) (a .told .now)) (sym (took-at lent))))
+    (ap formOf (sym (took-at lent)), ((refl, refl), c .before .before .count .ensures ∙ ap (λ t. countedBy t (a .table .now) (a .told .now)) (sym (took-at lent))))
 
 returns-2 : tie.Need-returns-2
 returns-2 c =
     let a = c .before .before .before .before .before .args in let e = sym (ap toldPart (c .before .answer2 .given .1)) in
-    (ap heardAs e, ((refl, refl), ap (λ t. countedBy t (a .table .now) (a .told .now)) e))
+    (ap formOf e, ((refl, refl), ap (λ t. countedBy t (a .table .now) (a .told .now)) e))
 
 returns-3 : tie.Need-returns-3
 returns-3 c =
     let a = c .before .before .before .before .before .args in let e = sym (ap toldPart (c .before .answer3 .given .1)) in
-    (ap heardAs e, ((refl, refl), ap (λ t. countedBy t (a .table .now) (a .told .now)) e))
+    (ap formOf e, ((refl, refl), ap (λ t. countedBy t (a .table .now) (a .told .now)) e))
 
 pub note-spec : {M : Type 1} → statement M
 note-spec =
