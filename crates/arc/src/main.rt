@@ -5,11 +5,12 @@ use list_tallies::ANSWERS;
 use num_limits::PARAMETERS_MOST;
 ghost use mathlib.Core.Path.{_≡_};
 ghost use lib.ListN.{length};
+ghost use Rattle.list_run.specs.Rooms.{partMost};
 
 fn run(buf: &mut [u8], out: &mut [u8])
-    requires { ⌜ length (now buf) ≡ 65536 ⌝ }
+    requires { ⌜ length (now buf) ≡ partMost ⌝ }
 {
-    let mut matrix = desk_arc::sums_room();
+    let mut matrix = list_run::sums_room();
     let mut rights: [i64; PARAMETERS_MOST] = [0; PARAMETERS_MOST];
     let mut table: [u64; ANSWERS] = [0; ANSWERS];
     let f = desk_arc::follow(STDIN_FILENO, buf, &mut matrix, &mut rights, &mut table);
@@ -26,6 +27,6 @@ fn run(buf: &mut [u8], out: &mut [u8])
 
 fn main() {
     let mut buf = desk_arc::part_room();
-    let mut out = desk_arc::text_room();
+    let mut out = list_run::text_room();
     run(&mut buf, &mut out);
 }

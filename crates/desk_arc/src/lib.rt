@@ -2,12 +2,12 @@
 use byte_section::ReadAnswer;
 use list_run::Course;
 use list_run::PART_MOST;
-use num_limits::ARC_SUMS_MOST;
 ghost use mathlib.Core.Path.{_≡_};
 ghost use mathlib.Core.List.{[]};
 ghost use lib.ListN.{length};
 ghost use Rattle.num_limits.specs.Capacities.{arcSumsMost, parametersMost};
 ghost use Rattle.list_lines.specs.Lines.{talliesOf};
+ghost use Rattle.list_run.specs.Rooms.{partMost};
 ghost use Rattle.list_run.specs.Course.{Ended};
 
 // The bytes of the longest arc file: 956 with its heading and counts, and 65,535 records of 132. A longer one is refused before more are read.
@@ -15,23 +15,9 @@ const ARC_BYTES_MOST: usize = 956 + 65535 * 132;
 
 // Room for a part.
 pub fn part_room() -> [u8; PART_MOST]
-    ensures { λ r. ⌜ 65536 ≡ length r ⌝ }
+    ensures { λ r. ⌜ partMost ≡ length r ⌝ }
 {
     [0; PART_MOST]
-}
-
-// For the matrix sums of fifty parameters.
-pub fn sums_room() -> [i64; ARC_SUMS_MOST]
-    ensures { λ r. ⌜ arcSumsMost ≡ length r ⌝ }
-{
-    [0; ARC_SUMS_MOST]
-}
-
-// For the longest listing (docs/FORMATS.md).
-pub fn text_room() -> [u8; 5596]
-    ensures { λ r. ⌜ 5596 ≡ length r ⌝ }
-{
-    [0; 5596]
 }
 
 // What came of a file: whether no read has failed, what its parts said of its form, and where they led.
@@ -49,7 +35,7 @@ pub fn follow(
     rights: &mut [i64],
     table: &mut [u64],
 ) -> Followed
-    requires { ⌜ (length (now buf) ≡ 65536) × (length (now matrix) ≡ arcSumsMost) × (length (now rights) ≡ parametersMost) × (now table ≡ talliesOf []) ⌝ }
+    requires { ⌜ (length (now buf) ≡ partMost) × (length (now matrix) ≡ arcSumsMost) × (length (now rights) ≡ parametersMost) × (now table ≡ talliesOf []) ⌝ }
     ensures { λ r. ⌜ Ended (r .answer) (r .course) (now (matrix .exit)) (now (rights .exit)) (now (table .exit)) ⌝ }
 {
     let mut c = list_run::begin(matrix, rights, table);

@@ -17,6 +17,7 @@ ghost use mathlib.Core.Path.{_≡_};
 ghost use lib.ListN.{length};
 ghost use Rattle.io.specs.Counts.{Counts};
 ghost use Rattle.num_limits.specs.Capacities.{arcSumsMost, parametersMost};
+ghost use Rattle.list_run.specs.Rooms.{partMost};
 ghost use Rattle.list_run.specs.Course.{Open, Ended};
 
 // ---- files in and out
@@ -74,7 +75,7 @@ fn tell_arc(path: &[u8], h: Heading, records: usize) {
 fn list_arc(c: Course, matrix: &[i64], rights: &[i64], table: &[u64])
     requires { ⌜ Open c (now matrix) (now rights) (now table) × (length (now matrix) ≡ arcSumsMost) × (length (now rights) ≡ parametersMost) ⌝ }
 {
-    let mut out = desk_arc::text_room();
+    let mut out = list_run::text_room();
     let n = list_run::put_text(c, matrix, rights, table, &mut out);
     let k = desk_files::within(n, &out);
     desk_lines::put(&out[..k]);
@@ -177,9 +178,9 @@ fn judge_arc(
 
 // The parts of an open file, judged once all of them could be read; else it is told why not.
 fn read_arc(fd: i32, path: &[u8], to: &[u8], asked: Asked, buf: &mut [u8])
-    requires { ⌜ length (now buf) ≡ 65536 ⌝ }
+    requires { ⌜ length (now buf) ≡ partMost ⌝ }
 {
-    let mut matrix = desk_arc::sums_room();
+    let mut matrix = list_run::sums_room();
     let mut rights: [i64; PARAMETERS_MOST] = [0; PARAMETERS_MOST];
     let mut table: [u64; ANSWERS] = [0; ANSWERS];
     let f = desk_arc::follow(fd, buf, &mut matrix, &mut rights, &mut table);

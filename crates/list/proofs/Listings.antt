@@ -19,6 +19,7 @@ use Rattle.arc_heading.proofs.Sound.{sound}
 use Rattle.arc_read.specs.Arc.{Arc, readArc}
 use Rattle.arc_read.proofs.Accepted.{heading-sound}
 use Rattle.list_lines.proofs.Lengths.{refused-length, arc-length}
+use Rattle.list_run.specs.Rooms.{textMost}
 use Rattle.list_run.specs.Runs.{runLines, listed, listing}
 use Rattle.list.specs.Listing.{listAnswer, listLeft}
 
@@ -30,13 +31,13 @@ few-labels : (h : Heading) → h .parameters ≤ 50 → length (labelsOf h) ≤ 
 unfolding labelsOf
 few-labels h e = omega (arith, length-take (h .parameters) (h .labels))
 
-listed-length : (file : List ℕ) (x : Judged Arc) → readArc file ≡ x → length (listed file x) ≤ 5596
+listed-length : (file : List ℕ) (x : Judged Arc) → readArc file ≡ x → length (listed file x) ≤ textMost
 unfolding runLines
 listed-length file (good a) e = arc-length _ _ _ _ _ _ (few-labels (a .heading) (sound _ (heading-sound file a e) .few))
 listed-length file (bad number place) e = omega (arith, refused-length number place)
 
 -- a length that always suffices
-pub listing-length : (file : List ℕ) → length (listing file) ≤ 5596
+pub listing-length : (file : List ℕ) → length (listing file) ≤ textMost
 unfolding listing
 listing-length file = listed-length file (readArc file) refl
 
@@ -49,7 +50,7 @@ answer-inside file room n e =
     omega (arith, less-false _ _ short, g .1)
 
 -- ---- by way of room for the longest
-module _ (file room : List ℕ) (long : length room ≡ 5596) {text : List ℕ} {n : ℕ} (e : (text, n) ≡ laid room 0 (listing file)) where
+module _ (file room : List ℕ) (long : length room ≡ textMost) {text : List ℕ} {n : ℕ} (e : (text, n) ≡ laid room 0 (listing file)) where
   count-is : n ≡ length (listing file)
   unfolding laid
   count-is = ap (λ p. p .1) e ∙ omega (arith, listing-length file)

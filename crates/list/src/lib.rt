@@ -3,7 +3,6 @@ use byte_section::ReadAnswer;
 use byte_section::WriteAnswer;
 use list_run::PART_MOST;
 use list_tallies::ANSWERS;
-use num_limits::ARC_SUMS_MOST;
 use num_limits::PARAMETERS_MOST;
 use refusal::Refusal;
 ghost use mathlib.Core.Path.{_≡_};
@@ -13,15 +12,9 @@ ghost use Rattle.num_limits.specs.Capacities.{arcSumsMost, parametersMost};
 ghost use Rattle.byte_section.specs.Told.{toldWrite};
 ghost use Rattle.decimal.specs.Laid.{laid};
 ghost use Rattle.list_lines.specs.Lines.{talliesOf};
+ghost use Rattle.list_run.specs.Rooms.{textMost};
 ghost use Rattle.list_run.specs.Runs.{listing};
 ghost use Rattle.list.specs.Listing.{listAnswer, listLeft};
-
-// For the longest listing.
-fn text_room() -> [u8; 5596]
-    ensures { λ r. ⌜ 5596 ≡ length r ⌝ }
-{
-    [0; 5596]
-}
 
 // The listing of a file at the room's start: the file's parts, none above 64 KiB, are heard one after another.
 fn put_parts(
@@ -54,17 +47,11 @@ fn put_parts(
     list_run::put_text(c, matrix, rights, table, room)
 }
 
-fn sums_room() -> [i64; ARC_SUMS_MOST]
-    ensures { λ r. ⌜ arcSumsMost ≡ length r ⌝ }
-{
-    [0; ARC_SUMS_MOST]
-}
-
 // The same with room of its own for the sums.
 fn put_listing(room: &mut [u8], file: &[u8]) -> usize
     ensures { λ r. ⌜ (now (room .exit), r) ≡ laid (now (room .entry)) 0 (listing (now (file .entry))) ⌝ }
 {
-    let mut matrix = sums_room();
+    let mut matrix = list_run::sums_room();
     let mut rights: [i64; PARAMETERS_MOST] = [0; PARAMETERS_MOST];
     let mut table: [u64; ANSWERS] = [0; ANSWERS];
     put_parts(room, file, &mut matrix, &mut rights, &mut table)
@@ -74,7 +61,7 @@ fn put_listing(room: &mut [u8], file: &[u8]) -> usize
 
 // The listing by way of room for the longest.
 fn list_by(file: &[u8], room: &mut [u8], out: &mut [u8]) -> WriteAnswer
-    requires { ⌜ length (now room) ≡ 5596 ⌝ }
+    requires { ⌜ length (now room) ≡ textMost ⌝ }
     ensures answer { λ r. ⌜ toldWrite r ≡ listAnswer (now (file .entry)) (length (now (out .entry))) ⌝ }
     ensures left { λ r. ⌜ now (out .exit) ≡ listLeft (now (file .entry)) (now (out .entry)) ⌝ }
 {
@@ -91,6 +78,6 @@ pub fn list(file: &[u8], out: &mut [u8]) -> WriteAnswer
     ensures answer { λ r. ⌜ toldWrite r ≡ listAnswer (now (file .entry)) (length (now (out .entry))) ⌝ }
     ensures left { λ r. ⌜ now (out .exit) ≡ listLeft (now (file .entry)) (now (out .entry)) ⌝ }
 {
-    let mut room = text_room();
+    let mut room = list_run::text_room();
     list_by(file, &mut room, out)
 }

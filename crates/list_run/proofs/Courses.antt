@@ -48,6 +48,7 @@ use Rattle.list_lines.specs.Lines.{talliesOf, arcLines, refusedLine}
 use Rattle.list_tallies.specs.Tables.{counted, CountsFit}
 use Rattle.list_tallies.proofs.Counts.{counted-all, tallies-most}
 use Rattle.list_run.specs.Runs.{noSums, noSides, emptyState, toldOf, stateAfter, runLines, listed, listing}
+use Rattle.list_run.specs.Rooms.{partMost, toldMost}
 use Rattle.list_run.specs.Course.{heard, Follows, AfterBy, countedBy, Countable}
 use Rattle.list_run.specs.declared.Course.{Course}
 
@@ -117,7 +118,7 @@ module _ (s : List ℕ) (going : heard s .verdict ≡ good tt) where
       (λ number place o. omega (arith, n, ap length (done-bad 0 s {number = number} {place = place} o)))
 
   -- a part of 64 KiB completes no more than 2,048 records
-  module _ (l : List ℕ) (short : length l ≤ 65536) where
+  module _ (l : List ℕ) (short : length l ≤ partMost) where
     enough : length (done (q .taken) (positionOf (heldOf q) .kept ++ l)) ≤ 2048
     enough =
         let b = positionOf (heldOf q) .kept ++ l in
@@ -197,7 +198,7 @@ not-stopped (good u) a k m e = subst is-stopped e tt
 not-stopped (bad x y) a k m e = subst is-stopped e tt
 
 -- ---- a part, by what the entry promises of it
-module _ (s : List ℕ) (c : Course) (m r : List ℤ) (table : List ℕ) (h : Follows s c m r table) (l : List ℕ) (short : length l ≤ 65536) (out : List ℕ) (room : length out ≡ 2048) where
+module _ (s : List ℕ) (c : Course) (m r : List ℤ) (table : List ℕ) (h : Follows s c m r table) (l : List ℕ) (short : length l ≤ partMost) (out : List ℕ) (room : length out ≡ toldMost) where
   abbrev old : State
   old = stateOf m r (c .tally)
 

@@ -1,5 +1,6 @@
 // Inner to `list` and the programs: the listing of an arc file as the file arrives, part by part. What is put is a function of the bytes handed over.
 use byte_section::ReadAnswer;
+use num_limits::ARC_SUMS_MOST;
 use part_laws::PartAnswer;
 use part_laws::Position;
 use refusal::Refusal;
@@ -13,6 +14,7 @@ ghost use Rattle.byte_section.specs.Told.{toldAnswer};
 ghost use Rattle.part_laws.specs.Entries.{toldPart};
 ghost use Rattle.part_laws.specs.Sequence.{formOf};
 ghost use Rattle.list_lines.specs.Lines.{talliesOf};
+ghost use Rattle.list_run.specs.Rooms.{partMost, toldMost, textMost};
 ghost use Rattle.list_run.specs.Course.{Follows, Open, Leads, Texts, Ended, EndTexts, countedBy, Countable};
 
 // The bytes that a part may have: 64 KiB.
@@ -20,6 +22,9 @@ pub const PART_MOST: usize = 65536;
 
 // The records that such a part can complete: 34 bytes each at least, with 1,087 kept.
 const TOLD_MOST: usize = 2048;
+
+// The bytes of the longest listing (docs/FORMATS.md).
+pub const TEXT_MOST: usize = 5596;
 
 // Where in the file we are, and the state beside its sums.
 pub struct Course {
@@ -34,9 +39,23 @@ pub struct Heard {
 }
 
 fn told_room() -> [u8; TOLD_MOST]
-    ensures { λ r. ⌜ 2048 ≡ length r ⌝ }
+    ensures { λ r. ⌜ toldMost ≡ length r ⌝ }
 {
     [0; TOLD_MOST]
+}
+
+// Room for the matrix sums of fifty parameters.
+pub fn sums_room() -> [i64; ARC_SUMS_MOST]
+    ensures { λ r. ⌜ arcSumsMost ≡ length r ⌝ }
+{
+    [0; ARC_SUMS_MOST]
+}
+
+// Room for the longest listing.
+pub fn text_room() -> [u8; TEXT_MOST]
+    ensures { λ r. ⌜ textMost ≡ length r ⌝ }
+{
+    [0; TEXT_MOST]
 }
 
 // Before the first part; the sums are cleared, and the table has counted nothing.
@@ -91,7 +110,7 @@ pub fn hear(
     table: &mut [u64],
     bytes: &[u8],
 ) -> Heard
-    requires { ⌜ Open c (now matrix) (now rights) (now table) × (length (now bytes) ≤ 65536) ⌝ }
+    requires { ⌜ Open c (now matrix) (now rights) (now table) × (length (now bytes) ≤ partMost) ⌝ }
     ensures { λ x. ⌜ Leads c (now (matrix .entry)) (now (rights .entry)) (now (table .entry)) (now (bytes .entry)) x (now (matrix .exit)) (now (rights .exit)) (now (table .exit)) ⌝ }
 {
     let mut told = told_room();

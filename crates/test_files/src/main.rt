@@ -46,7 +46,7 @@ fn tell_arc(file: &[u8]) {
 
 // The listing of a file, or that it has no room.
 fn put_listing(file: &[u8]) {
-    let mut out = desk_arc::text_room();
+    let mut out = list_run::text_room();
     match list::list(file, &mut out) {
         WriteAnswer::Is(n) => desk_lines::put(desk_lines::part(&out, 0, n)),
         WriteAnswer::Refused(why) => desk_lines::put_refusal(why, b" on listing\n"),

@@ -9,13 +9,14 @@ use borrow.Author.Needs.{needs}
 use Rattle.num_limits.specs.Capacities.{arcSumsMost, parametersMost}
 use Rattle.byte_section.specs.Told.{toldAnswer}
 use Rattle.byte_section.specs.declared.ReadAnswer.{ReadAnswer}
+use Rattle.list_run.specs.Rooms.{partMost}
 use Rattle.list_run.specs.Course.{AfterBy, Open, Ended}
 use Rattle.desk_arc.proofs.follow.Statement.{statement}
 use Rattle.desk_arc.proofs.follow.Tie as tie
 
 abbrev Inv-loop : tie.InvT-loop
 Inv-loop fd buf₀ matrix₀ rights₀ table₀ c₀ total₀ buf matrix rights table c total =
-    (total ≤ 8717112) × (length buf ≡ 65536) × (length matrix ≡ arcSumsMost) × (length rights ≡ parametersMost) × (length table ≡ length table₀) × Open c matrix rights table
+    (total ≤ 8717112) × (length buf ≡ partMost) × (length matrix ≡ arcSumsMost) × (length rights ≡ parametersMost) × (length table ≡ length table₀) × Open c matrix rights table
 
 abbrev μ-loop : tie.MeasureT-loop
 μ-loop fd buf₀ matrix₀ rights₀ table₀ c₀ total₀ buf matrix rights table c total = 8717112 - total
@@ -50,12 +51,12 @@ ended-at x r e =
     (o .0 ++ take (read .load .result .length) (read .load .last .1 .0), subst (λ z. AfterBy (toldAnswer z) (o .0 ++ take (read .load .result .length) (read .load .last .1 .0)) (x .hear .result .course) (x .hear .last .1 .0) (x .hear .last .1 .1 .0) (x .hear .last .1 .1 .1 .0)) e (x .hear .ensures (o .0) (o .1)))
 
 -- the lengths of what was lent
-buf-long : (x : tie.After-hear Inv-loop μ-loop) → length (load-of-heard x .load .last .1 .0) ≡ 65536
+buf-long : (x : tie.After-hear Inv-loop μ-loop) → length (load-of-heard x .load .last .1 .0) ≡ partMost
 buf-long x = load-of-heard x .load .kept .1 .0 ∙ turn-of-heard x .loop .inv .1
 
 -- a turn that is not the last read 64 KiB
 more : (c : tie.Else1 Inv-loop μ-loop) → let x = heard-of-going (c .before) in
-    (turn-of-heard x .loop .total + load-of-heard x .load .result .length ≤ 8717112) × (65536 ≤ load-of-heard x .load .result .length)
+    (turn-of-heard x .loop .total + load-of-heard x .load .result .length ≤ 8717112) × (partMost ≤ load-of-heard x .load .result .length)
 more c =
     let x = heard-of-going (c .before) in let read = load-of-heard x in
     (omega (arith, buf-long x, read .load .ensures, read .before .before .loop-test .taken), omega (arith, c .if1 .left))
