@@ -23,19 +23,19 @@ use Rattle.call_tally.specs.Tally.{tallyBytes}
 use Rattle.part_laws.specs.Feeding.{begun, feed}
 use Rattle.part_laws.specs.Entries.{Told, took, stopped, broken, positionOf, heldOf, toldForm, beginNumber, beginState, partNumber, partTold, partPosition, partState, partAnswers, finishTold, finishPosition}
 use Rattle.part_laws.specs.declared.Position.{Position}
-use Rattle.call_position.specs.Position.{positionIn, positionBytes, hasPosition}
+use Rattle.call_position.specs.Position.{positionLong, positionIn, positionBytes, hasPosition}
 use Rattle.call_told.specs.Told.{toldNumber, toldOut, changes, withAll}
 use Rattle.call_part.specs.Calls.{Rooms, rooms, placeIn, roomsState, hasState, beginCall, beginLeft, partLent, partCall, partLeft, partAnswersLeft, placeLent, finishCall, finishLeft}
 
 -- ---- what is there whole
-pub position-long : (b : List ℕ) → hasPosition b ≡ true → 1112 ≤ length b
+pub position-long : (b : List ℕ) → hasPosition b ≡ true → positionLong ≤ length b
 unfolding hasPosition
 position-long b e = upTo-true _ _ e
 
-pub place-long : (b : List ℕ) (out : ℕ) → placeLent b out ≡ true → (1112 ≤ length b) × (2 ≤ out)
+pub place-long : (b : List ℕ) (out : ℕ) → placeLent b out ≡ true → (positionLong ≤ length b) × (2 ≤ out)
 place-long b out e = (position-long b (both-first _ _ e), upTo-true _ _ (both-second _ _ e))
 
-pub state-long : (b t : List ℕ) (out : ℕ) → both (hasState b t) (upTo 2 out) ≡ true → (1112 ≤ length b) × (2 ≤ out)
+pub state-long : (b t : List ℕ) (out : ℕ) → both (hasState b t) (upTo 2 out) ≡ true → (positionLong ≤ length b) × (2 ≤ out)
 state-long b t out e = (position-long b (both-first _ _ (both-first _ _ e)), upTo-true _ _ (both-second _ _ e))
 
 -- ---- begin

@@ -14,7 +14,7 @@ ghost use Rattle.num_whole.specs.Tests.{upTo, pick, both};
 ghost use Rattle.byte_words.specs.Words.{lay};
 ghost use Rattle.call_tally.specs.Tally.{tallyBytes};
 ghost use Rattle.part_laws.specs.Entries.{toldPart};
-ghost use Rattle.call_position.specs.Position.{positionBytes};
+ghost use Rattle.call_position.specs.Position.{positionLong, positionBytes};
 ghost use Rattle.call_told.specs.Told.{toldNumber, toldOut, changes};
 ghost use Rattle.call_part.specs.Calls.{
   rooms,
@@ -58,7 +58,7 @@ fn is_lent(position: &[u8], out: usize) -> bool
 }
 
 fn put_back(answer: PartAnswer, p: Position, position: &mut [u8])
-    requires { ⌜ 1112 ≤ length (now position) ⌝ }
+    requires { ⌜ positionLong ≤ length (now position) ⌝ }
     ensures { λ _. ⌜ now (position .exit) ≡ pick (changes (toldPart answer)) (lay (now (position .entry)) 0 (positionBytes p)) (now (position .entry)) ⌝ }
 {
     if call_told::changes(answer) {
@@ -102,7 +102,7 @@ pub fn begin(position: &mut [u8], tally: &mut [u8], matrix: &mut [i64], rights: 
 // ---- a part
 
 fn give_parted(x: Parted, position: &mut [u8], tally: &mut [u8], out: &mut [u64]) -> u32
-    requires { ⌜ (1112 ≤ length (now position)) × (2 ≤ length (now out)) ⌝ }
+    requires { ⌜ (positionLong ≤ length (now position)) × (2 ≤ length (now out)) ⌝ }
     ensures { λ r. ⌜ r ≡ toldNumber (toldPart (x .answer)) ⌝ }
     ensures position { λ _. ⌜ now (position .exit) ≡ pick (changes (toldPart (x .answer))) (lay (now (position .entry)) 0 (positionBytes (x .position))) (now (position .entry)) ⌝ }
     ensures tally { λ _. ⌜ now (tally .exit) ≡ pick (changes (toldPart (x .answer))) (lay (now (tally .entry)) 0 (tallyBytes (x .tally))) (now (tally .entry)) ⌝ }

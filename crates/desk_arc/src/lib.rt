@@ -2,6 +2,9 @@
 use byte_section::ReadAnswer;
 use list_run::Course;
 use list_run::PART_MOST;
+use num_limits::RECORDS_MOST;
+use part_laws::OPENED_MOST;
+use part_laws::RECORD_SIZE_MOST;
 ghost use mathlib.Core.Path.{_≡_};
 ghost use mathlib.Core.List.{[]};
 ghost use lib.ListN.{length};
@@ -10,8 +13,8 @@ ghost use Rattle.list_lines.specs.Lines.{talliesOf};
 ghost use Rattle.list_run.specs.Rooms.{partMost};
 ghost use Rattle.list_run.specs.Course.{Ended};
 
-// The bytes of the longest arc file: 956 with its heading and counts, and 65,535 records of 132. A longer one is refused before more are read.
-const ARC_BYTES_MOST: usize = 956 + 65535 * 132;
+// The bytes of the longest arc file, 8,651,576: its heading with the counts, and its records. A longer one is refused before more are read.
+const ARC_BYTES_MOST: usize = OPENED_MOST + RECORDS_MOST * RECORD_SIZE_MOST;
 
 // Room for a part.
 pub fn part_room() -> [u8; PART_MOST]

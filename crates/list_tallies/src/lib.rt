@@ -6,8 +6,11 @@ ghost use Rattle.decimal.specs.Laid.{laid};
 ghost use Rattle.list_lines.specs.Lines.{tallyLine, tallyLines};
 ghost use Rattle.list_tallies.specs.Tables.{counted, CountsFit};
 
-// A table has a place for each answer that a record can have: 0, accepted, and the refusals from 1 to 19.
+// A table has a place for each answer that a record can have: 0, accepted, and the refusals from 1 to 19. list_lines/specs/Lines.antt has the number
+// as `answersMost`.
 pub const ANSWERS: usize = 20;
+
+const ANSWERS_U8: u8 = ANSWERS as u8;
 
 // One record more with an answer; a table has no place for an answer that no record gets.
 fn count_one(table: &mut [u64], answer: u8)
@@ -57,7 +60,7 @@ pub fn put_tallies(room: &mut [u8], start: usize, table: &[u64]) -> usize
 {
     let mut at = start;
     let mut k: u8 = 1;
-    while k < 20 {
+    while k < ANSWERS_U8 {
         at = put_tally(room, at, table, k);
         k += 1;
     }

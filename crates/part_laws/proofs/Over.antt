@@ -22,7 +22,7 @@ use Rattle.take_laws.specs.Taking.{frameOf, recordAnswer, recordStep}
 use Rattle.take_laws.proofs.Runs.{length-answers}
 use Rattle.part_laws.specs.Beginning.{opened, sizeOf, endsAt, closedAt, done, left, readAt, openedHeading}
 use Rattle.part_laws.specs.Feeding.{Position, begun, ended, soFar, moved, feed, finish, closing}
-use Rattle.part_laws.specs.Entries.{placedBy, placed, endsBy, ends}
+use Rattle.part_laws.specs.Entries.{recordSizeMost, placedBy, placed, endsBy, ends}
 use Rattle.part_laws.proofs.Opened.{opened-within}
 use Rattle.part_laws.proofs.Cuts.{done-good, done-bad, read-good, read-bad}
 use Rattle.part_laws.proofs.Feeding.{not-over}
@@ -32,7 +32,7 @@ use Rattle.part_laws.proofs.Six.{Before, Amid, placed-before, placed-am
 use Rattle.part_laws.proofs.States.{nothing-opened}
 
 -- ---- how long the bytes kept are: a heading with its counts and a record but one byte at most
-pub record-most : (l : List ℕ) (a : Arc) → opened l ≡ good a → sizeOf a ≤ 132
+pub record-most : (l : List ℕ) (a : Arc) → opened l ≡ good a → sizeOf a ≤ recordSizeMost
 record-most l a o = omega (arith, sound (a .heading) (opened-sound l a o) .few)
 
 pub placed-short : (p : Position) → placed p ≡ true → length (p .kept) ≤ 1087

@@ -31,7 +31,11 @@ use Rattle.part_laws.specs.declared.PartAnswer.the-variants as Answers
 abbrev pub openedMost : ℕ
 openedMost = 956
 
--- the bytes that a position has room for: these, a record but one byte (131), and one more
+-- a record of fifty parameters: 32 + 2·50
+abbrev pub recordSizeMost : ℕ
+recordSizeMost = 132
+
+-- the bytes that a position has room for: a heading with its counts, a record but one byte, and one more
 abbrev pub positionMost : ℕ
 positionMost = 1088
 

@@ -29,7 +29,7 @@ ghost use Rattle.refusal.specs.Number.{numberOf};
 ghost use Rattle.take_state.specs.State.{stateOf, soundState};
 ghost use Rattle.part_laws.specs.Beginning.{readAt};
 ghost use Rattle.part_laws.specs.Feeding.{ended, begun, closing};
-ghost use Rattle.part_laws.specs.Entries.{positionMost, positionOf, heldOf, tidy, fair, parametersIn, placedBy, endsBy, soundBy, toldPart, toldEnd};
+ghost use Rattle.part_laws.specs.Entries.{recordSizeMost, positionMost, positionOf, heldOf, tidy, fair, parametersIn, placedBy, endsBy, soundBy, toldPart, toldEnd};
 ghost use Rattle.part_open.specs.Told.{toldOpening};
 ghost use Rattle.part_place.specs.Looks.{completedBy, OpensAt, FrontOf, RoomAt};
 
@@ -163,8 +163,8 @@ fn is_tidy(p: Position) -> bool
 
 // The length that a position's bytes stay below, counted from the first record.
 fn limit(taken: usize, count: usize, size: usize) -> usize
-    requires { ⌜ size ≤ 132 ⌝ }
-    ensures { λ r. ⌜ (r ≡ pick (less taken count) size 1) × (r ≤ 132) ⌝ }
+    requires { ⌜ size ≤ recordSizeMost ⌝ }
+    ensures { λ r. ⌜ (r ≡ pick (less taken count) size 1) × (r ≤ recordSizeMost) ⌝ }
 {
     if taken < count { size } else { 1 }
 }

@@ -1,25 +1,30 @@
 -- `desk_arc::follow` meets its contract, and ends: each turn but the last reads 64 KiB, and the file's bytes are counted.
 -- Assumes nothing.
-use Prim.Native.Nat.{_+_, _-_, _≤_}
+use Prim.Native.Nat.{ℕ, _+_, _-_, _*_, _≤_}
 use mathlib.Core.Path.{_≡_, refl, sym, ap, _∙_, subst}
 use mathlib.Core.List.{[], _++_}
 use native.Mathlib.Omega.{arith}
 use lib.ListN.{length, take, length-take}
 use borrow.Author.Needs.{needs}
-use Rattle.num_limits.specs.Capacities.{arcSumsMost, parametersMost}
+use Rattle.num_limits.specs.Capacities.{arcSumsMost, parametersMost, recordsMost}
 use Rattle.byte_section.specs.Told.{toldAnswer}
 use Rattle.byte_section.specs.declared.ReadAnswer.{ReadAnswer}
+use Rattle.part_laws.specs.Entries.{openedMost, recordSizeMost}
 use Rattle.list_run.specs.Rooms.{partMost}
 use Rattle.list_run.specs.Course.{AfterBy, Open, Ended}
 use Rattle.desk_arc.proofs.follow.Statement.{statement}
 use Rattle.desk_arc.proofs.follow.Tie as tie
 
+-- what is counted at the most: the longest arc file, and one part
+abbrev countedMost : ℕ
+countedMost = openedMost + recordsMost * recordSizeMost + partMost
+
 abbrev Inv-loop : tie.InvT-loop
 Inv-loop fd buf₀ matrix₀ rights₀ table₀ c₀ total₀ buf matrix rights table c total =
-    (total ≤ 8717112) × (length buf ≡ partMost) × (length matrix ≡ arcSumsMost) × (length rights ≡ parametersMost) × (length table ≡ length table₀) × Open c matrix rights table
+    (total ≤ countedMost) × (length buf ≡ partMost) × (length matrix ≡ arcSumsMost) × (length rights ≡ parametersMost) × (length table ≡ length table₀) × Open c matrix rights table
 
 abbrev μ-loop : tie.MeasureT-loop
-μ-loop fd buf₀ matrix₀ rights₀ table₀ c₀ total₀ buf matrix rights table c total = 8717112 - total
+μ-loop fd buf₀ matrix₀ rights₀ table₀ c₀ total₀ buf matrix rights table c total = countedMost - total
 
 -- Views: from one place of the code to an earlier one. A statement put between two of them changes one line here.
 abbrev start-of-begin : tie.After-begin Inv-loop μ-loop → tie.Start Inv-loop μ-loop
@@ -56,7 +61,7 @@ buf-long x = load-of-heard x .load .kept .1 .0 ∙ turn-of-heard x .loop .inv .1
 
 -- a turn that is not the last read 64 KiB
 more : (c : tie.Else1 Inv-loop μ-loop) → let x = heard-of-going (c .before) in
-    (turn-of-heard x .loop .total + load-of-heard x .load .result .length ≤ 8717112) × (partMost ≤ load-of-heard x .load .result .length)
+    (turn-of-heard x .loop .total + load-of-heard x .load .result .length ≤ countedMost) × (partMost ≤ load-of-heard x .load .result .length)
 more c =
     let x = heard-of-going (c .before) in let read = load-of-heard x in
     (omega (arith, buf-long x, read .load .ensures, read .before .before .loop-test .taken), omega (arith, c .if1 .left))

@@ -6,17 +6,17 @@ use native.Mathlib.Omega.{arith}
 use lib.ListN.{length}
 use borrow.Author.Needs.{needs}
 use Rattle.decimal.specs.Laid.{laid}
-use Rattle.list_lines.specs.Lines.{tallyLines}
+use Rattle.list_lines.specs.Lines.{answersMost, tallyLines}
 use Rattle.list_lines.proofs.Laws.{lines-turn, lines-end, tallies-turn, tallies-end}
 use Rattle.list_tallies.proofs.put_tallies.Statement.{statement}
 use Rattle.list_tallies.proofs.put_tallies.Tie as tie
 
 abbrev Inv-loop : tie.InvT-loop
 Inv-loop room₀ start table at₀ k₀ room at k =
-    (1 ≤ k) × (k ≤ 20) × (length room ≡ length room₀) × (laid room at (tallyLines table (20 - k) k) ≡ laid room₀ start (tallyLines table 19 1))
+    (1 ≤ k) × (k ≤ answersMost) × (length room ≡ length room₀) × (laid room at (tallyLines table (answersMost - k) k) ≡ laid room₀ start (tallyLines table 19 1))
 
 abbrev μ-loop : tie.MeasureT-loop
-μ-loop room₀ start table at₀ k₀ room at k = 20 - k
+μ-loop room₀ start table at₀ k₀ room at k = answersMost - k
 
 -- Views: from one place of the code to an earlier one. A statement put between two of them changes one line here.
 abbrev start-of-turn : tie.At-loop Inv-loop μ-loop → tie.Start Inv-loop μ-loop
