@@ -13,7 +13,7 @@ use Rattle.byte_section.specs.declared.ReadAnswer.the-variants as Answers
 use Rattle.arc_limits.specs.declared.Label.{Label}
 use Rattle.arc_kinds.specs.Kinds.{labelKind}
 use Rattle.arc_sections.specs.Sections.{Slots, labelsFrom, labelsPart}
-use Rattle.arc_front.specs.Front.{toldHeading}
+use Rattle.arc_front.specs.Parts.{toldHeading}
 use Rattle.arc_front.specs.declared.HeadingRead.{HeadingRead}
 
 -- ---- what the answers say

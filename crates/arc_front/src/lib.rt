@@ -10,7 +10,8 @@ ghost use Prim.Native.Nat.{_≤_};
 ghost use Rattle.num_limits.specs.Capacities.{parametersMost};
 ghost use Rattle.num_whole.specs.Answer.{bad};
 ghost use Rattle.refusal.specs.Number.{numberOf};
-ghost use Rattle.arc_front.specs.Front.{blankHeading, headingPart, toldHeading};
+ghost use Rattle.arc_front.specs.Front.{blankHeading};
+ghost use Rattle.arc_front.specs.Parts.{headingPart, toldHeading};
 
 // The answer, the heading, and the place after it.
 pub struct HeadingRead {

@@ -20,7 +20,7 @@ use Rattle.arc_kinds.specs.Kinds.{settingsKind, labelKind, stationKind}
 use Rattle.arc_kinds.specs.Told.{settingsPart}
 use Rattle.arc_read.specs.Arc.{headingOf, readArc}
 use Rattle.arc_sections.specs.Sections.{Slots, slotted, labelsFrom, labelsPart, stationsFrom, stationsPart, recordsPart}
-use Rattle.arc_front.specs.Front.{headingPart}
+use Rattle.arc_front.specs.Parts.{headingPart}
 use Rattle.arc_read.specs.Parts.{arcFrom}
 use Rattle.byte_section.specs.Told.{Span, spanOf}
 use Rattle.byte_section.specs.declared.ReadAnswer.the-variants as Answers

@@ -14,7 +14,7 @@ use Rattle.arc_heading.specs.declared.Heading.{Heading}
 use Rattle.arc_kinds.specs.Kinds.{labelKind, stationKind}
 use Rattle.arc_sections.specs.Sections.{labelsFrom, labelsPart, stationsFrom, stationsPart}
 use Rattle.arc_read.specs.Arc.{Arc, headingOf}
-use Rattle.arc_front.specs.Front.{PlacedHeading, headingPart}
+use Rattle.arc_front.specs.Parts.{PlacedHeading, headingPart}
 use Rattle.arc_read.proofs.Parts.{settings-first, slots-first, after-three}
 use Rattle.part_laws.specs.Beginning.{opened}
 

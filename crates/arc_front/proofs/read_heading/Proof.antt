@@ -4,7 +4,7 @@ use borrow.Author.Needs.{needs}
 use mathlib.Core.Path.{refl, sym, ap, _∙_}
 use Rattle.byte_section.proofs.Walk.{then-good, then-bad}
 use Rattle.arc_kinds.specs.Told.{toldSettings}
-use Rattle.arc_front.specs.Front.{headingPart}
+use Rattle.arc_front.specs.Parts.{headingPart}
 use Rattle.arc_sections.proofs.Slots.{slots-read, slots-refused}
 use Rattle.arc_front.proofs.Front.{heading-read, few-labels}
 use Rattle.arc_front.proofs.read_heading.Statement.{statement}
