@@ -1,8 +1,8 @@
--- Document 01, 'At the edges': the cases marked (proved), about the definitions that the promises cite.
+-- Document 01, 'At the edges': the cases marked (proved), and those of document 02's #103, about the definitions that the promises cite.
 use Prim.Native.Nat.{ℕ, _+_, _-_, _*_, _^_}
 use mathlib.Core.Path.{_≡_}
 use mathlib.Core.List.{List, [], _∷_, _++_}
-use lib.IntN.{pos, negsuc}
+use lib.IntN.{ℤ, pos, negsuc}
 use lib.Ieee.{Float, binary64, ofBits}
 use Rattle.num_whole.specs.Answer.{given, refused}
 use Rattle.days.specs.Calendar.{dayOfDate, dateOf}
@@ -53,6 +53,17 @@ rangeRecord s observed =
 abbrev pub answerOf : ℕ → ℕ → ℕ
 answerOf s observed = judgedBy arcSeven (rangeRecord s observed) 0 0
 
+-- 02, #103: an arc of one day whose station 12 has a correction, and what a range of that station is answered at a day and a millisecond
+abbrev pub arcOfDay : ℕ → ℤ → Frame
+arcOfDay first correction = frame (record { arc = 7; first = first; days = 1; level = 30 }) 1 (12 ∷ []) (correction ∷ [])
+
+abbrev pub rangeAt : ℕ → ℕ → List ℕ
+rangeAt day ms =
+    bytesOf 2 12 ++ (bytesOf 2 2 ++ (bytesOf 4 1 ++ (bytesOf 4 day ++ (bytesOf 4 ms ++ (bytesOf 8 0 ++ (bytesOf 8 0 ++ bytesOf 2 3))))))
+
+abbrev pub clockAnswer : ℕ → ℤ → ℕ → ℕ → ℕ
+clockAnswer first correction day ms = judgedBy (arcOfDay first correction) (rangeAt day ms) 0 0
+
 -- 384 and 385 units of a range: 1.5 and 385/256 times 2^-2
 abbrev pub pattern384 : ℕ
 pattern384 = 1021 * 2 ^ 52 + 2 ^ 51
@@ -86,4 +97,16 @@ edges =
     ∷ (weightOf 256 gives 1)
     ∷ (answerOf 0 pattern384 gives 12)
     ∷ (answerOf 257 pattern384 gives 12)
+    -- 02, #103: 1972 Jun 30 is 8,217, and on it 23:59:60.000 and 23:59:60.999 are taken, 23:59:61 is refused with 13; 23:59:60 on the day before: 13
+    ∷ (dayOfDate (dateOf 1972 6 30) gives given 8217)
+    ∷ (clockAnswer 8217 (pos 0) 8217 86400000 gives 0)
+    ∷ (clockAnswer 8217 (pos 0) 8217 86400999 gives 0)
+    ∷ (clockAnswer 8217 (pos 0) 8217 86401000 gives 13)
+    ∷ (clockAnswer 8216 (pos 0) 8216 86400000 gives 13)
+    -- a window that ends on it: a correction of +1 ms leads over its end from 23:59:60.999, not from the millisecond before
+    ∷ (clockAnswer 8217 (pos 1) 8217 86400999 gives 14)
+    ∷ (clockAnswer 8217 (pos 1) 8217 86400998 gives 0)
+    -- the first millisecond of the day after is past it, and the first of that day's window
+    ∷ (clockAnswer 8217 (pos 0) 8218 0 gives 14)
+    ∷ (clockAnswer 8218 (pos 0) 8218 0 gives 0)
     ∷ []

@@ -9,6 +9,8 @@ use lib.ListN.{length, getD, drop, drop-of-length-le}
 use lib.Seq.{drop-cons}
 use Rattle.num_whole.specs.Answer.{Answered, given, refused}
 use Rattle.num_whole.specs.Tests.{same, pick}
+use Rattle.num_limits.specs.Capacities.{lastDay, dayAfterLast}
+use Rattle.days_leap.specs.Leap.{lastMs}
 use lib.IntN.{ℤ, pos}
 use mathlib.Core.Bool.{Bool, true, false}
 use Rattle.num_whole.proofs.Cases.{yes, no, is-same, not-same, is-less, not-less, by-cases, chosen, refused-not, between-true, upTo-true, both-first, both-second}
@@ -216,17 +218,16 @@ module _ (kind : ℕ) (o c : Float) where
       (λ t. no _ _ _ t (ap refused (same-number (e ∙ sym (no _ _ _ t refl)))))
 
 -- ---- what the tests leave small enough for the machine's numbers
-pub clock-small : (day ms : ℕ) → clockOk day ms ≡ true → (day ≤ 54787) × (ms ≤ 86399999)
+pub clock-small : (day ms : ℕ) → clockOk day ms ≡ true → (day ≤ lastDay) × (ms ≤ lastMs day)
 unfolding clockOk
 clock-small day ms e = (between-true _ _ _ (both-first _ _ e) .1, upTo-true _ _ (both-second _ _ e))
 
-pub settings-window : (a : Settings) → settingsOk a ≡ true → (a .first ≤ 54788) × (a .days ≤ 30)
+pub settings-window : (a : Settings) → settingsOk a ≡ true → (a .first ≤ dayAfterLast) × (a .first + a .days ≤ dayAfterLast)
 unfolding settingsOk windowOk
 settings-window a e =
     let w = both-second _ _ (both-second _ _ e) in
-    let d = between-true _ _ _ (both-first _ _ w) .1 in
     let h = upTo-true _ _ (both-second _ _ (both-second _ _ w)) in
-    (omega (arith, h), d)
+    (omega (arith, h), h)
 
 -- where a number is found is within the list
 pub found-inside : (number i k : ℕ) (l : List ℕ) → findFrom number i l ≡ given k → k < i + length l

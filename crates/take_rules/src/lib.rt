@@ -3,15 +3,11 @@ use num_limits::LAST_DAY;
 use num_limits::SIGMA_MOST;
 use num_limits::WEIGHT_TOP;
 ghost use mathlib.Core.Path.{_≡_};
-ghost use Prim.Native.Nat.{_≤_, _<_, _^_};
+ghost use Prim.Native.Nat.{_+_, _≤_, _^_};
 ghost use lib.IntN.{natAbs};
 ghost use Rattle.num_limits.specs.Capacities.{sigmaMost, weightTop, lastDay, dayAfterLast};
-ghost use Rattle.take_rules.specs.Rules.{sigmaOk, weightOf, lastMs, clockOk, timeOf, inWindow, passesEdit};
-
-// "Each day has 86,400,000 ms.", and its last one.
-const DAY_LENGTH: u64 = 86400000;
-
-const LAST_MS: u32 = 86399999;
+ghost use Rattle.days_leap.specs.Leap.{lastMs};
+ghost use Rattle.take_rules.specs.Rules.{sigmaOk, weightOf, clockOk, timeOf, inWindow, passesEdit};
 
 pub fn sigma_ok(s: u16) -> bool
     ensures { λ r. ⌜ r ≡ sigmaOk s ⌝ }
@@ -37,26 +33,26 @@ pub fn clock_ok(day: u32, ms: u32) -> bool
     ensures { λ r. ⌜ r ≡ clockOk day ms ⌝ }
 {
     if num_whole::within(1, day as u64, LAST_DAY) {
-        ms <= LAST_MS
+        days_leap::in_day(day, ms)
     } else {
         false
     }
 }
 
 pub fn time(day: u32, ms: u32, correction: i32) -> i64
-    requires { ⌜ (day ≤ lastDay) × (ms ≤ lastMs) ⌝ }
+    requires { ⌜ (day ≤ lastDay) × (ms ≤ lastMs day) ⌝ }
     ensures { λ t. ⌜ t ≡ timeOf day ms correction ⌝ }
 {
-    let start = day as u64 * DAY_LENGTH + ms as u64;
-    start as i64 + correction as i64
+    let clock = days_leap::start(day) + ms as u64;
+    clock as i64 + correction as i64
 }
 
 pub fn in_window(first: u32, days: u16, t: i64) -> bool
-    requires { ⌜ (first ≤ dayAfterLast) × (days ≤ 30) ⌝ }
+    requires { ⌜ (first ≤ dayAfterLast) × (first + days ≤ dayAfterLast) ⌝ }
     ensures { λ r. ⌜ r ≡ inWindow first days t ⌝ }
 {
-    let from = first as u64 * DAY_LENGTH;
-    let end = (first as u64 + days as u64) * DAY_LENGTH;
+    let from = days_leap::start(first);
+    let end = days_leap::start(first + days as u32);
     if from as i64 <= t {
         t < end as i64
     } else {

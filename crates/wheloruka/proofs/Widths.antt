@@ -18,7 +18,9 @@ use Rattle.byte_words.specs.Stands.{stands}
 use Rattle.byte_words.proofs.Words.{Bytes, word-small}
 use Rattle.byte_words.proofs.Stands.{length-stands}
 use Rattle.refusal.proofs.Firsts.{first-none}
-use Rattle.take_rules.specs.Rules.{inWindow, dayLength}
+use Rattle.days_leap.specs.Leap.{dayStart}
+use Rattle.days_leap.proofs.Days.{start-most}
+use Rattle.take_rules.specs.Rules.{inWindow}
 use Rattle.arc_limits.specs.Limits.{windowOk, settingsOk}
 use Rattle.arc_heading.specs.declared.Heading.{Heading}
 use Rattle.arc_heading.proofs.Sound.{Sound}
@@ -82,9 +84,9 @@ after : (a b : Bool) → (a && b) ≡ true → b ≡ true
 after true b e = e
 after false b e = absurd (apart (sym e))
 
-window-below : (first days n : ℕ) → inWindow first days (pos n) ≡ true → n < (first + days) * dayLength
+window-below : (first days n : ℕ) → inWindow first days (pos n) ≡ true → n < dayStart (first + days)
 unfolding inWindow
-window-below first days n e = ltb-true _ _ (after (leb (first * dayLength) n) _ e)
+window-below first days n e = ltb-true _ _ (after (leb (dayStart first) n) _ e)
 
 module _ (h : Heading) (v : Sound h) (b : List ℕ) where
   stamp-small : Fits (frameOf h) b → stamp (frameOf h) b < 256 ^ 8
@@ -92,7 +94,7 @@ module _ (h : Heading) (v : Sound h) (b : List ℕ) where
   stamp-small f =
       let last = upTo-true _ _ (both-second _ _ (both-second _ _ (both-second _ _ (both-second _ _ (v .settings))))) in
       let here = window-below _ _ _ (subst (λ t. inWindow (h .settings .first) (h .settings .days) t ≡ true) (f .time) (f .window)) in
-      omega arith
+      omega (arith, start-most _ last)
 
 -- ---- a record that is booked, from any state that an entry may be handed
 module _ (h : Heading) (b : List ℕ) (s : State) (v : Held h s) (fit : TallyFits (s .tally)) where
