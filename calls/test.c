@@ -1,6 +1,7 @@
 /* Runs the library's calls on cases whose answers plain C works out here or in bench/peer.c, and prints what was compared: days and cells one by
    one, units at random and at the limits, residuals at random and across north, forged headings and states, rooms one element too short or longer
-   than needed, files cut short, arc files in parts, arc files read and written again, normal files unpacked, written again and merged, listings. */
+   than needed, files cut short, arc files in parts, arc files read and written again, normal files unpacked, written again and merged, listings;
+   and units, taking and listings with the processor rounding otherwise, with its traps unmasked and with subnormals taken for zero. */
 #include <stdint.h>
 #include <stdio.h>
 #include <string.h>
@@ -681,6 +682,112 @@ static void listings(void)
     told("listings");
 }
 
+/* ---- the processor rounding otherwise, its traps unmasked, subnormals taken for zero: every answer is as it was, and no exception is raised.
+   Where it is emulated nothing may trap, so that the exceptions raised are looked at in any case. */
+
+#define PATTERNS (2048 * 8 + 4096)
+static uint64_t patterns[PATTERNS];
+static struct { uint32_t unit, residual; int64_t q, r; uint64_t back; } now[PATTERNS], before[PATTERNS];
+static uint8_t text_now[WHL_LISTING_MOST], text_before[WHL_LISTING_MOST], state_before[sizeof tally + sizeof matrix + sizeof rights + sizeof answers];
+static volatile double one = 1, three = 3, third;
+
+/* MXCSR: 6 bits of exceptions raised, 6 bits that mask them, 2 bits of rounding; two bits take subnormals for zero, as operands and as results. */
+static u32 control(void) { u32 c; __asm__ volatile("stmxcsr %0" : "=m"(c)); return c; }
+static void set_control(u32 c) { __asm__ volatile("ldmxcsr %0" : : "m"(c) : "memory"); }
+static double of_bits(u64 bits) { double x; memcpy(&x, &bits, 8); return x; }
+
+/* Each pattern to a unit of a type and back, and its residual against the next one. */
+static void convert_all(u32 kind)
+{
+    for (size_t i = 0; i < PATTERNS; i++) {
+        double back = 0, x = of_bits(patterns[i]), y = of_bits(patterns[(i + 1) % PATTERNS]);
+        now[i].q = now[i].r = 77;
+        now[i].unit = whl_unit_of(kind, x, &now[i].q, 1);
+        now[i].residual = whl_residual(kind, x, y, &now[i].r, 1);
+        if (!now[i].unit) now[i].unit = 1000 + whl_double_of(kind, now[i].q, &back, 1);
+        memcpy(&now[i].back, &back, 8);
+    }
+}
+
+/* The file's records taken, as a run and one by one, and the file listed. */
+static uint32_t take_and_list(size_t length, uint64_t *size)
+{
+    uint64_t found[2];
+    uint32_t n = whl_read(file, length, heading, sizeof heading, found, 2);
+    size_t record = WHL_RECORD_BYTES(heading[12]);
+    n += whl_start(heading, sizeof heading, STATE);
+    for (size_t i = 0; i < found[0]; i++) answers[i] = (uint8_t)whl_take(heading, sizeof heading, STATE, file + found[1] + record * i, record);
+    n += whl_start(heading, sizeof heading, STATE);
+    uint8_t single[sizeof answers];
+    memcpy(single, answers, sizeof answers);
+    n += whl_take_run(heading, sizeof heading, STATE, file + found[1], length - found[1], answers, sizeof answers);
+    return n + whl_list(file, length, text_now, sizeof text_now, size, 1) + (memcmp(single, answers, found[0]) ? 1000 : 0);
+}
+
+static void keep_state(uint8_t *to)
+{
+    memcpy(to, tally, sizeof tally); to += sizeof tally;
+    memcpy(to, matrix, sizeof matrix); to += sizeof matrix;
+    memcpy(to, rights, sizeof rights); to += sizeof rights;
+    memcpy(to, answers, sizeof answers);
+}
+
+/* An arc file whose records have doubles of all kinds: pairs near each other, ties, and a pattern of any exponent beside one of them. */
+static size_t strange_file(void)
+{
+    size_t length = make(3, 2, 60), start = length - 60 * WHL_RECORD_BYTES(3);
+    for (u32 i = 0; i < 60; i++) {
+        const struct type *t = &types[i % 10];
+        size_t at = start + i * WHL_RECORD_BYTES(3);
+        double scale = (double)(1ULL << t->k), x = (double)(i64)(inside(t) * scale);
+        put(at + 4, i % 10 + 1, 4);
+        put_double(put_double(at + 16, (x + (int)next(5) / 2.0) / scale), x / scale);
+        if (i % 3 == 2) put(at + 16 + 8 * next(2), patterns[next(PATTERNS)], 8);
+    }
+    return length;
+}
+
+static void environments(void)
+{
+    static const u64 fractions[4] = { 0, 1, 0xfffffffffffff, 0x8000000000000 };
+    static uint8_t state_now[sizeof state_before];
+    u32 usual = control() & ~63u;
+    for (u32 i = 0; i < 2048 * 8; i++) patterns[i] = (u64)(i / 8) << 52 | (u64)(i / 4 % 2) << 63 | fractions[i % 4];
+    for (u32 i = 2048 * 8; i < PATTERNS; i++) {
+        const struct type *t = &types[i % 10];
+        double x = i % 2 ? any_double() : ((double)(i64)(inside(t) * (double)(1ULL << t->k)) + 0.5) / (double)(1ULL << t->k);
+        memcpy(&patterns[i], &x, 8);
+    }
+    for (u32 round = 0; round < 41; round++) {
+        u32 kind = round + 1, rest = 0;
+        size_t length = round < 10 ? 0 : strange_file();
+        uint64_t size_before = 0, size = 0;
+        uint32_t n_before = 0, n = 0;
+        if (round < 10) convert_all(kind); else n_before = take_and_list(length, &size_before);
+        memcpy(before, now, sizeof now);
+        memcpy(text_before, text_now, sizeof text_now);
+        keep_state(state_before);
+        for (u32 e = 0; e < 16; e++) {
+            set_control((e & 3) << 13 | (e & 4 ? 0 : 0x1f80) | (e & 8 ? 0x8040 : 0));
+            if (round < 10) convert_all(kind); else n = take_and_list(length, &size);
+            rest = control();
+            set_control(usual);
+            keep_state(state_now);
+            CHECK(!(rest & 63));
+            CHECK(!memcmp(before, now, sizeof now));
+            CHECK(n == n_before && size == size_before && !memcmp(text_before, text_now, sizeof text_now) && !memcmp(state_before, state_now, sizeof state_now));
+        }
+    }
+    /* that a mode is in force, and what is raised is seen */
+    set_control(0x1f80 | 1 << 13); third = one / three;
+    double down = third;
+    set_control(0x1f80 | 2 << 13); third = one / three;
+    u32 raised = control();
+    set_control(usual);
+    CHECK(down < third && (raised & 63) == 32);
+    told("environments");
+}
+
 int main(void)
 {
     days();
@@ -694,6 +801,7 @@ int main(void)
     writes();
     normals();
     listings();
+    environments();
     if (wrong) printf("%lu WRONG\n", wrong);
     return wrong != 0;
 }

@@ -22,9 +22,8 @@
      read by every later call.
    - Nothing is kept between calls, and nothing is allocated: calls in different threads on different rooms do not meet. Stack: whl_list 45 KB,
      whl_merge and whl_part 25 KB, whl_position_heading 15 KB, every other call below 14 KB.
-   - The calls that look at doubles (whl_unit_of, whl_double_of, whl_residual, whl_take, whl_take_run, whl_part, whl_list) work in the floating-point
-     environment that a C program starts with: rounding to nearest, no exception unmasked, subnormals kept. In another one they may answer
-     otherwise, or trap; no promise holds there, and nothing looks at it. */
+   - No call depends on the floating-point environment or changes it: in every rounding mode, with exceptions unmasked and with subnormals taken for
+     zero the answers are the same, and no exception is raised. */
 #ifndef WHELORUKA_H
 #define WHELORUKA_H
 #include <stddef.h>

@@ -1,4 +1,4 @@
-// Runs the vectors of days, cells and units. The first word of a line tells what it asks. Each line is written anew: its question as it was read,
+// Runs the vectors of days, cells and units, and doubles of every exponent. The first word of a line tells what it asks. Each line is written anew: its question as it was read,
 // and the library's own answer.
 use cells::Cell;
 use cells::CellAnswer;
@@ -192,9 +192,102 @@ fn run_back(line: &[u8]) {
     put_back_of(kind, q);
 }
 
+// ---- units of doubles of every exponent
+
+// What was answered: how many units, 15 and 16, and a checksum of the units in their order.
+struct Told {
+    units: u64,
+    not_finite: u64,
+    out_of_limits: u64,
+    sum: u64,
+}
+
+// One unit more.
+fn with_unit(told: Told, q: i64) -> Told {
+    Told {
+        units: std::num::wrapping_add_u64(told.units, 1),
+        not_finite: told.not_finite,
+        out_of_limits: told.out_of_limits,
+        sum: (told.sum % 4294967296 * 31 + num_signs::bits64(q) % 281474976710656) % 4294967291,
+    }
+}
+
+// One refusal more.
+fn with_refusal(told: Told, number: u32) -> Told {
+    Told {
+        units: told.units,
+        not_finite: if number == 15 {
+            std::num::wrapping_add_u64(told.not_finite, 1)
+        } else {
+            told.not_finite
+        },
+        out_of_limits: if number == 16 {
+            std::num::wrapping_add_u64(told.out_of_limits, 1)
+        } else {
+            told.out_of_limits
+        },
+        sum: told.sum,
+    }
+}
+
+// One double more, by its pattern.
+fn with_pattern(told: Told, kind: u32, pattern: u64) -> Told {
+    match unit_convert::unit_of(kind, unit_bits::double_of_bits(pattern)) {
+        UnitAnswer::Is(q) => with_unit(told, q),
+        UnitAnswer::Refused(why) => with_refusal(told, refusal::number(why)),
+    }
+}
+
+// The four fractions of a sign and an exponent: 0, 1, all ones, and a half, which is the first of the 52 bits alone.
+fn with_fractions(told: Told, kind: u32, first: u64) -> Told {
+    let at = first % 0xfff0_0000_0000_0001;
+    let a = with_pattern(told, kind, at);
+    let b = with_pattern(a, kind, at + 1);
+    let c = with_pattern(b, kind, at + 0xf_ffff_ffff_ffff);
+    with_pattern(c, kind, at + 0x8_0000_0000_0000)
+}
+
+// Both signs of an exponent.
+fn with_exponent(told: Told, kind: u32, exponent: u64) -> Told {
+    let first = exponent % 2048 * 0x10_0000_0000_0000;
+    with_fractions(
+        with_fractions(told, kind, first),
+        kind,
+        0x8000_0000_0000_0000 + first,
+    )
+}
+
+// The 64 exponents of a block.
+fn told_of(kind: u32, block: u64) -> Told {
+    let mut told = Told {
+        units: 0,
+        not_finite: 0,
+        out_of_limits: 0,
+        sum: 0,
+    };
+    for i in 0..64u64 {
+        told = with_exponent(told, kind, block % 32 * 64 + i);
+    }
+    told
+}
+
+// A line `field TYPE BLOCK -> ..`, written anew: what the doubles of 64 exponents' fields, both signs and four fractions give.
+fn run_field(line: &[u8]) {
+    let kind = desk_lines::small(line, 1);
+    let block = desk_lines::small(line, 2) as u64;
+    let told = told_of(kind, block);
+    desk_lines::put(b"field ");
+    desk_lines::put_number(kind as u64, b" ");
+    desk_lines::put_number(block, b" -> ok ");
+    desk_lines::put_number(told.units, b" refused 15 ");
+    desk_lines::put_number(told.not_finite, b" refused 16 ");
+    desk_lines::put_number(told.out_of_limits, b" sum ");
+    desk_lines::put_number(told.sum, b"\n");
+}
+
 // ---- lines
 
-// A line of any kind, told by its third byte: `day`, `date`, `cell`, `unit`, `double` or `back`. Of another line nothing is written.
+// A line of any kind, told by its third byte: `day`, `date`, `cell`, `unit`, `double`, `back` or `field`. Of another line nothing is written.
 fn run_line(line: &[u8]) {
     match desk_lines::byte_at(line, 2) {
         b'y' => run_day(line),
@@ -203,6 +296,7 @@ fn run_line(line: &[u8]) {
         b'i' => run_unit(line),
         b'u' => run_double(line),
         b'c' => run_back(line),
+        b'e' => run_field(line),
         _ => {}
     }
 }

@@ -1,5 +1,5 @@
 -- A whole number of units as a double: the cast and the division by 2 ^ k lose nothing. Assumes nothing.
-use mathlib.Core.Path.{_≡_, sym, ap, ap₂, _∙_, subst}
+use mathlib.Core.Path.{_≡_, refl, sym, ap, ap₂, _∙_, subst}
 use Prim.Native.Nat.{ℕ, suc, _+_, _-_, _*_, _/_, _^_, _≤_, _<_}
 use native.Mathlib.Nat.{lt-irrefl, le-of-lt, lt-of-lt-of-le, mul-one, zero-mul, mul-assoc, mul-comm, mul-right-comm, mul-pos, mul-div-cancel}
 use native.Mathlib.Omega.{arith}
@@ -16,9 +16,12 @@ use lib.Ieee.Scale.{round-same}
 use borrow.Author.Tests.{ne-eqb}
 use Rattle.unit_nearest.specs.Doubles.{signed, size, quotient, Exactly}
 use Rattle.unit_nearest.proofs.Signs.{times}
-use Rattle.unit_nearest.proofs.Product.{unlike-false}
 
 -- ---- the division of two values
+unlike-false : (s : Bool) → unlike s false ≡ s
+unlike-false true = refl
+unlike-false false = refl
+
 swap : (n a b d : ℕ) → n * a * b * d ≡ n * (d * b * a)
 swap n a b d = ap (λ (x : ℕ). x * d) (mul-assoc n a b) ∙ mul-assoc n (a * b) d ∙ ap (λ (x : ℕ). n * x) (ap (λ (x : ℕ). x * d) (mul-comm a b) ∙ mul-comm (b * a) d ∙ sym (mul-assoc d b a))
 

@@ -181,6 +181,11 @@ finite-field p f =
     (λ h. special-not-finite (negative p) (fractionOf p)
     (subst (λ (x : ℕ). T (finite (ofFields binary64 (negative p) x (fractionOf p)))) h (subst (λ (x : Float). T (finite x)) (bits-are p) f)))
 
+-- a number's unit by the fields of its pattern
+pub number-bits : (k : ℕ) (lo hi : ℤ) (p : ℕ) → T (finite (ofBits binary64 p))
+    → unitWithin k lo hi (ofBits binary64 p) ≡ within lo hi (signed (negative p) (closest (mant (fieldOf p) (fractionOf p) * 2 ^ k) (2 ^ 1074)))
+number-bits k lo hi p f = ap (λ (x : Float). unitWithin k lo hi x) (bits-are p) ∙ unit-of-fields k lo hi (negative p) (fieldOf p) (fractionOf p) (finite-field p f)
+
 pub exact-bits : (k : ℕ) (q : ℤ) (p : ℕ) → Exactly k q (ofBits binary64 p) → wholeBits p *ℤ pos (2 ^ k) ≡ q *ℤ pos (2 ^ 1074)
 exact-bits k q p h = ap (λ (X : ℤ). X *ℤ pos (2 ^ k)) (sym (times1074-bits p (finite-field p (h .number)))) ∙ h .same
 

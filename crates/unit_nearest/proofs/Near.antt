@@ -1,7 +1,7 @@
 -- What `closest` is: `Near a b n` says that n is a whole number nearest to a / b, and even at a tie. There is one such n, and it is `closest a b`. Assumes nothing.
 use mathlib.Core.Path.{_≡_, refl, sym, ap, _∙_, subst}
-use Prim.Native.Nat.{ℕ, zero, suc, _+_, _-_, _*_, _/_, _%_, _≤_, _<_}
-use native.Mathlib.Nat.{lt-irrefl, le-antisymm, lt-of-not-le, le-of-suc-le-suc, add-mul, suc-mul, mul-sub, mul-comm, mul-le-mul-right, div-add-mod', mod-lt, eq-of-mul-eq-mul-right}
+use Prim.Native.Nat.{ℕ, zero, suc, _+_, _*_, _/_, _%_, _≤_, _<_}
+use native.Mathlib.Nat.{le-antisymm, suc-mul, mul-le-mul-right, div-add-mod', mod-lt, eq-of-mul-eq-mul-right}
 use native.Mathlib.Omega.{arith}
 use mathlib.Core.Bool.{Bool, true, false, not}
 use lib.Dec.{T, ltb, ltb→lt, nltb→le}
@@ -33,7 +33,7 @@ module _ (a b q r : ℕ) (e : q * b + r ≡ a) (l : r < b) where
       record { lo = omega arith; hi = omega arith; even-lo = λ t. omega arith; even-hi = λ t. omega arith }
   tied h (suc (suc p)) o = absurd (omega arith)
 
-cases : {X : Type 0} (m n : ℕ) → (m < n → X) → (m ≡ n → X) → (n < m → X) → X
+pub cases : {X : Type 0} (m n : ℕ) → (m < n → X) → (m ≡ n → X) → (n < m → X) → X
 cases {X} m n f g h = go (ltb m n) (ltb n m) (ltb→lt m n) (nltb→le m n) (ltb→lt n m) (nltb→le n m)
   where
     go : (s t : Bool) → (T s → m < n) → (T (not s) → n ≤ m) → (T t → n < m) → (T (not t) → m ≤ n) → X
@@ -65,41 +65,3 @@ apart a b n m B x y h =
 
 pub unique : (a b n m : ℕ) → 0 < b → Near a b n → Near a b m → n ≡ m
 unique a b n m B x y = cases {X = n ≡ m} n m (λ h. absurd (apart a b n m B x y h)) (λ h. h) (λ h. absurd (apart a b m n B y x h))
-
--- an even number c more, and an even number c less what is near
-pub closest-up : (a b c : ℕ) → 0 < b → c % 2 ≡ 0 → closest (a + c * b) b ≡ closest a b + c
-closest-up a b c B o =
-    let n = closest a b in
-    let x = near a b B in
-    let m : (n + c) * b ≡ n * b + c * b = add-mul n c b in
-    unique (a + c * b) b (closest (a + c * b) b) (n + c) B (near (a + c * b) b B)
-    (record {
-      lo = omega (arith, x .lo);
-      hi = omega (arith, x .hi);
-      even-lo = λ t. let z : n % 2 ≡ 0 = x .even-lo (omega arith) in omega arith;
-      even-hi = λ t. let z : n % 2 ≡ 0 = x .even-hi (omega arith) in omega arith;
-    })
-
-pub closest-le : (a b c : ℕ) → 0 < b → a ≤ c * b → closest a b ≤ c
-closest-le a b c B h =
-    let n = closest a b in
-    let x = near a b B in
-    le-of-suc-le-suc (lt-of-not-le (λ (g : suc c ≤ n).
-    let s : suc c * b ≤ n * b = mul-le-mul-right b g in
-    let t : suc c * b ≡ c * b + b = suc-mul c b in
-    lt-irrefl 0 (omega (arith, x .lo))))
-
-pub closest-from : (a b c : ℕ) → 0 < b → c % 2 ≡ 0 → a ≤ c * b → closest (c * b - a) b ≡ c - closest a b
-closest-from a b c B o h =
-    let n = closest a b in
-    let x = near a b B in
-    let g : n ≤ c = closest-le a b c B h in
-    let m : (c - n) * b ≡ c * b - n * b = mul-comm (c - n) b ∙ mul-sub b c n ∙ ap (λ (z : ℕ). z - b * n) (mul-comm b c) ∙ ap (λ (z : ℕ). c * b - z) (mul-comm b n) in
-    let k : n * b ≤ c * b = mul-le-mul-right b g in
-    unique (c * b - a) b (closest (c * b - a) b) (c - n) B (near (c * b - a) b B)
-    (record {
-      lo = omega (arith, x .hi);
-      hi = omega (arith, x .lo);
-      even-lo = λ t. let z : n % 2 ≡ 0 = x .even-hi (omega arith) in omega arith;
-      even-hi = λ t. let z : n % 2 ≡ 0 = x .even-lo (omega arith) in omega arith;
-    })

@@ -1,10 +1,10 @@
 -- A whole number with a sign: products, distances and limits, by the sizes. Assumes nothing.
 use mathlib.Core.Path.{_≡_, refl, sym, ap, _∙_}
-use Prim.Native.Nat.{ℕ, zero, suc, _+_, _-_, _*_, _≤_, _<_}
+use Prim.Native.Nat.{ℕ, zero, suc, _+_, _-_, _*_, _^_, _≤_, _<_}
 use native.Mathlib.Nat.{zero-mul}
 use native.Mathlib.Omega.{arith}
 use mathlib.Core.Bool.{Bool, true, false, _&&_, cond}
-use lib.IntN.{ℤ, pos, negsuc, negℤ, natAbs, subℕ, _-ℤ_, _*ℤ_}
+use lib.IntN.{ℤ, pos, negsuc, negℤ, natAbs, subℕ, _-ℤ_, _*ℤ_, +ℤ-idl}
 use mir.Syntax.{w64}
 use mir.Val.{SFits, ofZ, toZ}
 use mir.Facts.{toZ-ofZ}
@@ -59,9 +59,18 @@ outside (pos l) hi true (suc n) m a b c = refl
 outside (negsuc l) hi true (suc n) m a b c =
     ap (λ (t : Bool). cond (t && leZ (negsuc n) hi) (given (negsuc n)) (refused 16)) (lt-leb n l (omega arith))
 
+-- a number up to 2 ^ 53 is one of the machine's, with either sign
+pub sfits-signed : (s : Bool) (n : ℕ) → n ≤ 2 ^ 53 → SFits w64 (signed s n)
+sfits-signed false n h = record { sfits = omega arith }
+sfits-signed true zero h = record { sfits = omega arith }
+sfits-signed true (suc n) h = record { sfits = omega arith }
+
+pub less-of-zero : (n : ℕ) → pos 0 -ℤ pos n ≡ negℤ (pos n)
+less-of-zero n = +ℤ-idl (negℤ (pos n))
+
 -- a callee is handed signed numbers by their bits
+pub limits-handed : (lo hi q : ℤ) → SFits w64 lo → SFits w64 hi → within (toZ w64 (ofZ w64 lo)) (toZ w64 (ofZ w64 hi)) q ≡ within lo hi q
+limits-handed lo hi q a b = ap (λ (x : ℤ). within x (toZ w64 (ofZ w64 hi)) q) (toZ-ofZ a) ∙ ap (λ (x : ℤ). within lo x q) (toZ-ofZ b)
+
 pub handed : (lo hi q : ℤ) → SFits w64 lo → SFits w64 hi → SFits w64 q → within (toZ w64 (ofZ w64 lo)) (toZ w64 (ofZ w64 hi)) (toZ w64 (ofZ w64 q)) ≡ within lo hi q
-handed lo hi q a b c =
-    ap (λ (x : ℤ). within x (toZ w64 (ofZ w64 hi)) (toZ w64 (ofZ w64 q))) (toZ-ofZ a)
-    ∙ ap (λ (x : ℤ). within lo x (toZ w64 (ofZ w64 q))) (toZ-ofZ b)
-    ∙ ap (λ (x : ℤ). within lo hi x) (toZ-ofZ c)
+handed lo hi q a b c = limits-handed lo hi (toZ w64 (ofZ w64 q)) a b ∙ ap (λ (x : ℤ). within lo hi x) (toZ-ofZ c)

@@ -76,7 +76,9 @@ pub record Exactly (k : ℕ) (q : ℤ) (x : Float) : Type 0 where
   pub number : T (finite x)
   pub same : times1074 x *ℤ pos (2 ^ k) ≡ q *ℤ pos (2 ^ 1074)
 
--- ---- the same by the pattern's bits alone, with no float in it: the sign, the exponent's field and the fraction
+-- ---- the same by the pattern's bits alone, with no float in it. 02, #104: "Work from the sign, exponent and fraction bits instead, subnormals
+-- included." IEEE 754, 3.4, has three fields in the 64 bits of binary64: the sign S, 1 bit; the biased exponent E, 11 bits; and the trailing
+-- significand T, 52 bits, here the fraction.
 abbrev pub negative : ℕ → Bool
 negative p = leb (2 ^ 63) p
 
@@ -86,7 +88,14 @@ fieldOf p = p % 2 ^ 63 / 2 ^ 52
 abbrev pub fractionOf : ℕ → ℕ
 fractionOf p = p % 2 ^ 52
 
--- |x| * 2 ^ 1074 by the exponent's field and the fraction
+-- IEEE 754, 3.4: the exponent's field has "the reserved value 0 to encode ±0 and subnormal numbers", "every integer between 1 and 2^w − 2" for
+-- normal numbers, whose leading bit is implicit, and "the reserved value 2^w − 1 to encode ±∞ and NaNs". So the digits of a number are its
+-- fraction, with the hidden bit before it where the number is normal.
+abbrev pub hidden : ℕ → ℕ
+hidden zero = 0
+hidden (suc x) = 2 ^ 52
+
+-- |x| * 2 ^ 1074 by the exponent's field and the fraction: the digits times a power of two, which is 1 for the fields 0 and 1 alike
 abbrev pub mant : ℕ → ℕ → ℕ
 mant zero t = t
 mant (suc x) t = (2 ^ 52 + t) * 2 ^ x
@@ -99,20 +108,6 @@ unfoldable pub patternUnit : ℕ → ℤ → ℤ → ℕ → Answered ℤ
 patternUnit k low high p =
     cond (eqb (fieldOf p) 2047) (refused 15)
     (within low high (signed (negative p) (closest (mant (fieldOf p) (fractionOf p) * 2 ^ k) (2 ^ 1074))))
-
--- ---- what the private functions promise each other
--- the whole number nearest to y
-unfoldable pub wholeOf : Float → ℤ
-wholeOf nan = pos 0
-wholeOf (inf s) = pos 0
-wholeOf (fin s m e) = signed s (closest (m * up e) (down e))
-
--- 2 ^ 51 and -2 ^ 51
-abbrev pub below51 : Float
-below51 = fin false 1 (pos 51)
-
-abbrev pub above51 : Float
-above51 = fin true 1 (pos 51)
 
 -- what the answer says
 abbrev pub toldNearest : Unit → Answered ℤ

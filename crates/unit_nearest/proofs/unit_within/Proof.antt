@@ -1,91 +1,87 @@
--- `unit_nearest::unit_within` meets its contract: the ways out are those of `Product`. Assumes nothing.
-use mathlib.Core.Path.{sym, ap, _∙_, subst}
-use Prim.Native.Nat.{ℕ, _^_}
-use lib.Dec.{T, leb, le→leb}
-use lib.IntN.{ℤ, pos}
-use lib.Ieee.{binary64, ofInt, inFloat, ofBits, neg, nanBits}
+-- `unit_nearest::unit_within` meets its contract: a number is the double of its own bits, and its unit is told by their fields. Assumes nothing.
+use mathlib.Core.Path.{_≡_, sym, ap, _∙_, subst}
+use Prim.Native.Nat.{ℕ, _*_, _^_, _≤_, _<_}
+use mathlib.Core.Bool.{Bool, true, false}
+use lib.Dec.{T}
+use lib.IntN.{ℤ, natAbs}
+use lib.Ieee.{Float, binary64, fits, toBits}
+use lib.Ieee.Bits.{ofBits-toBits}
+use lib.Ieee.Scale.{finite}
+use lib.Ieee.Nearest.{closest}
+use mir.Facts.{toZ-ofZ}
 use borrow.Author.Needs.{needs}
-use Rattle.unit_nearest.specs.Doubles.{within}
-use Rattle.unit_nearest.proofs.Signs.{handed}
-use Rattle.unit_nearest.proofs.Values.{up-to, power-value}
-use Rattle.unit_nearest.proofs.Product.{in-range, too-high, too-low, not-finite-high, not-finite-low}
+use Rattle.unit_nearest.specs.Doubles.{signed, mant, unitWithin}
+use Rattle.unit_nearest.specs.Steps.{fieldsOf, fieldsUnit}
+use Rattle.unit_nearest.specs.declared.Fields.{Fields}
+use Rattle.unit_nearest.proofs.Claims.{number-bits}
+use Rattle.unit_nearest.proofs.Signs.{limits-handed}
+use Rattle.unit_nearest.proofs.Steps.{field-small, fraction-small, not-finite, a-number}
 use Rattle.unit_nearest.proofs.unit_within.Statement.{statement}
 use Rattle.unit_nearest.proofs.unit_within.Tie as tie
 use Rattle.unit_nearest.proofs.unit_within.Reads as reads
 use Rattle.unit_nearest.proofs.unit_within.Lts as lts
-use Rattle.unit_nearest.proofs.limited.Reads as limited-reads
-use Rattle.unit_nearest.proofs.power.Reads as power-reads
-use Rattle.unit_nearest.proofs.rounded.Reads as rounded-reads
+use Rattle.unit_nearest.proofs.fields_of.Reads as fields-of-reads
+use Rattle.unit_nearest.proofs.fields_unit.Reads as fields-unit-reads
+use Rattle.unit_nearest.proofs.is_finite.Reads as is-finite-reads
 
-float-from-bits-top : tie.Need-float-from-bits-top
-unfolding nanBits
-float-from-bits-top c = tt
+-- the unit before its limits
+abbrev unitOf : ℕ → Fields → ℤ
+unitOf k f = signed (f .negative) (closest (mant (f .exponent) (f .fraction) * 2 ^ k) (2 ^ 1074))
 
-power-requires : tie.Need-power-requires
-power-requires c κs = search needs
+-- what the test says of the double
+told : (x : Float) (r t : Bool) → r ≡ finite x → r ≡ t → finite x ≡ t
+told x r t e h = sym e ∙ h
 
-int-to-float-y : tie.Need-int-to-float-y
-unfolding inFloat
-int-to-float-y c =
-    let s = c .before .before .before .before in
-    subst (λ (n : ℕ). T (leb n (2 ^ 53))) (sym (c .before .power .ensures)) (le→leb (2 ^ s .args .k) (2 ^ 53) (up-to (s .args .k) (s .pre .0)))
+by-bits : (k : ℕ) (lo hi : ℤ) (x : Float) → T (fits binary64 x) → finite x ≡ true → fieldsUnit k lo hi (fieldsOf (toBits binary64 x)) ≡ unitWithin k lo hi x
+by-bits k lo hi x g h =
+    let e = ofBits-toBits binary64 x g in
+    sym (number-bits k lo hi (toBits binary64 x) (subst (λ (y : Float). T (finite y)) (sym e) (subst T (sym h) tt))) ∙ ap (λ (y : Float). unitWithin k lo hi y) e
 
-rounded-requires : tie.Need-rounded-requires
-unfolding ofBits neg
-rounded-requires c κs = (c .before .if3 .taken, c .if4 .taken)
+is-finite-requires : tie.Need-is-finite-requires
+is-finite-requires c κs = search needs
 
-limited-requires : tie.Need-limited-requires
-limited-requires c κs = search needs
+float-to-bits-fields-of : tie.Need-float-to-bits-fields-of
+float-to-bits-fields-of c =
+    let b = c .before in a-number (b .before .args .x) (told (b .before .args .x) (b .is-finite .result) true (b .is-finite .ensures) (c .if1 .taken))
+
+fields-of-requires : tie.Need-fields-of-requires
+fields-of-requires c κs = search needs
+
+fields-unit-requires : tie.Need-fields-unit-requires
+fields-unit-requires c κs =
+    let s = c .before .before .before in
+    let p = toBits binary64 (s .args .x) in
+    let e = c .fields-of .ensures in (
+      subst (λ (f : Fields). f .exponent < 2048) (sym e) (field-small p),
+      subst (λ (f : Fields). f .fraction < 2 ^ 52) (sym e) (fraction-small p),
+      s .pre .0,
+      subst (λ (z : ℤ). natAbs z ≤ 2 ^ 40) (sym (toZ-ofZ (s .fits .low))) (s .pre .1),
+      subst (λ (z : ℤ). natAbs z ≤ 2 ^ 40) (sym (toZ-ofZ (s .fits .high))) (s .pre .2),
+    )
 
 returns : tie.Need-returns
-unfolding ofBits neg
 returns c =
-    let y = c .before .before .before in
-    let s = y .before .before .before .before .before in
+    let b = c .before .before .before in
+    let s = b .before in
     let a = s .args in
-    c .limited .ensures
-    ∙ handed (a .low) (a .high) (c .before .rounded .result) (s .fits .low) (s .fits .high) (record { sfits = c .before .rounded .ok })
-    ∙ ap (λ (q : ℤ). within (a .low) (a .high) q) (c .before .rounded .ensures)
-    ∙ in-range (a .k) (a .low) (a .high) (ofInt binary64 (pos (y .before .before .power .result))) (power-value (a .k) (y .before .before .power .result) (s .pre .0) (y .before .before .power .ensures))
-    (s .pre .1) (s .pre .2) (a .x) (subst T (sym (s .good .0 .1)) tt) (y .before .before .before .before .if1 .taken) (y .before .before .before .if2 .taken) (y .if3 .taken) (c .before .before .if4 .taken)
+    c .fields-unit .ensures
+    ∙ limits-handed (a .low) (a .high) (unitOf (a .k) (c .before .fields-of .result)) (s .fits .low) (s .fits .high)
+    ∙ ap (λ (f : Fields). fieldsUnit (a .k) (a .low) (a .high) f) (c .before .fields-of .ensures)
+    ∙ by-bits (a .k) (a .low) (a .high) (a .x) (subst T (sym (s .good .0 .1)) tt) (told (a .x) (b .is-finite .result) true (b .is-finite .ensures) (c .before .before .if1 .taken))
 
 returns-2 : tie.Need-returns-2
-unfolding ofBits neg
 returns-2 c =
-    let w = c .before .before .before in
-    let s = w .before .before .before in
-    let a = s .args in
-    sym (too-low (a .k) (a .low) (a .high) (ofInt binary64 (pos (w .power .result))) (power-value (a .k) (w .power .result) (s .pre .0) (w .power .ensures))
-    (s .pre .1) (s .pre .2) (a .x) (subst T (sym (s .good .0 .1)) tt) (w .before .before .if1 .taken) (w .before .if2 .taken) (c .if4 .left))
-
-returns-3 : tie.Need-returns-3
-unfolding ofBits neg
-returns-3 c =
-    let w = c .before .before in
-    let s = w .before .before .before in
-    let a = s .args in
-    sym (too-high (a .k) (a .low) (a .high) (ofInt binary64 (pos (w .power .result))) (power-value (a .k) (w .power .result) (s .pre .0) (w .power .ensures))
-    (s .pre .1) (s .pre .2) (a .x) (subst T (sym (s .good .0 .1)) tt) (w .before .before .if1 .taken) (w .before .if2 .taken) (c .if3 .left))
-
-returns-4 : tie.Need-returns-4
-unfolding ofBits neg
-returns-4 c = let a = c .before .before .args in sym (not-finite-low (a .k) (a .low) (a .high) (a .x) (c .if2 .left))
-
-returns-5 : tie.Need-returns-5
-unfolding ofBits neg
-returns-5 c = let a = c .before .args in sym (not-finite-high (a .k) (a .low) (a .high) (a .x) (c .if1 .left))
+    let b = c .before in
+    let a = b .before .args in
+    not-finite (a .k) (a .low) (a .high) (a .x) (told (a .x) (b .is-finite .result) false (b .is-finite .ensures) (c .if1 .left))
 
 pub unit-within-spec : {M : Type 1} → statement M
 unit-within-spec =
     tie.close
     (tie.spec
-    float-from-bits-top
-    power-requires
-    int-to-float-y
-    rounded-requires
-    limited-requires
+    is-finite-requires
+    float-to-bits-fields-of
+    fields-of-requires
+    fields-unit-requires
     returns
-    returns-2
-    returns-3
-    returns-4
-    returns-5)
+    returns-2)
