@@ -96,6 +96,11 @@ pub start-most : (d : ℕ) → d ≤ dayAfterLast → dayStart d ≤ startMost
 unfolding dayStart
 start-most d h = omega (arith, listed-most d)
 
+-- a day starts at day·86,400,000 or later, by the seconds of all listed days at the most
+pub start-around : (d : ℕ) → (d * commonLength ≤ dayStart d) × (dayStart d ≤ d * commonLength + listedMost * second)
+unfolding dayStart
+start-around d = (omega arith, omega (arith, listed-most d))
+
 -- ---- the time of a clock's reading, before its station's correction
 -- a reading is before another: on an earlier day, or on the same day earlier
 abbrev pub Earlier : ℕ → ℕ → ℕ → ℕ → Type 0

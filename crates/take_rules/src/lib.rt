@@ -3,11 +3,17 @@ use num_limits::LAST_DAY;
 use num_limits::SIGMA_MOST;
 use num_limits::WEIGHT_TOP;
 ghost use mathlib.Core.Path.{_≡_};
+ghost use mathlib.Core.Bool.{true};
 ghost use Prim.Native.Nat.{_+_, _≤_, _^_};
 ghost use lib.IntN.{natAbs};
 ghost use Rattle.num_limits.specs.Capacities.{sigmaMost, weightTop, lastDay, dayAfterLast};
 ghost use Rattle.days_leap.specs.Leap.{lastMs};
 ghost use Rattle.take_rules.specs.Rules.{sigmaOk, weightOf, clockOk, timeOf, inWindow, passesEdit};
+
+// The milliseconds of a day without a leap second; no start gains more than this by those before it.
+const COMMON_LENGTH: u64 = 86400000;
+
+const GAIN_MOST: u64 = 27000;
 
 pub fn sigma_ok(s: u16) -> bool
     ensures { λ r. ⌜ r ≡ sigmaOk s ⌝ }
@@ -47,7 +53,22 @@ pub fn time(day: u32, ms: u32, correction: i32) -> i64
     clock as i64 + correction as i64
 }
 
-pub fn in_window(first: u32, days: u16, t: i64) -> bool
+// Whether a time lies in the window whatever leap seconds there are before it: for most records no end of the window is looked up.
+fn well_inside(first: u32, days: u16, t: i64) -> bool
+    requires { ⌜ (first ≤ dayAfterLast) × (first + days ≤ dayAfterLast) ⌝ }
+    ensures { λ r. ⌜ (r ≡ true → inWindow first days t ≡ true) ⌝ }
+{
+    let from = first as u64 * COMMON_LENGTH + GAIN_MOST;
+    let until = (first as u64 + days as u64) * COMMON_LENGTH;
+    if from as i64 <= t {
+        t < until as i64
+    } else {
+        false
+    }
+}
+
+// Whether a time lies in the window, by its two ends.
+fn between_ends(first: u32, days: u16, t: i64) -> bool
     requires { ⌜ (first ≤ dayAfterLast) × (first + days ≤ dayAfterLast) ⌝ }
     ensures { λ r. ⌜ r ≡ inWindow first days t ⌝ }
 {
@@ -58,6 +79,16 @@ pub fn in_window(first: u32, days: u16, t: i64) -> bool
     } else {
         false
     }
+}
+
+pub fn in_window(first: u32, days: u16, t: i64) -> bool
+    requires { ⌜ (first ≤ dayAfterLast) × (first + days ≤ dayAfterLast) ⌝ }
+    ensures { λ r. ⌜ r ≡ inWindow first days t ⌝ }
+{
+    if well_inside(first, days, t) {
+        return true;
+    }
+    between_ends(first, days, t)
 }
 
 pub fn passes_edit(level: u16, s: u16, step: u64, r: i64) -> bool
