@@ -12,7 +12,7 @@ extern take_fn bench_run, bench_take, bench_parts, bench_bytes, peer_run, peer_t
 
 #define RECORDS 4000
 #define MOST 60000
-struct result { i64 matrix[1275], rights[50]; u64 tally[177]; u8 answers[MOST], answer; };
+struct result { i64 matrix[1275], rights[50]; u64 tally[227]; u8 answers[MOST], answer; };
 static struct result results[6];
 static u8 file[1 << 23];
 static u64 seed;
@@ -77,7 +77,7 @@ static const char *const names[6] = { "c run", "take_run", "c take", "take", "pa
 static void call(int f, usize length, int p, usize records)
 {
     struct result *r = &results[f];
-    r->answer = fs[f](file, length, r->matrix, f < 4 ? p * (p + 1) / 2 : 1275, r->rights, f < 4 ? p : 50, r->tally, 177, r->answers, records);
+    r->answer = fs[f](file, length, r->matrix, f < 4 ? p * (p + 1) / 2 : 1275, r->rights, f < 4 ? p : 50, r->tally, 227, r->answers, records);
 }
 
 /* Whether all six leave the same; how many records of the file are accepted, and how many refused by each number, where told to. */

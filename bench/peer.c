@@ -24,7 +24,7 @@ static const struct type types[10] = {
 struct label { u16 kind, index; u32 weight; i64 estimate; };
 struct station { u16 number; i32 correction; };
 struct heading { u32 arc, first; u16 days, level; usize parameters, stations; struct label labels[50]; struct station listed[16]; };
-struct tally { u64 square; u32 counts[16]; u64 last[16][10]; };
+struct tally { u64 square; u32 counts[16]; u64 last[16][10]; u16 marks[50]; };
 
 static u16 u16_at(const u8 *p) { u16 x; __builtin_memcpy(&x, p, 2); return x; }
 static u32 u32_at(const u8 *p) { u32 x; __builtin_memcpy(&x, p, 4); return x; }
@@ -121,6 +121,13 @@ static int judge_state(const struct heading *h, const struct tally *t, const i64
         }
     for (usize i = 0; i < p; i++)
         if (rights[i] > side || rights[i] < -side || (rights[i] != 0 && matrix[i * (i + 3) / 2] == 0))
+            return 6;
+    u16 heard = 0;
+    for (usize i = 0; i < 16; i++)
+        if (t->counts[i])
+            heard |= 1 << i;
+    for (usize i = 0; i < 50; i++)
+        if ((t->marks[i] != 0) != (i < p && matrix[i * (i + 3) / 2] != 0) || (t->marks[i] & ~heard))
             return 6;
     return 0;
 }
@@ -223,8 +230,11 @@ static u8 take_one(const struct heading *h, struct tally *t, i64 *restrict matri
             matrix[k + i] += f * x[i];
         k += j + 1;
     }
-    for (usize i = 0; i < p; i++)
+    for (usize i = 0; i < p; i++) {
         rights[i] += side * x[i];
+        if (x[i])
+            t->marks[i] |= 1 << place;
+    }
     t->square += (u64)(w * (scaled * scaled));
     t->counts[place]++;
     t->last[place][kind - 1] = (u64)time;
@@ -249,6 +259,8 @@ static void put_tally(const struct tally *t, u64 *out)
         out[1 + i] = t->counts[i];
     for (usize i = 0; i < 160; i++)
         out[17 + i] = t->last[i / 10][i % 10];
+    for (usize i = 0; i < 50; i++)
+        out[177 + i] = t->marks[i];
 }
 
 u8 peer_run(const u8 *file, usize length, i64 *matrix, usize nm, i64 *rights, usize nr, u64 *tally, usize nt, u8 *answers, usize na)

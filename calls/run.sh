@@ -34,7 +34,7 @@ printf '\001\0\0\0\007\0\0\0\144\037\0\0\001\0\036\0\001\0\0\0\003\0\0\0\005\0\0
 printf '\014\0\002\0\001\0\0\0\144\037\0\0\0\0\0\0\0\0\0\0\0\104\217\100\0\0\0\0\0\102\217\100\003\0' >>$out/edge7
 printf '\014\0\002\0\001\0\0\0\144\037\0\0\350\003\0\0\0\0\0\0\0\114\217\100\0\0\0\0\0\102\217\100\003\0' >>$out/edge7
 $run $out/sums <$out/edge7 | tee $out/sums.txt
-printf '3 0 seen 147456 50331648\n1 of 2 records accepted\n' | cmp - $out/sums.txt
+printf '3 0 seen 147456 50331648 1\n1 of 2 records accepted\n' | cmp - $out/sums.txt
 # the same as it arrives: a byte, then the rest; and cut short
 { head -c 1 $out/edge7; sleep 1; tail -c +2 $out/edge7; } | $run $out/parts | tee $out/parts.txt
 printf '1 of 2 records accepted\n' | cmp - $out/parts.txt

@@ -34,14 +34,16 @@ int main(void)
         accepted += answers[i] == 0;
     for (size_t i = 0; i < parameters; i++) {
         const uint8_t *label = heading + 16 + 16 * i;
-        uint32_t seen = 0;
+        uint32_t seen = 0, stations = 0;
         refusal = whl_seen(heading, sizeof heading, tally, sizeof tally, matrix, WHL_MATRIX_SUMS(50), rights, 50, i, &seen, 1);
+        if (!refusal)
+            refusal = whl_carriers(heading, sizeof heading, tally, sizeof tally, matrix, WHL_MATRIX_SUMS(50), rights, 50, i, &stations, 1);
         if (refusal) {
             printf("refused %u\n", refusal);
             return 1;
         }
-        printf("%u %u %s %lld %lld\n", two(label), two(label + 2), seen ? "seen" : "unseen", (long long)matrix[i * (i + 3) / 2],
-               (long long)rights[i]);
+        printf("%u %u %s %lld %lld %u\n", two(label), two(label + 2), seen ? "seen" : "unseen", (long long)matrix[i * (i + 3) / 2],
+               (long long)rights[i], stations);
     }
     printf("%zu of %zu records accepted\n", accepted, records);
     return 0;

@@ -17,6 +17,8 @@ static void show(uint64_t *tally)
         tally[1 + i] = word(lent + 8 + 4 * i, 4);
     for (int i = 0; i < 160; i++)
         tally[17 + i] = word(lent + 72 + 8 * i, 8);
+    for (int i = 0; i < 50; i++)
+        tally[177 + i] = word(lent + 1352 + 2 * i, 2);
 }
 
 uint8_t bench_run(const uint8_t *file, size_t length, int64_t *matrix, size_t matrix_length, int64_t *rights, size_t rights_length,

@@ -1,7 +1,8 @@
 /* Runs the library's calls on cases whose answers plain C works out here or in bench/peer.c, and prints what was compared: days and cells one by
-   one, units at random and at the limits, residuals at random and across north, forged headings and states, rooms one element too short or longer
-   than needed, files cut short, arc files in parts, arc files read and written again, normal files unpacked, written again and merged, listings;
-   and units, taking and listings with the processor rounding otherwise, with its traps unmasked and with subnormals taken for zero. */
+   one, units at random and at the limits, residuals at random and across north, forged headings and states, the marks of each parameter, rooms
+   one element too short or longer than needed, files cut short, arc files in parts, arc files read and written again, normal files unpacked,
+   written again and merged, listings; and units, taking and listings with the processor rounding otherwise, with its traps unmasked and with
+   subnormals taken for zero. */
 #include <stdint.h>
 #include <stdio.h>
 #include <string.h>
@@ -214,9 +215,10 @@ static struct heading lent_heading(void)
 static int peer_judges(void)
 {
     struct heading h = lent_heading();
-    struct tally t = { u64_at(tally), { 0 }, { { 0 } } };
+    struct tally t = { u64_at(tally), { 0 }, { { 0 } }, { 0 } };
     for (usize i = 0; i < 16; i++) t.counts[i] = u32_at(tally + 8 + 4 * i);
     for (usize i = 0; i < 160; i++) t.last[i / 10][i % 10] = u64_at(tally + 72 + 8 * i);
+    for (usize i = 0; i < 50; i++) t.marks[i] = u16_at(tally + 1352 + 2 * i);
     return judge_state(&h, &t, (const i64 *)matrix, (const i64 *)rights);
 }
 
@@ -259,6 +261,44 @@ static void forged(void)
     told("forged headings and states");
 }
 
+/* ---- who saw a parameter: the state of two records, by the marks that plain C makes of their partials */
+
+#define SUMS matrix, m, rights, r
+
+static void marks(int p, int t, size_t h, const uint8_t *records)
+{
+    size_t m = WHL_MATRIX_SUMS(p), r = (size_t)p;
+    uint32_t out[2] = { 77, 77 };
+    CHECK(whl_carriers(heading, h - 1, tally, 1452, SUMS, 0, out, 1) == 20 && whl_carriers(heading, h, tally, 1451, SUMS, 0, out, 1) == 20);
+    CHECK(whl_carriers(heading, h, tally, 1452, matrix, m - 1, rights, r, 0, out, 1) == 20 && whl_carriers(heading, h, tally, 1452, matrix, m, rights, r - 1, 0, out, 1) == 20);
+    CHECK(whl_carriers(heading, h, tally, 1452, SUMS, 0, out, 0) == 20 && whl_carriers(heading, h, tally, 1452, SUMS, r, out, 1) == 4 && whl_carriers(heading, h, tally, 1452, SUMS, r, out, 0) == 4);
+    CHECK(whl_carries(heading, h - 1, tally, 1452, SUMS, 0, 0, out, 1) == 20 && whl_carries(heading, h, tally, 1451, SUMS, 0, 0, out, 1) == 20);
+    CHECK(whl_carries(heading, h, tally, 1452, matrix, m - 1, rights, r, 0, 0, out, 1) == 20 && whl_carries(heading, h, tally, 1452, matrix, m, rights, r - 1, 0, 0, out, 1) == 20);
+    CHECK(whl_carries(heading, h, tally, 1452, SUMS, 0, 0, out, 0) == 20 && whl_carries(heading, h, tally, 1452, SUMS, r, 0, out, 1) == 4);
+    CHECK(whl_carries(heading, h, tally, 1452, SUMS, 0, (size_t)t, out, 1) == 4 && whl_carries(heading, h, tally, 1452, SUMS, 0, (size_t)t, out, 0) == 4);
+    CHECK(whl_carries(heading, h, tally, 1452, SUMS, 0, (size_t)-1, out, 1) == 4 && out[0] == 77);
+    for (int i = 0; i < 50; i++) {
+        u32 word = 0;
+        for (int k = 0; k < 2 && i < p; k++) word |= (u32)(u16_at(records + k * WHL_RECORD_BYTES(p) + 32 + 2 * i) != 0) << (k % t);
+        CHECK(u16_at(tally + 1352 + 2 * i) == word);
+        if (i >= p) continue;
+        CHECK(whl_carriers(heading, h, tally, 1452, SUMS, (size_t)i, out, 2) == 0 && out[0] == (u32)__builtin_popcount(word) && out[1] == 77);
+        for (int k = 0; k < t; k++) CHECK(whl_carries(heading, h, tally, 1452, SUMS, (size_t)i, (size_t)k, out, 2) == 0 && out[0] == (word >> k & 1) && out[1] == 77);
+    }
+    /* a mark of a station that has no record, one of a parameter that is none, and none for a parameter that is seen: 6, before 4 and 20 */
+    for (int forge = 0; forge < 3; forge++) {
+        uint8_t was[2], *word = tally + 1352 + (forge == 1 ? 2 * p : 0);
+        if ((forge == 1 && p == 50) || (forge == 2 && matrix[0] == 0)) continue;
+        memcpy(was, word, 2); out[0] = 77;
+        if (forge == 0) word[1] |= 128; else if (forge == 1) word[0] = 1; else word[0] = word[1] = 0;
+        CHECK(whl_judge(heading, h, tally, 1452, SUMS) == 6 && whl_seen(heading, h, tally, 1452, SUMS, 0, out, 1) == 6);
+        CHECK(whl_carriers(heading, h, tally, 1452, SUMS, 0, out, 1) == 6 && whl_carriers(heading, h, tally, 1452, SUMS, r, out, 0) == 6);
+        CHECK(whl_carries(heading, h, tally, 1452, SUMS, 0, 0, out, 1) == 6 && whl_carries(heading, h, tally, 1452, SUMS, r, (size_t)t, out, 0) == 6 && out[0] == 77);
+        memcpy(word, was, 2);
+        CHECK(whl_judge(heading, h, tally, 1452, SUMS) == 0);
+    }
+}
+
 /* ---- rooms that are one element too short, and longer ones */
 
 static void rooms(void)
@@ -270,18 +310,18 @@ static void rooms(void)
         memset(heading, 7, sizeof heading); memset(tally, 7, sizeof tally); memset(matrix, 7, sizeof matrix); memset(rights, 7, sizeof rights); memset(answers, 7, sizeof answers);
         CHECK(whl_read(file, length, heading, h - 1, found, 2) == 20 && whl_read(file, length, heading, h, found, 1) == 20 && heading[0] == 7 && found[0] == 77);
         CHECK(whl_read(file, length, heading, h, found, 2) == 0 && (h == sizeof heading || heading[h] == 7));
-        CHECK(whl_start(heading, h - 1, tally, 1352, matrix, m, rights, r) == 20 && whl_start(heading, h, tally, 1351, matrix, m, rights, r) == 20);
-        CHECK(whl_start(heading, h, tally, 1352, matrix, m - 1, rights, r) == 20 && whl_start(heading, h, tally, 1352, matrix, m, rights, r - 1) == 20);
+        CHECK(whl_start(heading, h - 1, tally, 1452, matrix, m, rights, r) == 20 && whl_start(heading, h, tally, 1451, matrix, m, rights, r) == 20);
+        CHECK(whl_start(heading, h, tally, 1452, matrix, m - 1, rights, r) == 20 && whl_start(heading, h, tally, 1452, matrix, m, rights, r - 1) == 20);
         CHECK(tally[0] == 7 && matrix[0] == 0x0707070707070707 && rights[0] == 0x0707070707070707);
-        CHECK(whl_start(heading, h, tally, 1352, matrix, m, rights, r) == 0);
+        CHECK(whl_start(heading, h, tally, 1452, matrix, m, rights, r) == 0);
         CHECK((m == ROOM || matrix[m] == 0x0707070707070707) && (r == 50 || rights[r] == 0x0707070707070707));
-        CHECK(whl_take_run(heading, h, tally, 1352, matrix, m, rights, r, file + found[1], 2 * size, answers, 1) == 20 && answers[0] == 7);
-        CHECK(whl_take_run(heading, h, tally, 1352, matrix, m, rights, r, file + found[1], 2 * size - 1, answers, 2) == 1 && answers[0] == 7);
-        CHECK(whl_take(heading, h, tally, 1352, matrix, m, rights, r, file + found[1], size - 1) == 1);
-        CHECK(whl_take(heading, h, tally, 1352, matrix, m, rights, r, file + found[1], size + 1) == 3);
-        CHECK(whl_take_run(heading, h, tally, 1352, matrix, m, rights, r, file + found[1], 2 * size, answers, 3) == 0);
+        CHECK(whl_take_run(heading, h, tally, 1452, matrix, m, rights, r, file + found[1], 2 * size, answers, 1) == 20 && answers[0] == 7);
+        CHECK(whl_take_run(heading, h, tally, 1452, matrix, m, rights, r, file + found[1], 2 * size - 1, answers, 2) == 1 && answers[0] == 7);
+        CHECK(whl_take(heading, h, tally, 1452, matrix, m, rights, r, file + found[1], size - 1) == 1);
+        CHECK(whl_take(heading, h, tally, 1452, matrix, m, rights, r, file + found[1], size + 1) == 3);
+        CHECK(whl_take_run(heading, h, tally, 1452, matrix, m, rights, r, file + found[1], 2 * size, answers, 3) == 0);
         CHECK(answers[0] == 0 && answers[1] == 0 && answers[2] == 7);
-        CHECK(whl_take(heading, h, tally, 1352, matrix, m, rights, r, file + found[1], size) == 17);
+        CHECK(whl_take(heading, h, tally, 1452, matrix, m, rights, r, file + found[1], size) == 17);
         /* in taking a short room comes before a bad heading, in writing only before what it holds */
         static uint8_t bad[sizeof heading];
         uint64_t written = 77;
@@ -289,17 +329,18 @@ static void rooms(void)
         CHECK(whl_of_state(bad, 15, tally, 0, matrix, 0, rights, 0, answers, 0, &written, 0) == 20 && whl_of_state(bad, 16, tally, 0, matrix, 0, rights, 0, answers, 0, &written, 0) == 2);
         memcpy(bad, heading, h); bad[16] = 9;
         CHECK(whl_of_state(bad, h - 1, tally, 0, matrix, 0, rights, 0, answers, 0, &written, 0) == 20 && whl_of_state(bad, h, tally, 0, matrix, 0, rights, 0, answers, 0, &written, 0) == 4);
-        CHECK(whl_judge(bad, h, tally, 1351, matrix, m, rights, r) == 20 && whl_judge(bad, h, tally, 1352, matrix, m, rights, r) == 4);
-        CHECK(whl_of_state(heading, h, tally, 1351, matrix, m, rights, r, answers, 0, &written, 1) == 20 && whl_of_state(heading, h, tally, 1352, matrix, m - 1, rights, r, answers, 0, &written, 1) == 20);
+        CHECK(whl_judge(bad, h, tally, 1451, matrix, m, rights, r) == 20 && whl_judge(bad, h, tally, 1452, matrix, m, rights, r) == 4);
+        CHECK(whl_of_state(heading, h, tally, 1451, matrix, m, rights, r, answers, 0, &written, 1) == 20 && whl_of_state(heading, h, tally, 1452, matrix, m - 1, rights, r, answers, 0, &written, 1) == 20);
         matrix[0] = -matrix[0] - 1;
-        CHECK(whl_of_state(heading, h, tally, 1352, matrix, m, rights, r - 1, answers, 0, &written, 1) == 20 && whl_of_state(heading, h, tally, 1352, matrix, m, rights, r, answers, 0, &written, 0) == 6);
+        CHECK(whl_of_state(heading, h, tally, 1452, matrix, m, rights, r - 1, answers, 0, &written, 1) == 20 && whl_of_state(heading, h, tally, 1452, matrix, m, rights, r, answers, 0, &written, 0) == 6);
         matrix[0] = -matrix[0] - 1;
         CHECK(written == 77);
         uint32_t seen[2] = { 77, 77 };
-        CHECK(whl_seen(heading, h - 1, tally, 1352, matrix, m, rights, r, 0, seen, 1) == 20 && whl_seen(heading, h, tally, 1351, matrix, m, rights, r, 0, seen, 1) == 20);
-        CHECK(whl_seen(heading, h, tally, 1352, matrix, m - 1, rights, r, 0, seen, 1) == 20 && whl_seen(heading, h, tally, 1352, matrix, m, rights, r - 1, 0, seen, 1) == 20);
-        CHECK(whl_seen(heading, h, tally, 1352, matrix, m, rights, r, 0, seen, 0) == 20 && whl_seen(heading, h, tally, 1352, matrix, m, rights, r, (size_t)p, seen, 1) == 4 && seen[0] == 77);
-        for (int i = 0; i < p; i++) CHECK(whl_seen(heading, h, tally, 1352, matrix, m, rights, r, (size_t)i, seen, 2) == 0 && seen[0] == (matrix[i * (i + 3) / 2] != 0) && seen[1] == 77);
+        CHECK(whl_seen(heading, h - 1, tally, 1452, matrix, m, rights, r, 0, seen, 1) == 20 && whl_seen(heading, h, tally, 1451, matrix, m, rights, r, 0, seen, 1) == 20);
+        CHECK(whl_seen(heading, h, tally, 1452, matrix, m - 1, rights, r, 0, seen, 1) == 20 && whl_seen(heading, h, tally, 1452, matrix, m, rights, r - 1, 0, seen, 1) == 20);
+        CHECK(whl_seen(heading, h, tally, 1452, matrix, m, rights, r, 0, seen, 0) == 20 && whl_seen(heading, h, tally, 1452, matrix, m, rights, r, (size_t)p, seen, 1) == 4 && seen[0] == 77);
+        for (int i = 0; i < p; i++) CHECK(whl_seen(heading, h, tally, 1452, matrix, m, rights, r, (size_t)i, seen, 2) == 0 && seen[0] == (matrix[i * (i + 3) / 2] != 0) && seen[1] == 77);
+        marks(p, t, h, file + found[1]);
     }
     told("rooms");
 }
@@ -480,20 +521,20 @@ static void part_forged(void)
     CHECK(whl_part(PART_ROOMS, file, 1, part_answers, 1, out, 2) == 6 && out[0] == 77);
     position[1096] = 1;
     CHECK(is_kept());
-    CHECK(whl_part(position, 1111, part_tally, 1352, part_matrix, 6, part_rights, 3, file, 1, part_answers, 1, out, 2) == 20);
-    CHECK(whl_part(position, 1112, part_tally, 1351, part_matrix, 6, part_rights, 3, file, 1, part_answers, 1, out, 2) == 20);
-    CHECK(whl_part(position, 1112, part_tally, 1352, part_matrix, 5, part_rights, 3, file, 1, part_answers, 1, out, 2) == 20);
-    CHECK(whl_part(position, 1112, part_tally, 1352, part_matrix, 6, part_rights, 2, file, 1, part_answers, 1, out, 2) == 20);
-    CHECK(whl_part(position, 1112, part_tally, 1352, part_matrix, 6, part_rights, 3, file, 1, part_answers, 1, out, 1) == 20);
+    CHECK(whl_part(position, 1111, part_tally, 1452, part_matrix, 6, part_rights, 3, file, 1, part_answers, 1, out, 2) == 20);
+    CHECK(whl_part(position, 1112, part_tally, 1451, part_matrix, 6, part_rights, 3, file, 1, part_answers, 1, out, 2) == 20);
+    CHECK(whl_part(position, 1112, part_tally, 1452, part_matrix, 5, part_rights, 3, file, 1, part_answers, 1, out, 2) == 20);
+    CHECK(whl_part(position, 1112, part_tally, 1452, part_matrix, 6, part_rights, 2, file, 1, part_answers, 1, out, 2) == 20);
+    CHECK(whl_part(position, 1112, part_tally, 1452, part_matrix, 6, part_rights, 3, file, 1, part_answers, 1, out, 1) == 20);
     CHECK(whl_finish(position, 1111, out, 2) == 20 && whl_finish(position, 1112, out, 1) == 20);
     CHECK(whl_position_heading(position, 1111, part_heading, 80, out, 2) == 20 && whl_position_heading(position, 1112, part_heading, 80, out, 1) == 20);
     memset(part_heading, 7, sizeof part_heading);
     CHECK(whl_position_heading(position, 1112, part_heading, 79, out, 2) == 20 && part_heading[0] == 7);
-    CHECK(whl_begin(position, 1111, part_tally, 1352, part_matrix, 1275, part_rights, 50) == 20 && whl_begin(position, 1112, part_tally, 1351, part_matrix, 1275, part_rights, 50) == 20);
-    CHECK(whl_begin(position, 1112, part_tally, 1352, part_matrix, 1274, part_rights, 50) == 20 && whl_begin(position, 1112, part_tally, 1352, part_matrix, 1275, part_rights, 49) == 20);
+    CHECK(whl_begin(position, 1111, part_tally, 1452, part_matrix, 1275, part_rights, 50) == 20 && whl_begin(position, 1112, part_tally, 1451, part_matrix, 1275, part_rights, 50) == 20);
+    CHECK(whl_begin(position, 1112, part_tally, 1452, part_matrix, 1274, part_rights, 50) == 20 && whl_begin(position, 1112, part_tally, 1452, part_matrix, 1275, part_rights, 49) == 20);
     CHECK(is_kept() && out[0] == 77);
     CHECK(whl_position_heading(position, 1112, part_heading, 80, out, 2) == 0 && out[0] == 1 && part_heading[80] == 7);
-    CHECK(whl_part(position, 1112, part_tally, 1352, part_matrix, 6, part_rights, 3, file + start + size + 5, size, part_answers + 1, 1, out, 2) == 0 && out[0] == 1);
+    CHECK(whl_part(position, 1112, part_tally, 1452, part_matrix, 6, part_rights, 3, file + start + size + 5, size, part_answers + 1, 1, out, 2) == 0 && out[0] == 1);
 }
 
 static void parts(void)
@@ -664,7 +705,7 @@ static void normals(void)
 
 static void listings(void)
 {
-    static const char edge[] = "arc 7\nparameters 1\n3 0 seen 147456 50331648\nrecords 2 accepted 1\n18 1\nsquare sum 17179869184\n";
+    static const char edge[] = "arc 7\nparameters 1\n3 0 seen 147456 50331648 1\nrecords 2 accepted 1\n18 1\nsquare sum 17179869184\n";
     static const char cut[] = "refused 1 at 119\n";
     static uint8_t text[WHL_LISTING_MOST];
     uint64_t size = 77;

@@ -39,8 +39,9 @@ extern "C" {
 #define WHL_HEADING_BYTES(P, T) (16 + 16 * (size_t)(P) + 8 * (size_t)(T))
 #define WHL_HEADING_MOST WHL_HEADING_BYTES(50, 16)
 /* A tally in bytes: the square sum u64; the accepted records of each station, sixteen u32; the last times, sixteen rows of ten u64 (a row a
-   station, a column a type). Little-endian. */
-#define WHL_TALLY_BYTES 1352
+   station, a column a type); from byte 1352 on the marks, fifty u16 (one a parameter): the bit of value 2^k says that the station of row k gave
+   an accepted partial other than 0 for the parameter. Little-endian. */
+#define WHL_TALLY_BYTES 1452
 /* A position in an arc file that is handed over in parts, in bytes: room for 1088 bytes kept; how many of them count u64; the records taken u64;
    whether the file is over u64, 0 or 1. Little-endian. Callers need not look into it. */
 #define WHL_POSITION_BYTES 1112
@@ -54,7 +55,7 @@ extern "C" {
 #define WHL_NORMAL_BYTES(A, P) (36 + 4 * (size_t)(A) + 32 * (size_t)(P) + 8 * WHL_MATRIX_SUMS(P))
 #define WHL_HEADS(A, P) ((size_t)(A) + 5 * (size_t)(P) + 2)
 /* A room that holds every listing. */
-#define WHL_LISTING_MOST 5596
+#define WHL_LISTING_MOST 6646
 
 /* ---- days: 1950 January 1 is 1, 2099 December 31 is 54787 */
 
@@ -94,7 +95,7 @@ uint32_t whl_write(const uint8_t *heading, size_t heading_length, const uint8_t 
 
 /* ---- taking. A heading of bytes, and a state: a tally of WHL_TALLY_BYTES, matrix sums, right sides, P of them. All may hold any values: what is
    wrong with them is refused. 20: the heading shorter than its own P and T want (a P above 50 stands as 50, a T above 16 as 16), the tally
-   shorter than 1352, the matrix sums fewer than WHL_MATRIX_SUMS(P) or the right sides fewer than P. */
+   shorter than 1452, the matrix sums fewer than WHL_MATRIX_SUMS(P) or the right sides fewer than P. */
 
 /* The empty state of a heading. 20, 2, 4, 5. */
 uint32_t whl_start(const uint8_t *heading, size_t heading_length, uint8_t *tally, size_t tally_length, int64_t *matrix, size_t matrix_length,
@@ -113,13 +114,22 @@ uint32_t whl_take_run(const uint8_t *heading, size_t heading_length, uint8_t *ta
    number is not below P; 20: out_length < 1. */
 uint32_t whl_seen(const uint8_t *heading, size_t heading_length, const uint8_t *tally, size_t tally_length, const int64_t *matrix,
                   size_t matrix_length, const int64_t *rights, size_t rights_length, size_t parameter, uint32_t *out, size_t out_length);
+/* How many stations gave an accepted partial other than 0 for a parameter, counted from 0: in out[0], 0 to 16, and 0 exactly where it is not seen.
+   20, 2, 4, 5, 6, judged each time; 4 where the number is not below P; 20: out_length < 1. */
+uint32_t whl_carriers(const uint8_t *heading, size_t heading_length, const uint8_t *tally, size_t tally_length, const int64_t *matrix,
+                      size_t matrix_length, const int64_t *rights, size_t rights_length, size_t parameter, uint32_t *out, size_t out_length);
+/* Whether the station of a row of the heading, counted from 0, did: in out[0] 1 or 0. 20, 2, 4, 5, 6, judged each time; 4 where the parameter's
+   number is not below P or the row is not below T; 20: out_length < 1. */
+uint32_t whl_carries(const uint8_t *heading, size_t heading_length, const uint8_t *tally, size_t tally_length, const int64_t *matrix,
+                     size_t matrix_length, const int64_t *rights, size_t rights_length, size_t parameter, size_t station, uint32_t *out,
+                     size_t out_length);
 
 /* ---- arc files in parts, cut anywhere: whl_begin, a whl_part for each part, whl_finish. A position of WHL_POSITION_BYTES says how far the file was
    handed over, and a state, as above, has the records taken so far. All may hold any values. out[0] has a number of records, out[1] the place of
-   a refusal in the file's form (1 to 5), else 0. 20 comes first where the position is shorter than 1112, the tally than 1352 or out than 2. */
+   a refusal in the file's form (1 to 5), else 0. 20 comes first where the position is shorter than 1112, the tally than 1452 or out than 2. */
 
 /* The position before the first byte, and the empty state, with sums for fifty parameters, since the file's own number is not known yet. 20: the
-   position shorter than 1112, the tally than 1352, the matrix sums fewer than 1275 or the right sides fewer than 50. */
+   position shorter than 1112, the tally than 1452, the matrix sums fewer than 1275 or the right sides fewer than 50. */
 uint32_t whl_begin(uint8_t *position, size_t position_length, uint8_t *tally, size_t tally_length, int64_t *matrix, size_t matrix_length,
                    int64_t *rights, size_t rights_length);
 /* The next bytes of the file, any number of them. The records that they complete are taken; answers[i] is 0 or 10 to 19 for the i-th of these, and

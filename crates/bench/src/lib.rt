@@ -3,6 +3,7 @@
 use arc_heading::Heading;
 use byte_section::ReadAnswer;
 use merge::MergeAnswer;
+use num_limits::PARAMETERS_MOST;
 use num_limits::STATIONS_MOST;
 use part_laws::Position;
 use refusal::Refusal;
@@ -43,15 +44,28 @@ fn put_times(t: Tally, out: &mut [u64])
     }
 }
 
-// Lays out a tally in room for its 177 numbers: the square sum, the counts, the last times.
+// Lays out the marks after the last times.
+fn put_marks(marks: [u16; PARAMETERS_MOST], out: &mut [u64])
+    requires { ⌜ 227 ≤ length (now out) ⌝ }
+{
+    let mut i: usize = 0;
+    while i < PARAMETERS_MOST {
+        out[i + 177] = marks[i] as u64;
+        i += 1;
+    }
+}
+
+// Lays out a tally in room for its 227 numbers: the square sum, the counts, the last times, the marks.
 fn put_tally(t: Tally, out: &mut [u64]) {
-    if out.len() < 177 {
+    if out.len() < 227 {
         return;
     }
     let counts = t.counts;
+    let marks = t.marks;
     put_square(t.square, out);
     put_counts(counts, out);
     put_times(t, out);
+    put_marks(marks, out);
 }
 
 // The number of an answer in a byte, 0 where it accepts.

@@ -1,4 +1,4 @@
--- What the call that asks whether a parameter is seen puts into lent room.
+-- What the calls that ask whether a parameter is seen, by any station or by one, put into lent room.
 use Prim.Native.Nat.{ℕ}
 use mathlib.Core.List.{List}
 use mathlib.Core.Bool.{Bool}

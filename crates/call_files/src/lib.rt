@@ -6,6 +6,7 @@ use merge::MergeAnswer;
 use refusal::Refusal;
 use take_one::TakeAnswer;
 use take_one::Taken;
+use take_state::Carriers;
 use take_state::Sight;
 ghost use mathlib.Core.Path.{_≡_};
 ghost use Prim.Native.Nat.{_≤_};
@@ -17,7 +18,7 @@ ghost use Rattle.byte_section.specs.Told.{toldAnswer, toldWrite, onDone};
 ghost use Rattle.call_rooms.specs.Result.{resultNumber, resultLeft, toldValues, one};
 ghost use Rattle.arc_read.specs.Arc.{toldArcRead};
 ghost use Rattle.call_tally.specs.Tally.{tallyBytes};
-ghost use Rattle.take_state.specs.State.{toldSight};
+ghost use Rattle.take_state.specs.State.{toldSight, toldCarriers};
 ghost use Rattle.take_one.specs.Told.{toldTake};
 ghost use Rattle.merge.specs.Files.{toldMerge};
 ghost use Rattle.call_files.specs.Reading.{arcOf, refusalPlace, judgedNumber, readRoomy, readNumber, headingLeft, placesLeft};
@@ -147,7 +148,7 @@ pub fn give_taken(taken: Taken, tally: &mut [u8]) -> u32
     }
 }
 
-// Whether a parameter is seen, 1 or 0 in lent room, or the refusal.
+// Whether a parameter is seen, by any station or by one: 1 or 0 in lent room, or the refusal.
 pub fn give_sight(out: &mut [u32], answer: Sight) -> u32
     ensures { λ r. ⌜ r ≡ resultNumber (toldValues seenNumbers (toldSight answer)) (length (now (out .entry))) ⌝ }
     ensures left { λ _. ⌜ now (out .exit) ≡ resultLeft (toldValues seenNumbers (toldSight answer)) (now (out .entry)) ⌝ }
@@ -156,5 +157,16 @@ pub fn give_sight(out: &mut [u32], answer: Sight) -> u32
         Sight::Seen => call_rooms::give_one(out, 1),
         Sight::Unseen => call_rooms::give_one(out, 0),
         Sight::Refused(e) => refusal::number(e),
+    }
+}
+
+// The number of a parameter's stations in lent room, or the refusal.
+pub fn give_carriers(out: &mut [u32], answer: Carriers) -> u32
+    ensures { λ r. ⌜ r ≡ resultNumber (toldValues one (toldCarriers answer)) (length (now (out .entry))) ⌝ }
+    ensures left { λ _. ⌜ now (out .exit) ≡ resultLeft (toldValues one (toldCarriers answer)) (now (out .entry)) ⌝ }
+{
+    match answer {
+        Carriers::Number(n) => call_rooms::give_one(out, n),
+        Carriers::Refused(e) => refusal::number(e),
     }
 }

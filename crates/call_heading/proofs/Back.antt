@@ -150,6 +150,8 @@ pub record TallyFits (t : Tally) : Type 0 where
   pub counts : Each (λ n. n < 256 ^ 4) (t .counts)
   pub seats : length (t .rows) ≡ 16
   pub rows : Each RowFits (t .rows)
+  pub words : length (t .marks) ≡ 50
+  pub marks : Each (λ n. n < 256 ^ 2) (t .marks)
 
 row-back : (p : List ℕ) (w : Row) (r : List ℕ) → RowFits w → timesRowAt (p ++ (rowBytes w ++ r)) (length p) ≡ w
 unfolding timesRowAt rowBytes
@@ -159,9 +161,24 @@ row-back p w r h =
     rw (h .long) at (stands-back (word 8) (bytesOf 8) 8 (Within 8) (λ n f. length-bytesOf 8 n) (word-back 8) (w .times) p r s (length p) refl refl (h .times)) in
     ap (λ l. record { times = l }) here
 
+rows-long : (l : List Row) → Each RowFits l → length (encoded rowBytes l) ≡ length l * 80
+unfolding encoded
+rows-long [] e = refl
+rows-long (w ∷ l) e = length-append (rowBytes w) (encoded rowBytes l) ∙ omega (arith, row-long w (e .0 .long), rows-long l (e .1))
+
+module _ (t : Tally) (fits : TallyFits t) where
+  counts-bytes : length (encoded (bytesOf 4) (t .counts)) ≡ 64
+  counts-bytes = length-encoded (bytesOf 4) 4 (length-bytesOf 4) (t .counts) ∙ ap (λ n. n * 4) (fits .counted)
+
+  rows-bytes : length (encoded rowBytes (t .rows)) ≡ 1280
+  rows-bytes = rows-long (t .rows) (fits .rows) ∙ ap (λ n. n * 80) (fits .seats)
+
+  marks-bytes : length (encoded (bytesOf 2) (t .marks)) ≡ 100
+  marks-bytes = length-encoded (bytesOf 2) 2 (length-bytesOf 2) (t .marks) ∙ ap (λ n. n * 2) (fits .words)
+
 module _ (t : Tally) (r : List ℕ) (fits : TallyFits t) where
   tally-bytes : List ℕ
-  tally-bytes = bytesOf 8 (t .square) ++ (encoded (bytesOf 4) (t .counts) ++ (encoded rowBytes (t .rows) ++ r))
+  tally-bytes = bytesOf 8 (t .square) ++ (encoded (bytesOf 4) (t .counts) ++ (encoded rowBytes (t .rows) ++ (encoded (bytesOf 2) (t .marks) ++ r)))
 
   tally-parts : tallyBytes t ++ r ≡ tally-bytes
   unfolding tallyBytes tally-bytes
@@ -175,33 +192,35 @@ module _ (t : Tally) (r : List ℕ) (fits : TallyFits t) where
   unfolding tally-bytes
   counts-here =
       rw (fits .counted) at
-      (stands-back (word 4) (bytesOf 4) 4 (Within 4) (λ n f. length-bytesOf 4 n) (word-back 4) (t .counts) (bytesOf 8 (t .square)) (encoded rowBytes (t .rows) ++ r) tally-bytes 8
+      (stands-back (word 4) (bytesOf 4) 4 (Within 4) (λ n f. length-bytesOf 4 n) (word-back 4) (t .counts)
+      (bytesOf 8 (t .square)) (encoded rowBytes (t .rows) ++ (encoded (bytesOf 2) (t .marks) ++ r)) tally-bytes 8
       refl (length-bytesOf 8 (t .square)) (fits .counts))
 
   rows-here : stands (timesRowAt tally-bytes) 80 16 72 ≡ t .rows
   unfolding tally-bytes
   rows-here =
-      let long : length (encoded (bytesOf 4) (t .counts)) ≡ 64 = length-encoded (bytesOf 4) 4 (length-bytesOf 4) (t .counts) ∙ ap (λ n. n * 4) (fits .counted) in
       rw (fits .seats) at
-      (stands-back timesRowAt rowBytes 80 RowFits (λ w f. row-long w (f .long)) row-back (t .rows) (bytesOf 8 (t .square) ++ encoded (bytesOf 4) (t .counts)) r tally-bytes 72
-      (simp append-assoc) (simp (length-append, length-bytesOf, long)) (fits .rows))
+      (stands-back timesRowAt rowBytes 80 RowFits (λ w f. row-long w (f .long)) row-back (t .rows)
+      (bytesOf 8 (t .square) ++ encoded (bytesOf 4) (t .counts)) (encoded (bytesOf 2) (t .marks) ++ r) tally-bytes 72
+      (simp append-assoc) (simp (length-append, length-bytesOf, counts-bytes t fits)) (fits .rows))
+
+  marks-here : stands (word 2 tally-bytes) 2 50 1352 ≡ t .marks
+  unfolding tally-bytes
+  marks-here =
+      rw (fits .words) at
+      (stands-back (word 2) (bytesOf 2) 2 (Within 2) (λ n f. length-bytesOf 2 n) (word-back 2) (t .marks)
+      (bytesOf 8 (t .square) ++ (encoded (bytesOf 4) (t .counts) ++ encoded rowBytes (t .rows))) r tally-bytes 1352
+      (simp append-assoc) (simp (length-append, length-bytesOf, counts-bytes t fits, rows-bytes t fits)) (fits .marks))
 
   pub tally-back : tallyIn (tallyBytes t ++ r) ≡ t
   unfolding tallyIn
-  tally-back = ap tallyIn tally-parts ∙ simp (square-here, counts-here, rows-here)
+  tally-back = ap tallyIn tally-parts ∙ simp (square-here, counts-here, rows-here, marks-here)
 
 -- ---- laid at the front of a room by one call, and read from it by the next
-rows-long : (l : List Row) → Each RowFits l → length (encoded rowBytes l) ≡ length l * 80
-unfolding encoded
-rows-long [] e = refl
-rows-long (w ∷ l) e = length-append (rowBytes w) (encoded rowBytes l) ∙ omega (arith, row-long w (e .0 .long), rows-long l (e .1))
-
 pub tally-stays : (t : Tally) (room : List ℕ) → TallyFits t → tallyLong ≤ length room → tallyIn (lay room 0 (tallyBytes t)) ≡ t
 unfolding tallyBytes
 tally-stays t room fits h =
-    let counts : length (encoded (bytesOf 4) (t .counts)) ≡ 64 = length-encoded (bytesOf 4) 4 (length-bytesOf 4) (t .counts) ∙ ap (λ n. n * 4) (fits .counted) in
-    let rows : length (encoded rowBytes (t .rows)) ≡ 1280 = rows-long (t .rows) (fits .rows) ∙ ap (λ n. n * 80) (fits .seats) in
-    let long : length (tallyBytes t) ≡ tallyLong = simp (length-append, length-bytesOf, counts, rows) in
+    let long : length (tallyBytes t) ≡ tallyLong = simp (length-append, length-bytesOf, counts-bytes t fits, rows-bytes t fits, marks-bytes t fits) in
     ap tallyIn (lay-front room (tallyBytes t) (omega arith)) ∙ tally-back t _ fits
 
 pub heading-stays : (s : List ℕ) (a : Arc) (room : List ℕ) → readArc s ≡ good a → Bytes s → headingLong (a .heading .parameters) (a .heading .stations) ≤ length room

@@ -16,9 +16,10 @@ pub row-long : (w : Row) → length (w .times) ≡ 10 → length (rowBytes w) �
 unfolding rowBytes
 row-long w e = length-encoded (bytesOf 8) 8 (length-bytesOf 8) (w .times) ∙ ap (λ n. n * 8) e
 
-pub tally-laid : (t : Tally) (out : List ℕ) → length (t .counts) ≡ 16
-    → lay (lay (lay out 0 (bytesOf 8 (t .square))) 8 (encoded (bytesOf 4) (t .counts))) 72 (encoded rowBytes (t .rows)) ≡ lay out 0 (tallyBytes t)
+pub tally-laid : (t : Tally) (out : List ℕ) → length (t .counts) ≡ 16 → length (encoded rowBytes (t .rows)) ≡ 1280
+    → lay (lay (lay (lay out 0 (bytesOf 8 (t .square))) 8 (encoded (bytesOf 4) (t .counts))) 72 (encoded rowBytes (t .rows))) 1352 (encoded (bytesOf 2) (t .marks))
+    ≡ lay out 0 (tallyBytes t)
 unfolding tallyBytes
-tally-laid t out e =
+tally-laid t out e rows =
     let long : length (encoded (bytesOf 4) (t .counts)) ≡ 64 = length-encoded (bytesOf 4) 4 (length-bytesOf 4) (t .counts) ∙ ap (λ n. n * 4) e in
-    lay-append _ _ _ _ _ (simp long) ∙ lay-append _ _ _ _ _ (simp length-bytesOf)
+    lay-append _ _ _ _ _ (simp rows) ∙ lay-append _ _ _ _ _ (simp long) ∙ lay-append _ _ _ _ _ (simp length-bytesOf)

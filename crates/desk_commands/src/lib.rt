@@ -60,6 +60,7 @@ fn store(path: &[u8], room: &[u8], count: usize) -> bool {
 enum Asked {
     Check,
     List,
+    Stations,
     Normal,
 }
 
@@ -130,6 +131,7 @@ fn use_arc(
     match asked {
         Asked::Check => tell_arc(path, h, p.taken),
         Asked::List => list_arc(c, matrix, rights, table),
+        Asked::Stations => desk_tell::tell_stations(h, t),
         Asked::Normal => store_state(path, h, p.taken, t, matrix, rights, table, to),
     }
 }
@@ -290,6 +292,12 @@ fn help_list() {
     desk_lines::put(b"desk list ARC              the listing of an arc file\n");
 }
 
+fn help_stations() {
+    desk_lines::put(
+        b"desk stations ARC          the stations of each parameter of an arc file, by number\n",
+    );
+}
+
 fn help_normal() {
     desk_lines::put(
         b"desk normal ARC OUT        the normal file of an arc file, as a new file OUT\n",
@@ -313,6 +321,7 @@ fn help_help() {
 
 fn help() {
     help_list();
+    help_stations();
     help_normal();
     help_merge();
     help_check();
@@ -385,6 +394,20 @@ fn words_list(at: usize, count: usize) {
     let n = word(at, 1, &mut path);
     if n > 0 {
         with_arc(&path[..n], b"", Asked::List);
+    }
+}
+
+// `stations ARC`
+fn words_stations(at: usize, count: usize) {
+    if count != 2 {
+        usage();
+        help_stations();
+        return;
+    }
+    let mut path = io::buffer();
+    let n = word(at, 1, &mut path);
+    if n > 0 {
+        with_arc(&path[..n], b"", Asked::Stations);
     }
 }
 
@@ -471,6 +494,8 @@ fn words_help(count: usize) {
 fn run_verb(verb: &[u8], at: usize, count: usize) {
     if check::same(verb, b"list") {
         words_list(at, count);
+    } else if check::same(verb, b"stations") {
+        words_stations(at, count);
     } else if check::same(verb, b"normal") {
         words_normal(at, count);
     } else if check::same(verb, b"merge") {

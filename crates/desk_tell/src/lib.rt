@@ -1,13 +1,15 @@
 // What the desk program says of a file: its name, the refusal's number and place, and the sentence of the paper's table, in one line; and what an
-// arc's records came to.
+// arc's records came to, with the stations of each parameter.
 use arc_heading::Heading;
 use arc_limits::Label;
 use num_limits::PARAMETERS_MOST;
+use num_limits::STATIONS_MOST;
 use refusal::Refusal;
+use take_tally::Tally;
 ghost use mathlib.Core.Path.{_≡_};
 ghost use Prim.Native.Nat.{_+_, _<_, _≤_};
 ghost use lib.ListN.{length};
-ghost use Rattle.num_limits.specs.Capacities.{parametersMost};
+ghost use Rattle.num_limits.specs.Capacities.{parametersMost, stationsMost};
 
 // The sentence of the paper's table for a refusal.
 fn put_sentence(r: Refusal) {
@@ -157,4 +159,49 @@ pub fn tell_unseen(h: Heading, matrix: &[i64]) {
         desk_lines::put(b" none");
     }
     desk_lines::put(b"\n");
+}
+
+// ---- the stations of an arc's parameters
+
+// The number of the station of row k, where a word has its mark.
+fn tell_station(word: u16, k: u16, number: u16)
+    requires { ⌜ k < stationsMost ⌝ }
+{
+    if take_marks::has(word, k) {
+        desk_lines::put(b" ");
+        desk_lines::put_number(number as u64, b"");
+    }
+}
+
+// The numbers of the stations that a word has marks of, in the heading's order.
+fn tell_marked(h: Heading, word: u16) {
+    let mut k: usize = 0;
+    while k < STATIONS_MOST {
+        let s = h.listed[k];
+        tell_station(word, k as u16, s.number);
+        k += 1;
+    }
+}
+
+// One line: a parameter's kind and index, and the stations of its marks.
+fn tell_carriers(h: Heading, l: Label, word: u16) {
+    desk_lines::put_number(l.kind as u64, b" ");
+    if word == 0 {
+        desk_lines::put_number(l.index as u64, b" unseen");
+    } else {
+        desk_lines::put_number(l.index as u64, b" seen by");
+        tell_marked(h, word);
+    }
+    desk_lines::put(b"\n");
+}
+
+// A line for each parameter of an arc.
+pub fn tell_stations(h: Heading, t: Tally) {
+    let p = num_whole::least(h.parameters, PARAMETERS_MOST);
+    let mut i: usize = 0;
+    while i < p {
+        let l = h.labels[i];
+        tell_carriers(h, l, t.marks[i]);
+        i += 1;
+    }
 }

@@ -1,6 +1,7 @@
 -- Edge 7, by computation.
 -- Assumes nothing.
 use mathlib.Core.Path.{refl, sym}
+use lib.Count.{onesIn, ones}
 use lib.Ieee.{ofBits, round}
 use Rattle.num_whole.specs.Tests.{less, upTo, same, pick, both, either, between}
 use Rattle.num_whole.specs.Sums.{plus}
@@ -21,6 +22,7 @@ use Rattle.days_leap.specs.Leap.{standsIn, daysBefore, listedDates, numbersOfDa
 use Rattle.take_rules.specs.Rules.{sigmaOk, weightOf, clockOk, timeOf, inWindow, passesEdit}
 use Rattle.num_packed.specs.Triangle.{columns, tri}
 use Rattle.arc_record.specs.Record.{recordIn, partialsFrom, partialsIn}
+use Rattle.take_marks.specs.Marks.{withMark, markCount, marksWith}
 use Rattle.take_tally.specs.Tally.{tallyWith}
 use Rattle.take_state.specs.State.{seenIn}
 use Rattle.take_laws.specs.Machine.{run, answers}
@@ -32,5 +34,5 @@ use Rattle.list_run.specs.Runs.{noSums, noSides, toldOf, stateAfter, runLines, 
 use Rattle.edge_listing.specs.Seven.{headSeven, recordSeven, fileSeven, silentSeven, textSeven, silentText, emptyText, Seven}
 
 pub seven : Seven
-unfolding ofBits round headSeven recordSeven fileSeven silentSeven textSeven silentText emptyText less upTo same pick both either between plus when unless numberIn first valueOr word bytesOf signedWord andThen countAt judgedAt records sectionAt closed windowOk settingsOk indexOk labelOk labelKey correctionOk stationOk stationKey labelsOf stationsOf findFrom numbersOf settingsAt labelAt stationAt stationAtOk headingOf readArc size nearestUnit unitWithin isType rowOfType isTurn onCircle turned unitOf brought apartBy fitsRow residualBy residualOf sigmaOk weightOf leap monthLength daysOfMonths daysOfYears dayNumber standsIn daysBefore listedDates numbersOfDates listedDays isListed listedBefore dayLength lastMs dayStart clockOk timeOf inWindow passesEdit columns tri recordIn partialsFrom partialsIn tallyWith seenIn run answers keep correctionsOf stationIn stationRow momentOf stamp typeColumn residualIn residual scaled weightIn lengthTests recordTests stationTests judgedBy recordNumber matrixTerms rightTerms squareTerm book recordAnswer recordStep cut wholeRecords recordsIn digitsOf decimal signedDecimal oneLine twoLine labelText sumsText parameterLine parameterLines tallyOf talliesFrom tallyLine tallyLines refusedLine arcLines noSums noSides toldOf stateAfter runLines listing
+unfolding onesIn ones ofBits round headSeven recordSeven fileSeven silentSeven textSeven silentText emptyText less upTo same pick both either between plus when unless numberIn first valueOr word bytesOf signedWord andThen countAt judgedAt records sectionAt closed windowOk settingsOk indexOk labelOk labelKey correctionOk stationOk stationKey labelsOf stationsOf findFrom numbersOf settingsAt labelAt stationAt stationAtOk headingOf readArc size nearestUnit unitWithin isType rowOfType isTurn onCircle turned unitOf brought apartBy fitsRow residualBy residualOf sigmaOk weightOf leap monthLength daysOfMonths daysOfYears dayNumber standsIn daysBefore listedDates numbersOfDates listedDays isListed listedBefore dayLength lastMs dayStart clockOk timeOf inWindow passesEdit columns tri recordIn partialsFrom partialsIn withMark markCount marksWith tallyWith seenIn run answers keep correctionsOf stationIn stationRow momentOf stamp typeColumn residualIn residual scaled weightIn lengthTests recordTests stationTests judgedBy recordNumber matrixTerms rightTerms squareTerm book recordAnswer recordStep cut wholeRecords recordsIn digitsOf decimal signedDecimal oneLine twoLine labelText sumsText parameterLine parameterLines tallyOf talliesFrom tallyLine tallyLines refusedLine arcLines noSums noSides toldOf stateAfter runLines listing
 seven = record { with-records = refl; without = refl; empty = refl }

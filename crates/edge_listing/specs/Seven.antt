@@ -32,15 +32,15 @@ fileSeven = headSeven 2 ++ (recordSeven 0 (eighths 3908) ++ recordSeven 1000 (ei
 unfoldable pub silentSeven : List ℕ
 silentSeven = headSeven 0
 
--- "It prints, whole:"
+-- "It prints, whole:"; 02, #105: "The listing adds the number after the right side: `3 0 seen 147456 50331648 1`."
 unfoldable pub textSeven : List ℕ
 textSeven =
-    ascii "arc 7\nparameters 1\n3 0 seen 147456 50331648\nrecords 2 accepted 1\n18 1\nsquare sum 17179869184\n"
+    ascii "arc 7\nparameters 1\n3 0 seen 147456 50331648 1\nrecords 2 accepted 1\n18 1\nsquare sum 17179869184\n"
 
--- "With no records, line 3 is `3 0 unseen 0 0`"
+-- "With no records, line 3 is `3 0 unseen 0 0`", with the number of stations behind it
 unfoldable pub silentText : List ℕ
 silentText =
-    ascii "arc 7\nparameters 1\n3 0 unseen 0 0\nrecords 0 accepted 0\nsquare sum 0\n"
+    ascii "arc 7\nparameters 1\n3 0 unseen 0 0 0\nrecords 0 accepted 0\nsquare sum 0\n"
 
 -- "A refused file prints only `refused N at PLACE`": no bytes at all end before the first count
 unfoldable pub emptyText : List ℕ

@@ -21,6 +21,8 @@ use Rattle.arc_heading.specs.Judge.{labelsOf}
 use Rattle.arc_heading.specs.declared.Heading.{Heading}
 use Rattle.num_packed.specs.Triangle.{tri}
 use Rattle.num_packed.specs.Sound.{entry, isZero}
+use Rattle.take_marks.specs.Marks.{markCount}
+use Rattle.take_tally.specs.declared.Tally.{Tally}
 use Rattle.take_state.specs.State.{seenIn}
 use Rattle.list_lines.specs.Lines.{space, newline, arcText, parametersText, recordsText, acceptedText, squareText, arcLines, seenText, unseenText, oneLine, twoLine, labelText, sumsText, parameterLine, parameterLines, tallyLine, tallyLines}
 
@@ -40,36 +42,38 @@ module _ (s : List ℕ) (at : ℕ) {a b : List ℕ} {i j : ℕ} {p : List ℕ ×
   label-laid l e f g = laid-on s at _ _ e (laid-on a i _ _ f g)
 
   -- a signed number comes as the word that it is in
-  pub sums-laid : {c : List ℕ} {k : ℕ} (d r : ℤ) {x y : ℤ} → x ≡ d → y ≡ r → (a, i) ≡ laid s at (signedDecimal x) → (b, j) ≡ laid a i space
-      → (c, k) ≡ laid b j (signedDecimal y) → p ≡ laid c k newline → p ≡ laid s at (sumsText d r)
+  pub sums-laid : {c : List ℕ} {k : ℕ} (d r : ℤ) (n : ℕ) {x y : ℤ} → x ≡ d → y ≡ r → (a, i) ≡ laid s at (signedDecimal x) → (b, j) ≡ laid a i space
+      → (c, k) ≡ laid b j (signedDecimal y) → p ≡ laid c k (oneLine space n) → p ≡ laid s at (sumsText d r n)
   unfolding sumsText
-  sums-laid {c} {k} d r u v e f g h =
+  sums-laid {c} {k} d r n u v e f g h =
       laid-on s at _ _ (e ∙ ap (λ z. laid s at (signedDecimal z)) u) (laid-on a i _ _ f (laid-on b j _ _ (g ∙ ap (λ z. laid b j (signedDecimal z)) v) h))
 
-  pub parameter-laid : (l : Label) (seen : Bool) (d r : ℤ) {shown : Bool} {x y : ℤ} → shown ≡ seen → x ≡ d → y ≡ r → (a, i) ≡ laid s at (labelText l)
-      → (b, j) ≡ laid a i (pick shown seenText unseenText) → p ≡ laid b j (sumsText x y) → p ≡ laid s at (parameterLine l seen d r)
+  pub parameter-laid : (l : Label) (seen : Bool) (d r : ℤ) (n : ℕ) {shown : Bool} {x y : ℤ} {k : ℕ} → shown ≡ seen → x ≡ d → y ≡ r → k ≡ n → (a, i) ≡ laid s at (labelText l)
+      → (b, j) ≡ laid a i (pick shown seenText unseenText) → p ≡ laid b j (sumsText x y k) → p ≡ laid s at (parameterLine l seen d r n)
   unfolding parameterLine
-  parameter-laid l seen d r t u v e f g =
-      laid-on s at _ _ e (laid-on a i _ _ (f ∙ ap (λ z. laid a i (pick z seenText unseenText)) t) (g ∙ ap₂ (λ z w. laid b j (sumsText z w)) u v))
+  parameter-laid l seen d r n {k = k} t u v w e f g =
+      laid-on s at _ _ e
+      (laid-on a i _ _ (f ∙ ap (λ z. laid a i (pick z seenText unseenText)) t) (g ∙ ap₂ (λ z q. laid b j (sumsText z q k)) u v ∙ ap (λ z. laid b j (sumsText d r z)) w))
 
 -- ---- a line for each parameter: what is left of them, i done
-module _ (m r : List ℤ) (l : List Label) (n i : ℕ) where
-  pub parameters-end : n ≤ i → parameterLines m r i (rest l n i) ≡ []
+module _ (m r : List ℤ) (marks : List ℕ) (l : List Label) (n i : ℕ) where
+  pub parameters-end : n ≤ i → parameterLines m r marks i (rest l n i) ≡ []
   unfolding parameterLines
   parameters-end e = rw (rest-end l n i e)
 
   pub parameters-turn : n ≤ length l → i < n
-      → parameterLine (getD l i noLabel) (seenIn m i) (entry m i i) (getD r i (pos 0)) ++ parameterLines m r (i + 1) (rest l n (i + 1)) ≡ parameterLines m r i (rest l n i)
+      → parameterLine (getD l i noLabel) (seenIn m i) (entry m i i) (getD r i (pos 0)) (markCount (getD marks i 0)) ++ parameterLines m r marks (i + 1) (rest l n (i + 1))
+      ≡ parameterLines m r marks i (rest l n i)
   unfolding parameterLines
   parameters-turn fits more = rw (rest-more l n i noLabel fits more, add-one)
 
 -- its line as the code finds it: the diagonal at its place k
-pub row-laid : (s : List ℕ) (at : ℕ) (l : Label) (m r : List ℤ) (i : ℕ) {k : ℕ} {x y : ℤ} {p : List ℕ × ℕ} → k ≡ tri i + i
-    → x ≡ getD m k (pos 0) → y ≡ getD r i (pos 0) → p ≡ laid s at (parameterLine l (not (isZero x)) x y)
-    → p ≡ laid s at (parameterLine l (seenIn m i) (entry m i i) (getD r i (pos 0)))
+pub row-laid : (s : List ℕ) (at : ℕ) (l : Label) (m r : List ℤ) (i n : ℕ) {k : ℕ} {x y : ℤ} {p : List ℕ × ℕ} → k ≡ tri i + i
+    → x ≡ getD m k (pos 0) → y ≡ getD r i (pos 0) → p ≡ laid s at (parameterLine l (not (isZero x)) x y n)
+    → p ≡ laid s at (parameterLine l (seenIn m i) (entry m i i) (getD r i (pos 0)) n)
 unfolding seenIn
-row-laid s at l m r i e x y f =
-    f ∙ ap₂ (λ v w. laid s at (parameterLine l (not (isZero v)) v w)) (x ∙ ap (λ j. getD m j (pos 0)) e) y
+row-laid s at l m r i n e x y f =
+    f ∙ ap₂ (λ v w. laid s at (parameterLine l (not (isZero v)) v w n)) (x ∙ ap (λ j. getD m j (pos 0)) e) y
 
 -- ---- tallies
 -- no line for a number that no record has
@@ -102,11 +106,11 @@ pub lines-end : (s : List ℕ) (at : ℕ) {left : List ℕ} {all : List ℕ × �
 lines-end s at e f g = ap (λ k. (s, k)) e ∙ laid-none s at ∙ ap (laid s at) (sym f) ∙ g
 
 -- ---- an arc
-pub arc-laid : (s : List ℕ) (h : Heading) (count : ℕ) (table : List ℕ) (m r : List ℤ) (square : ℕ) {n : ℕ} {s₁ s₂ s₃ s₄ s₅ : List ℕ} {a b c d e : ℕ} {p : List ℕ × ℕ}
+pub arc-laid : (s : List ℕ) (h : Heading) (count : ℕ) (table : List ℕ) (m r : List ℤ) (t : Tally) {n : ℕ} {s₁ s₂ s₃ s₄ s₅ : List ℕ} {a b c d e : ℕ} {p : List ℕ × ℕ}
     → n ≡ getD table 0 0 → (s₁, a) ≡ laid s 0 (oneLine arcText (h .settings .arc)) → (s₂, b) ≡ laid s₁ a (oneLine parametersText (h .parameters))
-    → (s₃, c) ≡ laid s₂ b (parameterLines m r 0 (labelsOf h)) → (s₄, d) ≡ laid s₃ c (twoLine recordsText count acceptedText n)
-    → (s₅, e) ≡ laid s₄ d (tallyLines table 19 1) → p ≡ laid s₅ e (oneLine squareText square) → p ≡ laid s 0 (arcLines h count table m r square)
+    → (s₃, c) ≡ laid s₂ b (parameterLines m r (t .marks) 0 (labelsOf h)) → (s₄, d) ≡ laid s₃ c (twoLine recordsText count acceptedText n)
+    → (s₅, e) ≡ laid s₄ d (tallyLines table 19 1) → p ≡ laid s₅ e (oneLine squareText (t .square)) → p ≡ laid s 0 (arcLines h count table m r t)
 unfolding arcLines
-arc-laid s h count table m r square {s₃ = s₃} {c = c} accepted one two three four five six =
+arc-laid s h count table m r t {s₃ = s₃} {c = c} accepted one two three four five six =
     laid-on s 0 _ _ one (laid-on _ _ _ _ two (laid-on _ _ _ _ three
     (laid-on _ _ _ _ (four ∙ ap (λ k. laid s₃ c (twoLine recordsText count acceptedText k)) accepted) (laid-on _ _ _ _ five six))))

@@ -1,6 +1,7 @@
 -- Document 01, 'At the edges' 7: the lines of the arc program's listing, as bytes. "Parameter lines give diagonal and right side; refusal lines give
--- number and tally, ascending. With no records, line 3 is `3 0 unseen 0 0`. A refused file prints only `refused N at PLACE`". Every line ends in
--- one newline; numbers with tally 0 are left out.
+-- number and tally, ascending. With no records, line 3 is `3 0 unseen 0 0`. A refused file prints only `refused N at PLACE`". 02, #105: "The
+-- listing adds the number after the right side: `3 0 seen 147456 50331648 1`", the number of stations that have a mark; it stands on unseen
+-- lines too (docs/DECISIONS.md, R13). Every line ends in one newline; numbers with tally 0 are left out.
 use Prim.Native.Nat.{ℕ, zero, suc}
 use mathlib.Core.Bool.{Bool}
 use mathlib.Core.List.{List, [], _∷_, _++_}
@@ -13,6 +14,8 @@ use Rattle.arc_limits.specs.declared.Label.{Label}
 use Rattle.arc_heading.specs.Judge.{labelsOf}
 use Rattle.arc_heading.specs.declared.Heading.{Heading}
 use Rattle.num_packed.specs.Sound.{entry}
+use Rattle.take_marks.specs.Marks.{markCount}
+use Rattle.take_tally.specs.declared.Tally.{Tally}
 use Rattle.take_state.specs.State.{seenIn}
 use Rattle.take_laws.specs.Mix.{keep}
 
@@ -68,19 +71,19 @@ refusedLine number place = twoLine refusedText number atText place
 unfoldable pub labelText : Label → List ℕ
 labelText l = decimal (l .kind) ++ (space ++ decimal (l .index))
 
--- diagonal and right side: `147456 50331648`, with the line's end
-unfoldable pub sumsText : ℤ → ℤ → List ℕ
-sumsText diagonal right = signedDecimal diagonal ++ (space ++ (signedDecimal right ++ newline))
+-- diagonal, right side and number of stations: `147456 50331648 1`, with the line's end
+unfoldable pub sumsText : ℤ → ℤ → ℕ → List ℕ
+sumsText diagonal right n = signedDecimal diagonal ++ (space ++ (signedDecimal right ++ oneLine space n))
 
--- `3 0 seen 147456 50331648`
-unfoldable pub parameterLine : Label → Bool → ℤ → ℤ → List ℕ
-parameterLine l seen diagonal right = labelText l ++ (pick seen seenText unseenText ++ sumsText diagonal right)
+-- `3 0 seen 147456 50331648 1`
+unfoldable pub parameterLine : Label → Bool → ℤ → ℤ → ℕ → List ℕ
+parameterLine l seen diagonal right n = labelText l ++ (pick seen seenText unseenText ++ sumsText diagonal right n)
 
--- those of labels, the first of them parameter i, with sums
-unfoldable pub parameterLines : List ℤ → List ℤ → ℕ → List Label → List ℕ
-parameterLines m r i [] = []
-parameterLines m r i (l ∷ ls) =
-    parameterLine l (seenIn m i) (entry m i i) (getD r i (pos 0)) ++ parameterLines m r (suc i) ls
+-- those of labels, the first of them parameter i, with sums and words of marks
+unfoldable pub parameterLines : List ℤ → List ℤ → List ℕ → ℕ → List Label → List ℕ
+parameterLines m r marks i [] = []
+parameterLines m r marks i (l ∷ ls) =
+    parameterLine l (seenIn m i) (entry m i i) (getD r i (pos 0)) (markCount (getD marks i 0)) ++ parameterLines m r marks (suc i) ls
 
 -- ---- what the records were answered: 0 for accepted, else the refusal's number
 -- how many have an answer
@@ -110,12 +113,13 @@ tallyLines table zero k = []
 tallyLines table (suc n) k = tallyLine table k ++ tallyLines table n (suc k)
 
 -- ---- an arc
--- of a heading, so many records with the table of their answers, and the state after them: its sums, right sides and square sum
-unfoldable pub arcLines : Heading → ℕ → List ℕ → List ℤ → List ℤ → ℕ → List ℕ
-arcLines h n table m r square =
+-- of a heading, so many records with the table of their answers, and the state after them: its sums, right sides, and its tally's marks and
+-- square sum
+unfoldable pub arcLines : Heading → ℕ → List ℕ → List ℤ → List ℤ → Tally → List ℕ
+arcLines h n table m r t =
     oneLine arcText (h .settings .arc)
     ++ (oneLine parametersText (h .parameters)
-    ++ (parameterLines m r 0 (labelsOf h)
+    ++ (parameterLines m r (t .marks) 0 (labelsOf h)
     ++ (twoLine recordsText n acceptedText (getD table 0 0)
     ++ (tallyLines table 19 1
-    ++ oneLine squareText square))))
+    ++ oneLine squareText (t .square)))))

@@ -333,13 +333,13 @@ module _ (s : List ℕ) (c : Course) (m r : List ℤ) (table : List ℕ) (h : Fo
     pub heading-few : headingGiven (c .position) .parameters ≤ parametersMost
     heading-few = subst (λ g. g .parameters ≤ parametersMost) (sym heading-so) (sound (a .heading) (opened-sound s a (read-open s a e)) .few)
 
-    pub text-good : arcLines (headingGiven (c .position)) (c .position .taken) table m r (c .tally .square) ≡ listing s
+    pub text-good : arcLines (headingGiven (c .position)) (c .position .taken) table m r (c .tally) ≡ listing s
     unfolding listing runLines
     text-good =
         let state = h .state ∙ state-end s (h .going) a e in
         let tallies = h .tallies ∙ ap talliesOf (told-end s (h .going) a e) in
         let taken = ap (λ p. p .taken) (h .position) ∙ taken-end s (h .going) a e in
-        (λ i. arcLines (heading-so i) (taken i) (tallies i) (state i .matrix) (state i .rights) (state i .tally .square))
+        (λ i. arcLines (heading-so i) (taken i) (tallies i) (state i .matrix) (state i .rights) (state i .tally))
         ∙ ap (listed s) (sym e)
 
   pub text-bad : (number place : ℕ) → readArc s ≡ bad number place → refusedLine number place ≡ listing s

@@ -11,4 +11,4 @@ toldMost = 2048
 
 -- no listing is longer: `listing-length` (list/proofs/Listings.antt)
 abbrev pub textMost : ℕ
-textMost = 5596
+textMost = 6646

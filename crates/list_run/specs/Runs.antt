@@ -33,7 +33,7 @@ module _ (h : Heading) (bytes : List ℕ) where
 
   -- the lines of an arc with so many records
   unfoldable pub runLines : ℕ → List ℕ
-  runLines n = arcLines h n (talliesOf toldOf) (stateAfter .matrix) (stateAfter .rights) (stateAfter .tally .square)
+  runLines n = arcLines h n (talliesOf toldOf) (stateAfter .matrix) (stateAfter .rights) (stateAfter .tally)
 
 -- "A refused file prints only `refused N at PLACE`"
 abbrev pub listed : List ℕ → Judged Arc → List ℕ

@@ -24,7 +24,7 @@ pub const PART_MOST: usize = 65536;
 const TOLD_MOST: usize = 2048;
 
 // The bytes of the longest listing (docs/FORMATS.md).
-pub const TEXT_MOST: usize = 5596;
+pub const TEXT_MOST: usize = 6646;
 
 // Where in the file we are, and the state beside its sums.
 pub struct Course {
@@ -136,7 +136,7 @@ pub fn put_text(c: Course, matrix: &[i64], rights: &[i64], table: &[u64], room: 
         PartAnswer::Took(_) => {
             let g = part::heading(p);
             let h = g.heading;
-            list_arc::put_arc(room, h, p.taken as u64, table, matrix, rights, t.square)
+            list_arc::put_arc(room, h, p.taken as u64, table, t, matrix, rights)
         }
         PartAnswer::Broken(r, place, _) => list_lines::put_refused(
             room,

@@ -21,7 +21,7 @@ use Rattle.norm_system.proofs.Sound.{SoundSums, entry-wider, side-wider}
 use Rattle.take_counts.proofs.Totals.{sum-le}
 use Rattle.take_tally.specs.Tally.{accepted, squareUnit, squareTop, tallySound}
 use Rattle.take_tally.proofs.Rows.{tally-small}
-use Rattle.take_state.specs.State.{State, matrixTop, rightTop, matrixSound, rightsSound, soundState}
+use Rattle.take_state.specs.State.{State, matrixTop, rightTop, matrixSound, rightsSound, sumsSound, soundState}
 
 -- ---- of lent room, the part that holds the sums
 module _ (m : List ℤ) (p : ℕ) where
@@ -45,20 +45,25 @@ bound-wider n unit h =
     (λ t. subst (λ b. n * unit ≤ b) (no _ _ _ t refl) (omega (arith, mul-le-mul-right unit h)))
 
 module _ (stations p : ℕ) (s : State) (sound : soundState stations p s ≡ true) (long : length (s .tally .counts) ≡ 16) where
-  tally : tallySound stations (s .tally) ≡ true
+  -- the tally and the sums
+  sums : sumsSound stations p s ≡ true
   unfolding soundState
-  tally = both-first _ _ sound
+  sums = both-first _ _ sound
+
+  tally : tallySound stations (s .tally) ≡ true
+  unfolding sumsSound
+  tally = both-first _ _ sums
 
   few : accepted (s .tally) ≤ 4096
   few = omega (arith, sum-le (s .tally .counts) 256 (λ i h. tally-small stations (s .tally) tally i (omega arith)))
 
   matrix : (i j : ℕ) → i ≤ j → j < p → breaks (pos (matrixTop (accepted (s .tally)))) (s .matrix) i j ≡ false
-  unfolding soundState matrixSound
-  matrix i j h l = not-true _ (below-at _ (suc j) (below-at _ p (both-first _ _ (both-second _ _ sound)) j l) i (omega arith))
+  unfolding sumsSound matrixSound
+  matrix i j h l = not-true _ (below-at _ (suc j) (below-at _ p (both-first _ _ (both-second _ _ sums)) j l) i (omega arith))
 
   rights : (i : ℕ) → i < p → breaksSide (pos (rightTop (accepted (s .tally)))) (s .matrix) (s .rights) i ≡ false
-  unfolding soundState rightsSound
-  rights i l = not-true _ (below-at _ p (both-second _ _ (both-second _ _ sound)) i l)
+  unfolding sumsSound rightsSound
+  rights i l = not-true _ (below-at _ p (both-second _ _ (both-second _ _ sums)) i l)
 
   square : s .tally .square ≤ squareTop (accepted (s .tally))
   unfolding tallySound

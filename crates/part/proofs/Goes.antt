@@ -116,7 +116,7 @@ module _ (p : ByValue.Position) (s : State) (l out : List ℕ) where
   t = p .taken
 
   -- ---- what nothing refuses
-  module _ (none : partNumber p s l (length out) ≡ 0) (counts : length (s .tally .counts) ≡ stationsMost) (rows : length (s .tally .rows) ≡ stationsMost) where
+  module _ (none : partNumber p s l (length out) ≡ 0) (counts : length (s .tally .counts) ≡ stationsMost) (rows : length (s .tally .rows) ≡ stationsMost) (marks : length (s .tally .marks) ≡ parametersMost) where
     abbrev v : Fine p s l out
     v = fine p s l out none
 
@@ -125,7 +125,7 @@ module _ (p : ByValue.Position) (s : State) (l out : List ℕ) where
     there = no _ _ _ (v .going) refl ∙ both-second _ _ (v .place)
 
     fit : Fit q s
-    fit = record { place = there; state = v .state; matrix = v .matrix; rights = v .rights; counts = counts; rows = rows }
+    fit = record { place = there; state = v .state; matrix = v .matrix; rights = v .rights; counts = counts; rows = rows; marks = marks }
 
     fed : feed q s l ≡ handed t b s
     fed = not-over q s l (v .going)

@@ -5,12 +5,13 @@ use mathlib.Core.Path.{_≡_, refl, sym, ap, ap₂, _∙_, subst, subst₂}
 use mathlib.Core.List.{List, [], _∷_, _++_, append-nil}
 use mathlib.Core.Bool.{Bool, true, false}
 use native.Mathlib.Omega.{arith}
-use lib.IntN.{ℤ}
+use lib.IntN.{ℤ, pos, negsuc, natAbs}
+use native.Mathlib.Nat.{le-refl, le-trans}
 use lib.ListN.{length, getD}
 use Rattle.num_limits.specs.Capacities.{parametersMost}
 use Rattle.num_whole.specs.Tests.{less, upTo, same, pick, both}
 use Rattle.num_whole.specs.Answer.{Judged, good, bad, given}
-use Rattle.num_whole.proofs.Cases.{by-cases, yes, holds, is-same, is-upTo, upTo-true, less-true, less-false, both-first, both-second}
+use Rattle.num_whole.proofs.Cases.{by-cases, yes, no, not-less, holds, is-same, is-upTo, upTo-true, less-true, less-false, both-first, both-second}
 use Rattle.refusal.proofs.Firsts.{first-pass, first-one, when-false, unless-true}
 use Rattle.byte_words.specs.Words.{lay}
 use Rattle.byte_section.specs.Section.{andThen, countAt, sectionAt}
@@ -25,8 +26,10 @@ use Rattle.arc_heading.proofs.Sound.{Sound, sound}
 use Rattle.arc_read.specs.Arc.{Arc, headingOf}
 use Rattle.num_packed.specs.Triangle.{tri}
 use Rattle.num_packed.proofs.Places.{tri-within}
-use Rattle.take_counts.specs.Counts.{sumOf}
-use Rattle.take_tally.specs.Tally.{accepted, countOf}
+use Rattle.take_counts.specs.Counts.{sumOf, countsSound}
+use Rattle.take_tally.specs.Tally.{accepted, countOf, tallySound}
+use Rattle.take_tally.specs.declared.Tally.{Tally}
+use Rattle.num_whole.proofs.Tables.{below-at}
 use Rattle.take_state.specs.State.{State, soundState, stateNumber}
 use Rattle.take_laws.specs.Machine.{run}
 use Rattle.take_laws.specs.Taking.{Frame, frameOf, recordAnswer, recordStep}
@@ -77,9 +80,26 @@ parameters-opened s a e =
     ap countBy (then-good _ _ (p .1) ∙ n .1) ∙ sym (records-next labelKind s (n .0) (p .0 .next + 4) 0 (q .0) (n .2) .1) ∙ ap (λ x. x .heading .parameters) (good-same (t .2))
 
 -- ---- states
+sum-none : (l : List ℕ) → ((i : ℕ) → i < length l → getD l i 0 ≡ 0) → sumOf l ≡ 0
+unfolding sumOf
+sum-none [] h = refl
+sum-none (x ∷ l) h =
+    let first : x ≡ 0 = h 0 (omega arith) in
+    rw (first, sum-none l (λ i k. h (suc i) (omega arith)))
+
+-- a tally with no stations has no record
+pub none-in-tally : (t : Tally) → length (t .counts) ≡ 16 → tallySound 0 t ≡ true → accepted t ≡ 0
+unfolding tallySound countsSound
+none-in-tally t long e =
+    sum-none (t .counts) (λ i h. let l = upTo-true _ _ (below-at _ 16 (both-first _ _ e) i (omega arith)) in omega (arith, sym (no {A = ℕ} _ 256 0 (not-less i 0 (omega arith)) refl), l))
+
+-- no record is accepted in it
+pub none-accepted : (p : ℕ) (s : State) → length (s .tally .counts) ≡ 16 → soundState 0 p s ≡ true → accepted (s .tally) ≡ 0
+none-accepted p s long e = sum-none (s .tally .counts) (λ i h. Goods.good 0 p s e .past-counts i (omega arith) (omega arith))
+
 -- one that is sound with no stations is so with any, and with fewer parameters
-pub widened : (stations p q : ℕ) (s : State) → q ≤ p → soundState 0 p s ≡ true → soundState stations q s ≡ true
-widened stations p q s h e =
+pub widened : (stations p q : ℕ) (s : State) → length (s .tally .counts) ≡ 16 → q ≤ p → soundState 0 p s ≡ true → soundState stations q s ≡ true
+widened stations p q s long h e =
     let g = Goods.good 0 p s e in
     Goods.sound stations q s
     (record {
@@ -89,18 +109,16 @@ widened stations p q s h e =
       square = g .square;
       matrix = λ i j l k. g .matrix i j l (omega arith);
       rights = λ i l. g .rights i (omega arith);
+      marks = λ i l k. g .marks i l (omega arith);
+      past-marks = λ i l k. by-cases (less i p)
+          (λ t. g .marks i l (less-true _ _ t) .unseen (nothing _ (le-trans (g .matrix i i (le-refl i) (less-true _ _ t) .small) (omega (arith, none-accepted p s long e)))))
+          (λ t. g .past-marks i l (less-false _ _ t));
     })
-
-sum-none : (l : List ℕ) → ((i : ℕ) → i < length l → getD l i 0 ≡ 0) → sumOf l ≡ 0
-unfolding sumOf
-sum-none [] h = refl
-sum-none (x ∷ l) h =
-    let first : x ≡ 0 = h 0 (omega arith) in
-    rw (first, sum-none l (λ i k. h (suc i) (omega arith)))
-
--- no record is accepted in it
-pub none-accepted : (p : ℕ) (s : State) → length (s .tally .counts) ≡ 16 → soundState 0 p s ≡ true → accepted (s .tally) ≡ 0
-none-accepted p s long e = sum-none (s .tally .counts) (λ i h. Goods.good 0 p s e .past-counts i (omega arith) (omega arith))
+  where
+    nothing : (z : ℤ) → natAbs z ≤ 0 → z ≡ pos 0
+    nothing (pos zero) b = refl
+    nothing (pos (suc n)) b = absurd (omega arith)
+    nothing (negsuc n) b = absurd (omega arith)
 
 -- a record is accepted once
 module _ (h : Heading) where
@@ -125,6 +143,7 @@ pub record Fit (p : Position) (s : State) : Type 0 where
   pub rights : parametersIn (p .kept) ≤ length (s .rights)
   pub counts : length (s .tally .counts) ≡ 16
   pub rows : length (s .tally .rows) ≡ 16
+  pub marks : length (s .tally .marks) ≡ 50
 
 module _ (p : Position) (s : State) (fit : Fit p s) (l : List ℕ) where
   abbrev t : ℕ
@@ -146,7 +165,7 @@ module _ (p : Position) (s : State) (fit : Fit p s) (l : List ℕ) where
         (λ k q e. ap (soundBy (parametersIn (p .kept)) t s) (sym e) ∙ fit .state)
 
     still-sound : (n : ℕ) → soundBy (parametersIn b) n s (opened b) ≡ true
-    still-sound n = ap (soundBy (parametersIn b) n s) o ∙ widened 0 (parametersIn (p .kept)) (parametersIn b) s fewer was-unopened
+    still-sound n = ap (soundBy (parametersIn b) n s) o ∙ widened 0 (parametersIn (p .kept)) (parametersIn b) s (fit .counts) fewer was-unopened
 
   -- once it is: the records are taken into a state that its heading allows
   module _ (a : Arc) (o : opened b ≡ good a) where
@@ -169,7 +188,7 @@ module _ (p : Position) (s : State) (fit : Fit p s) (l : List ℕ) where
         record { sound = both-first _ _ v; few = upTo-true _ _ (both-second _ _ v) })
         (λ k q e. let v : soundState 0 (parametersIn (p .kept)) s ≡ true = ap (soundBy (parametersIn (p .kept)) t s) (sym e) ∙ fit .state in
         record {
-          sound = widened (h .stations) (parametersIn (p .kept)) (h .parameters) s (omega (arith, fewer, same-parameters)) v;
+          sound = widened (h .stations) (parametersIn (p .kept)) (h .parameters) s (fit .counts) (omega (arith, fewer, same-parameters)) v;
           few = omega (arith, none-accepted (parametersIn (p .kept)) s (fit .counts) v);
         })
 
@@ -185,6 +204,7 @@ module _ (p : Position) (s : State) (fit : Fit p s) (l : List ℕ) where
           });
           counts = fit .counts;
           rows = fit .rows;
+          marks = fit .marks;
         }
 
   -- ---- after the part
@@ -207,6 +227,7 @@ module _ (p : Position) (s : State) (fit : Fit p s) (l : List ℕ) where
         rights = subst (λ x. parametersIn x ≤ length (s .rights)) (sym kept) (omega (arith, fewer, fit .rights));
         counts = fit .counts;
         rows = fit .rows;
+        marks = fit .marks;
       })
 
   fit-amid : (a : Arc) → opened b ≡ good a → placed next ≡ true → Fit next after
@@ -229,6 +250,7 @@ module _ (p : Position) (s : State) (fit : Fit p s) (l : List ℕ) where
         rights = subst (λ n. n ≤ length (ran .rights)) (sym parameters) (shape .rights);
         counts = w .counts;
         rows = w .rows;
+        marks = w .marks;
       })
 
   pub part-fit : p .over ≡ false → feed p s l .verdict ≡ good tt → Fit (feed p s l .position) (feed p s l .state)
@@ -259,4 +281,5 @@ begun-fit m r wide high =
       rights = subst (λ n. n ≤ length (emptied m r .rights)) (sym nothing-read) (rw (length-cleared parametersMost r high) high);
       counts = refl;
       rows = refl;
+      marks = refl;
     }

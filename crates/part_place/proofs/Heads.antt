@@ -28,9 +28,9 @@ use Rattle.arc_heading.specs.declared.Heading.{Heading}
 use Rattle.arc_read.specs.Arc.{Arc}
 use Rattle.arc_read.proofs.Parts.{settings-first}
 use Rattle.take_tally.specs.Tally.{accepted, tallySound}
-use Rattle.take_state.specs.State.{State, matrixTop, rightTop, matrixSound, rightsSound, soundState, roomNumber, stateNumber}
+use Rattle.take_state.specs.State.{State, matrixTop, rightTop, matrixSound, rightsSound, sumsSound, soundState, roomNumber, stateNumber}
 use Rattle.part_laws.specs.Entries.{countBy, parametersIn, soundBy}
-use Rattle.part_laws.proofs.States.{none-accepted}
+use Rattle.part_laws.proofs.States.{none-in-tally}
 use Rattle.part_place.specs.Looks.{RoomAt}
 
 -- ---- the parameters
@@ -81,21 +81,20 @@ roomy-read j m r a v e = subst (λ k. RoomAt k m r) e v
 -- ---- a state that holds nothing
 module _ (p : ℕ) (s : State) (long : length (s .tally .counts) ≡ stationsMost) where
   none-there : tallySound 0 (s .tally) ≡ true → accepted (s .tally) ≡ 0
-  unfolding soundState matrixSound rightsSound below
-  none-there e = none-accepted 0 s long (sym (holds _ _ e (holds _ _ refl refl)))
+  none-there e = none-in-tally (s .tally) long e
 
   module _ (e : tallySound 0 (s .tally) ≡ true) where
-    pub empty-yes : {x : Bool} → matrixSound p 0 (s .matrix) ≡ true → x ≡ rightsSound p 0 (s .matrix) (s .rights) → x ≡ soundState 0 p s
-    unfolding soundState
+    pub empty-yes : {x : Bool} → matrixSound p 0 (s .matrix) ≡ true → x ≡ rightsSound p 0 (s .matrix) (s .rights) → x ≡ sumsSound 0 p s
+    unfolding sumsSound
     empty-yes m f =
         let none = none-there e in
         holds _ _ e
         (holds _ _ (ap (λ n. matrixSound p (matrixTop n) (s .matrix)) none ∙ m) (f ∙ ap (λ n. rightsSound p (rightTop n) (s .matrix) (s .rights)) (sym none)))
 
-    pub empty-no : matrixSound p 0 (s .matrix) ≡ false → false ≡ soundState 0 p s
-    unfolding soundState
+    pub empty-no : matrixSound p 0 (s .matrix) ≡ false → false ≡ sumsSound 0 p s
+    unfolding sumsSound
     empty-no m = holds _ _ e (fails _ _ (ap (λ n. matrixSound p (matrixTop n) (s .matrix)) (none-there e) ∙ m))
 
-  pub empty-not : tallySound 0 (s .tally) ≡ false → false ≡ soundState 0 p s
-  unfolding soundState
+  pub empty-not : tallySound 0 (s .tally) ≡ false → false ≡ sumsSound 0 p s
+  unfolding sumsSound
   empty-not e = fails _ _ e

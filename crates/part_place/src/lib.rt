@@ -26,7 +26,7 @@ ghost use Rattle.num_whole.specs.Lists.{padded};
 ghost use Rattle.num_limits.specs.Capacities.{parametersMost};
 ghost use Rattle.num_packed.specs.Triangle.{tri};
 ghost use Rattle.refusal.specs.Number.{numberOf};
-ghost use Rattle.take_state.specs.State.{stateOf, soundState};
+ghost use Rattle.take_state.specs.State.{stateOf, sumsSound, soundState};
 ghost use Rattle.part_laws.specs.Beginning.{readAt};
 ghost use Rattle.part_laws.specs.Feeding.{ended, begun, closing};
 ghost use Rattle.part_laws.specs.Entries.{recordSizeMost, positionMost, positionOf, heldOf, tidy, fair, parametersIn, placedBy, endsBy, soundBy, toldPart, toldEnd};
@@ -241,10 +241,10 @@ pub fn is_fair(p: Position, old: Opening) -> bool
     }
 }
 
-// Whether a state holds nothing, for so many parameters.
-fn is_empty(parameters: usize, t: Tally, matrix: &[i64], rights: &[i64]) -> bool
+// Whether the tally and the sums hold nothing, for so many parameters.
+fn sums_empty(parameters: usize, t: Tally, matrix: &[i64], rights: &[i64]) -> bool
     requires { ⌜ (parameters ≤ parametersMost) × (tri parameters ≤ length (now matrix)) × (parameters ≤ length (now rights)) ⌝ }
-    ensures { λ r. ⌜ r ≡ soundState 0 parameters (stateOf (now (matrix .entry)) (now (rights .entry)) t) ⌝ }
+    ensures { λ r. ⌜ r ≡ sumsSound 0 parameters (stateOf (now (matrix .entry)) (now (rights .entry)) t) ⌝ }
 {
     if take_tally::tally_sound(0, t) {
         match num_packed::first_unsound(matrix, parameters, 0) {
@@ -254,6 +254,18 @@ fn is_empty(parameters: usize, t: Tally, matrix: &[i64], rights: &[i64]) -> bool
             },
             Walked::Unsound(_) => false,
         }
+    } else {
+        false
+    }
+}
+
+// Whether a state holds nothing, for so many parameters.
+fn is_empty(parameters: usize, t: Tally, matrix: &[i64], rights: &[i64]) -> bool
+    requires { ⌜ (parameters ≤ parametersMost) × (tri parameters ≤ length (now matrix)) × (parameters ≤ length (now rights)) ⌝ }
+    ensures { λ r. ⌜ r ≡ soundState 0 parameters (stateOf (now (matrix .entry)) (now (rights .entry)) t) ⌝ }
+{
+    if sums_empty(parameters, t, matrix, rights) {
+        take_tally::marks_sound(parameters, t, matrix)
     } else {
         false
     }

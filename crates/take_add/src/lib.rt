@@ -3,7 +3,8 @@ ghost use mathlib.Core.Path.{_≡_};
 ghost use Prim.Native.Nat.{_≤_, _<_, _^_};
 ghost use lib.IntN.{pos, _+ℤ_, _*ℤ_, natAbs};
 ghost use lib.ListN.{length, getD, set};
-ghost use Rattle.num_limits.specs.Capacities.{parametersMost, weightTop};
+ghost use Rattle.num_limits.specs.Capacities.{parametersMost, stationsMost, weightTop};
+ghost use Rattle.take_marks.specs.Marks.{marksWith};
 ghost use Rattle.num_whole.specs.Sums.{plus, Within};
 ghost use Rattle.num_packed.specs.Triangle.{times, triangleTerms, tri};
 
@@ -53,17 +54,22 @@ pub fn add_times(part: &mut [i64], f: i64, a: &[i16])
     }
 }
 
-// Adds w times the products of a's numbers to the packed triangle, column by column.
-pub fn add_matrix(sums: &mut [i64], a: &[i16], w: u32)
+// Adds w times the products of a's numbers to the packed triangle, column by column, and sets a station's mark where a number is not 0: one
+// pass over them for both.
+pub fn add_matrix(sums: &mut [i64], a: &[i16], w: u32, marks: &mut [u16], row: u16)
     requires { ⌜ tri (length (now a)) ≤ length (now sums) ⌝ }
     requires { ⌜ (w ≤ weightTop) × (length (now a) ≤ parametersMost) ⌝ }
+    requires { ⌜ (length (now a) ≤ length (now marks)) × (row < stationsMost) ⌝ }
     requires { ⌜ Within (2 ^ 62) (now sums) ⌝ }
     ensures { λ _. ⌜ now (sums .exit) ≡ plus (now (sums .entry)) (triangleTerms (pos w) (now (a .entry))) ⌝ }
+    ensures marks { λ _. ⌜ now (marks .exit) ≡ marksWith row (now (a .entry)) (now (marks .entry)) ⌝ }
 {
     let mut j: usize = 0;
     let mut k: usize = 0;
     while j < a.len() {
-        let f = scale(w, a[j]);
+        let x = a[j];
+        let f = scale(w, x);
+        marks[j] = take_marks::with_partial(marks[j], row, x);
         let e = k + j + 1;
         add_times(&mut sums[k..e], f, a);
         k = e;

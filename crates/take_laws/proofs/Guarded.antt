@@ -91,6 +91,7 @@ pub record Held (h : Heading) (s : State) : Type 0 where
   pub number : stateNumber h s ≡ 0
   pub counts : length (s .tally .counts) ≡ 16
   pub rows : length (s .tally .rows) ≡ 16
+  pub marks : length (s .tally .marks) ≡ 50
 
 module _ (h : Heading) (s : State) (v : Held h s) where
   pub held-heading : Sound h
@@ -99,7 +100,7 @@ module _ (h : Heading) (s : State) (v : Held h s) where
   pub held-shaped : Shaped (frameOf h) s
   held-shaped =
       let r = roomed h (s .matrix) (s .rights) (held-heading .few) (whole h s (v .number) .room) in
-      record { matrix = r .0; rights = r .1; counts = v .counts; rows = v .rows }
+      record { matrix = r .0; rights = r .1; counts = v .counts; rows = v .rows; marks = v .marks }
 
   pub held-step : (b : List ℕ) → Held h (recordStep (frameOf h) b s)
   held-step b =
@@ -114,6 +115,7 @@ module _ (h : Heading) (s : State) (v : Held h s) where
         });
         counts = k .counts;
         rows = k .rows;
+        marks = k .marks;
       }
 
 -- ---- one record: where nothing is wrong with heading and state, the record alone is judged
@@ -168,4 +170,5 @@ module _ (h : Heading) (m r : List ℤ) (e : roomNumber h m r ≡ 0) where
             });
             counts = refl;
             rows = refl;
+            marks = refl;
           }

@@ -2,33 +2,37 @@
 -- Assumes nothing.
 use Prim.Native.Nat.{ℕ, zero, suc, _+_, _-_, _*_, _^_, _≤_, _<_, zero-le}
 use mathlib.Core.Path.{_≡_, refl, sym, ap, ap₂, _∙_, subst}
-use mathlib.Core.Bool.{true}
+use mathlib.Core.Bool.{true, false}
 use mathlib.Core.List.{List, [], _∷_}
-use native.Mathlib.Nat.{le-refl, not-suc-le-zero, le-of-suc-le-suc, mul-pos, zero-lt-suc}
+use native.Mathlib.Nat.{le-refl, le-trans, not-suc-le-zero, le-of-suc-le-suc, mul-pos, zero-lt-suc}
 use native.Mathlib.Omega.{arith}
 use lib.IntN.{ℤ, pos, negsuc, natAbs, _+ℤ_, _*ℤ_, zero-*ℤ, *ℤ-zero}
-use lib.ListN.{length, getD, set, take, drop, replicate, length-set, length-append, length-take, length-drop, length-replicate, getD-replicate, List·getD-append}
+use lib.ListN.{length, getD, set, take, drop, replicate, length-set, length-append, length-take, length-drop, length-replicate, getD-replicate, List·getD-append, List·getD-eq-default}
 use lib.Seq.{getD-set-same, getD-set-other, getD-take, take-all}
-use Rattle.num_whole.specs.Tests.{less, same, both}
+use Rattle.num_whole.specs.Tests.{less, same, pick, both}
 use Rattle.num_whole.specs.Sums.{Within}
 use Rattle.num_whole.specs.Lists.{all}
-use Rattle.num_whole.proofs.Cases.{by-cases, is-same, not-same, same-true, same-false, less-true, less-false, yes, no}
+use Rattle.num_whole.proofs.Cases.{apart, by-cases, is-same, not-same, same-true, same-false, less-true, less-false, yes, no}
 use Rattle.num_whole.proofs.Ints.{square, +-within}
 use Rattle.num_whole.proofs.Adding.{length-plus, getD-plus}
 use Rattle.num_packed.specs.Triangle.{tri}
-use Rattle.num_packed.specs.Sound.{entry}
+use Rattle.num_packed.specs.Sound.{entry, isZero}
+use Rattle.num_packed.proofs.Tests.{zero-true, zero-is}
 use Rattle.num_packed.proofs.Places.{tri-within}
 use Rattle.num_packed.proofs.Entries.{all-within}
 use Rattle.arc_record.specs.Record.{partialsIn}
 use Rattle.take_counts.specs.Counts.{sumOf}
 use Rattle.take_counts.proofs.Totals.{sum-le}
 use Rattle.num_limits.specs.Capacities.{acceptedMost}
-use Rattle.take_tally.specs.Tally.{noRow, countOf, lastTimes, rowWith, tallyWith, emptyTally, accepted, squareTop}
+use Rattle.take_marks.specs.Marks.{hasMark, withMark}
+use Rattle.take_marks.proofs.Marks.{mark-kept, zero-marks, marked-some}
+use Rattle.take_marks.proofs.Lists.{marks-length, mark-at}
+use Rattle.take_tally.specs.Tally.{noRow, countOf, lastTimes, markOf, rowWith, tallyWith, emptyTally, accepted, squareTop}
 use Rattle.take_tally.specs.declared.Row.{Row}
 use Rattle.take_room.specs.Room.{cleared}
 use Rattle.take_state.specs.State.{State, stateOf, soundState}
 use Rattle.take_laws.specs.Taking.{Frame, stationRow, stamp, typeColumn, scaled, weightIn, matrixTerms, rightTerms, book, recordAnswer, recordStep}
-use Rattle.take_laws.proofs.Accepted.{accepted-in, terms, matrix-at, right-at}
+use Rattle.take_laws.proofs.Accepted.{accepted-in, terms, matrix-at, right-at, length-partialsIn}
 use Rattle.take_laws.proofs.Parts.{Good, good, sound}
 
 -- ---- what is asked of a heading and of a state's lists
@@ -42,6 +46,7 @@ pub record Shaped (f : Frame) (s : State) : Type 0 where
   pub rights : f .parameters ≤ length (s .rights)
   pub counts : length (s .tally .counts) ≡ 16
   pub rows : length (s .tally .rows) ≡ 16
+  pub marks : length (s .tally .marks) ≡ 50
 
 -- ---- one more
 pub sum-set : (l : List ℕ) (i : ℕ) → i < length l → sumOf (set l i (getD l i 0 + 1)) ≡ suc (sumOf l)
@@ -104,11 +109,39 @@ module _ (f : Frame) (b : List ℕ) (s : State) (k : Shaped f s) where
     rights = rw length-plus (k .rights);
     counts = rw length-set (k .counts);
     rows = rw length-set (k .rows);
+    marks = marks-length (stationRow f b) (partialsIn (f .parameters) b) (s .tally .marks) ∙ k .marks;
   }
 
   pub book-accepted : stationRow f b < 16 → accepted (book f b s .tally) ≡ suc (accepted (s .tally))
   unfolding book tallyWith
   book-accepted h = sum-set (s .tally .counts) (stationRow f b) (omega (arith, k .counts))
+
+  -- a parameter's marks, with the station's where the partial is not 0
+  pub book-mark : (i : ℕ) → i < 50
+      → markOf (book f b s .tally) i
+      ≡ pick (isZero (getD (partialsIn (f .parameters) b) i (pos 0))) (markOf (s .tally) i) (withMark (markOf (s .tally) i) (stationRow f b))
+  unfolding book tallyWith
+  book-mark i h = mark-at (stationRow f b) (partialsIn (f .parameters) b) (s .tally .marks) i (omega (arith, k .marks))
+
+  pub book-unmarked : (i : ℕ) → i < 50 → getD (partialsIn (f .parameters) b) i (pos 0) ≡ pos 0 → markOf (book f b s .tally) i ≡ markOf (s .tally) i
+  book-unmarked i h e = book-mark i h ∙ sym (yes _ _ _ (zero-is _ e) refl)
+
+  pub book-marked : (i : ℕ) → i < 50 → isZero (getD (partialsIn (f .parameters) b) i (pos 0)) ≡ false
+      → markOf (book f b s .tally) i ≡ withMark (markOf (s .tally) i) (stationRow f b)
+  book-marked i h e = book-mark i h ∙ sym (no _ _ _ e refl)
+
+  -- no count falls, and the station's own is not 0
+  book-counts : stationRow f b < 16 → (i : ℕ) → countOf (s .tally) i ≤ countOf (book f b s .tally) i
+  unfolding book tallyWith
+  book-counts h i =
+      by-cases (same i (stationRow f b))
+      (λ c. let here : i ≡ stationRow f b = same-true _ _ c in
+      rw (here, getD-set-same (s .tally .counts) (stationRow f b) (countOf (s .tally) (stationRow f b) + 1) 0 (omega (arith, k .counts))) (omega arith))
+      (λ c. rw (getD-set-other (s .tally .counts) (stationRow f b) i (countOf (s .tally) (stationRow f b) + 1) 0 (same-false _ _ c)) (le-refl _))
+
+  book-own : stationRow f b < 16 → 1 ≤ countOf (book f b s .tally) (stationRow f b)
+  unfolding book tallyWith
+  book-own h = rw (getD-set-same (s .tally .counts) (stationRow f b) (countOf (s .tally) (stationRow f b) + 1) 0 (omega (arith, k .counts))) (omega arith)
 
 -- ---- an accepted record leaves a sound state sound
 module _ (f : Frame) (fine : Fine f) (stations : ℕ) (enough : length (f .numbers) ≤ stations) (b : List ℕ) (s : State) (k : Shaped f s) where
@@ -151,6 +184,20 @@ module _ (f : Frame) (fine : Fine f) (stations : ℕ) (enough : length (f .numbe
           zero = λ z. let q = zeros i l z in
               book-side f b s k i l ∙ ap₂ (λ x y. x +ℤ y) (g .rights i l .zero (q .0)) (ap (λ x. pos w *ℤ (x *ℤ scaled b)) (q .1) ∙ zero-left w (scaled b));
         });
+        marks = λ i h l. record {
+          unseen = λ z. let q = zeros i l z in book-unmarked f b s k i h (q .1) ∙ g .marks i h l .unseen (q .0);
+          unmarked = λ z. by-cases (isZero (a i))
+              (λ c. let q = zero-true (a i) c in
+              book-entry f b s k i i (le-refl i) l
+              ∙ ap₂ (λ x y. x +ℤ y) (g .marks i h l .unmarked (sym (book-unmarked f b s k i h q) ∙ z)) (ap (λ x. pos w *ℤ (x *ℤ a i)) q ∙ zero-left w (a i)))
+              (λ c. absurd (marked-some (markOf t i) at (sym (book-marked f b s k i h c) ∙ z)));
+          heard = λ j small has. by-cases (isZero (a i))
+              (λ c. le-trans (g .marks i h l .heard j small (ap (λ x. hasMark x j) (sym (book-unmarked f b s k i h (zero-true (a i) c))) ∙ has)) (book-counts f b s k listed j))
+              (λ c. by-cases (same j at)
+              (λ d. subst (λ x. 1 ≤ countOf (book f b s .tally) x) (sym (same-true _ _ d)) (book-own f b s k listed))
+              (λ d. le-trans (g .marks i h l .heard j small (sym (mark-kept (markOf t i) at j (same-false _ _ d)) ∙ ap (λ x. hasMark x j) (sym (book-marked f b s k i h c)) ∙ has)) (book-counts f b s k listed j)));
+        };
+        past-marks = λ i h l. book-unmarked f b s k i h (List·getD-eq-default (partialsIn p b) (pos 0) (omega (arith, length-partialsIn p b, l))) ∙ g .past-marks i h l;
       }
 
   pub kept-in : soundState stations (f .parameters) s ≡ true → recordAnswer f b s ≡ 0 → soundState stations (f .parameters) (book f b s) ≡ true
@@ -209,6 +256,9 @@ module _ (p : ℕ) (m r : List ℤ) where
   pub empty-side : (i : ℕ) → i < p → getD (cleared p r) i (pos 0) ≡ pos 0
   empty-side i l = cleared-at p r i l
 
+  no-mark : (i : ℕ) → i < 50 → markOf emptyTally i ≡ 0
+  no-mark i h = getD-replicate {A = ℕ} 50 i 0 0 h
+
   empty-good : (stations : ℕ) → Good stations p (stateOf (cleared (tri p) m) (cleared p r) emptyTally)
   unfolding all both same sumOf
   empty-good stations = record {
@@ -223,6 +273,12 @@ module _ (p : ℕ) (m r : List ℤ) where
       column = λ e. empty-entry i j h l;
     };
     rights = λ i l. record { small = rw (empty-side i l) zero-le; zero = λ e. empty-side i l };
+    marks = λ i h l. record {
+      unseen = λ e. no-mark i h;
+      unmarked = λ e. empty-entry i i (le-refl i) l;
+      heard = λ k small has. absurd (apart (sym has ∙ ap (λ n. hasMark n k) (no-mark i h) ∙ zero-marks k));
+    };
+    past-marks = λ i h l. no-mark i h;
   }
 
   pub empty-sound : (stations : ℕ) → soundState stations p (stateOf (cleared (tri p) m) (cleared p r) emptyTally) ≡ true

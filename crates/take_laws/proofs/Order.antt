@@ -17,6 +17,8 @@ use Rattle.refusal.specs.First.{numberIn, first, valueOr}
 use Rattle.refusal.proofs.Firsts.{first-none, first-pass, first-stop}
 use Rattle.arc_kinds.specs.Kinds.{recordSize}
 use Rattle.arc_heading.specs.declared.Heading.{Heading}
+use Rattle.arc_record.specs.Record.{partialsIn}
+use Rattle.take_marks.proofs.Lists.{records-swap}
 use Rattle.take_tally.specs.Tally.{noRow, countOf, lastTimes, rowWith, tallyWith}
 use Rattle.take_state.specs.State.{State, roomNumber, started}
 use Rattle.take_laws.specs.Machine.{run}
@@ -93,6 +95,7 @@ module _ (f : Frame) (b c : List ℕ) (s : State) (d : stationRow f b ≡ statio
       square = add-right-comm (s .tally .square) (squareTerm c) (squareTerm b) i;
       counts = change-comm (s .tally .counts) 0 (stationRow f b) (stationRow f c) (λ n. n + 1) (λ n. n + 1) d i;
       rows = change-comm (s .tally .rows) noRow (stationRow f b) (stationRow f c) (λ w. rowWith w (typeColumn b) (stamp f b)) (λ w. rowWith w (typeColumn c) (stamp f c)) d i;
+      marks = records-swap (stationRow f c) (stationRow f b) (partialsIn (f .parameters) c) (partialsIn (f .parameters) b) (s .tally .marks) i;
     };
   }
 

@@ -114,7 +114,8 @@ recordNumber f b t = judgedBy f b (getD (lastTimes t (stationRow f b) .times) (t
 -- "w·aᵢ·aⱼ to each matrix sum, w·aᵢ·R to each right side, w·R² to the square sum, 1 to the station's count, and sets the last time of that
 -- station and type to t". These are the terms of one observation in the normal equations of GEODYN volume 1, section 10.1 (source document
 -- 004): B has the record's partials a as a row, the diagonal W its weight w and the residuals dm its R. Row i and column j of BᵀWB gain
--- w·aᵢ·aⱼ, row i of BᵀW·dm gains w·aᵢ·R. The a priori terms of that section, the prior weights, are not added.
+-- w·aᵢ·aⱼ, row i of BᵀW·dm gains w·aᵢ·R. The a priori terms of that section, the prior weights, are not added. 02, #105: "for each parameter, a
+-- mark for each station that gave an accepted partial other than zero".
 unfoldable pub matrixTerms : Frame → List ℕ → List ℤ
 matrixTerms f b = triangleTerms (pos (weightIn b)) (partialsIn (f .parameters) b)
 
@@ -129,7 +130,7 @@ book f b s =
     record {
       matrix = plus (s .matrix) (matrixTerms f b);
       rights = plus (s .rights) (rightTerms f b);
-      tally = tallyWith (s .tally) (stationRow f b) (typeColumn b) (stamp f b) (squareTerm b);
+      tally = tallyWith (s .tally) (stationRow f b) (typeColumn b) (stamp f b) (squareTerm b) (partialsIn (f .parameters) b);
     }
 
 -- ---- one record, the heading and the state found good

@@ -30,10 +30,11 @@ pub record Handed (h : Heading) (s : State) : Type 0 where
   pub listed : length (h .listed) ≡ 16
   pub counts : length (s .tally .counts) ≡ 16
   pub rows : length (s .tally .rows) ≡ 16
+  pub marks : length (s .tally .marks) ≡ 50
 
 module _ (h : Heading) (s : State) (v : Handed h s) where
   abbrev held : Held h s
-  held = record { number = v .number; counts = v .counts; rows = v .rows }
+  held = record { number = v .number; counts = v .counts; rows = v .rows; marks = v .marks }
 
   pub parameters-few : h .parameters ≤ 50
   parameters-few = held-heading h s held .few
@@ -84,6 +85,7 @@ module _ (h : Heading) (s : State) (v : Handed h s) where
         matrix = matrix-long ∙ ap tri (sym rights-long);
         counts = v .counts;
         rows = v .rows;
+        marks = v .marks;
         sound = rw (numbers-are, numbers-long, rights-long) (sound-part (h .stations) (h .parameters) s (whole h s (v .number) .state));
       }
 

@@ -93,6 +93,13 @@ sound-part stations p s v =
     (record {
       counts = g .counts;
       past-counts = g .past-counts;
+      marks = λ i h l. let e = g .marks i h l in
+          record {
+            unseen = λ z. e .unseen (sym (at i i (omega arith) l) ∙ z);
+            unmarked = λ z. at i i (omega arith) l ∙ e .unmarked z;
+            heard = e .heard;
+          };
+      past-marks = g .past-marks;
       past-times = g .past-times;
       square = g .square;
       matrix = λ i j h l. let e = g .matrix i j h l in

@@ -44,8 +44,20 @@ pub fn take_record(
             let count = t.counts[place];
             match take_judge::judge(settings.level, x, take_steps::last_of(row, x.column), count) {
                 Judgement::Accepted(y) => {
-                    take_steps::add_record(matrix, rights, room, bytes, y.weight, y.side);
+                    let mut marks = t.marks;
+                    let k = place as u16;
+                    take_steps::add_record(
+                        matrix,
+                        rights,
+                        room,
+                        bytes,
+                        y.weight,
+                        y.side,
+                        &mut marks,
+                        k,
+                    );
                     let mut after = t;
+                    after.marks = marks;
                     after.square = t.square + y.square;
                     after.counts[place] = count + 1;
                     after.rows[place] = take_steps::row_with(row, x.column, x.time);

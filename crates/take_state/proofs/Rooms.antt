@@ -11,7 +11,7 @@ use lib.ListN.{length, getD, take, drop, set, take-append-drop}
 use lib.Seq.{drop-cons, drop-set-lt, take-suc-set, append-snoc}
 use Rattle.num_whole.specs.Tests.{pick}
 use Rattle.num_whole.specs.Answer.{Answered, given, refused}
-use Rattle.num_whole.proofs.Cases.{yes, no, is-less, not-less, is-same, not-same, both-first, both-second, upTo-true}
+use Rattle.num_whole.proofs.Cases.{yes, no, is-less, not-less, less-true, is-same, not-same, both-first, both-second, upTo-true}
 use Rattle.refusal.specs.Number.{numberOf}
 use Rattle.refusal.specs.First.{numberIn, answered}
 use Rattle.refusal.specs.declared.Refusal.{Refusal}
@@ -27,10 +27,11 @@ use Rattle.arc_heading.specs.declared.Heading.{Heading}
 use Rattle.refusal.specs.declared.Verdict.{Verdict}
 use Rattle.refusal.specs.declared.Verdict.the-variants as Verdicts
 use Rattle.arc_heading.proofs.Sound.{Sound, sound}
-use Rattle.take_tally.specs.Tally.{emptyTally}
+use Rattle.take_marks.specs.Marks.{hasMark}
+use Rattle.take_tally.specs.Tally.{emptyTally, markOf}
 use Rattle.take_tally.specs.declared.Tally.{Tally}
 use Rattle.take_room.specs.Room.{cleared}
-use Rattle.take_state.specs.State.{State, stateOf, soundState, roomy, roomNumber, stateNumber, started, seenIn, sightOf}
+use Rattle.take_state.specs.State.{State, stateOf, soundState, roomy, roomNumber, stateNumber, started, parameterNumber, carriesOf}
 
 -- ---- an answer and its number
 told : (v : Verdict) → toldVerdict v ≡ answered (numberIn (toldVerdict v)) tt
@@ -124,16 +125,38 @@ pub place-small : (i : ℕ) → i < 50 → tri i + i < 1275
 unfolding tri
 place-small i h = omega (arith, tri-within i 50 h)
 
+-- the heading with its state is judged first, then the parameter's number
 module _ (h : Heading) (s : State) (i : ℕ) where
-  pub sight-judged : (f : Refusal) → stateNumber h s ≡ numberOf f → refused (numberOf f) ≡ sightOf h s i
-  unfolding sightOf
-  sight-judged f e = answered-by _ _ f (sym (first-by _ _ f e))
+  pub parameter-judged : (f : Refusal) → stateNumber h s ≡ numberOf f → refused (numberOf f) ≡ answered (parameterNumber h s i) (tt {0})
+  unfolding parameterNumber
+  parameter-judged f e = answered-by _ _ f (sym (first-by _ _ f e))
 
-  module _ (sound : stateNumber h s ≡ 0) where
-    pub sight-none : h .parameters ≤ i → refused 4 ≡ sightOf h s i
-    unfolding sightOf
-    sight-none l = answered-by _ _ Limits (first-pass _ _ sound ∙ first-one _ ∙ unless-false 4 _ (not-less _ _ l))
+  pub parameter-none : stateNumber h s ≡ 0 → h .parameters ≤ i → refused 4 ≡ answered (parameterNumber h s i) (tt {0})
+  unfolding parameterNumber
+  parameter-none sound l = answered-by _ _ Limits (first-pass _ _ sound ∙ first-one _ ∙ unless-false 4 _ (not-less _ _ l))
 
-    pub sight-some : i < h .parameters → (b : Bool) → b ≡ seenIn (s .matrix) i → given b ≡ sightOf h s i
-    unfolding sightOf
-    sight-some l b e = ap given e ∙ answered-given _ _ (first-pass _ _ sound ∙ first-one _ ∙ unless-true 4 _ (is-less _ _ l))
+  pub parameter-some : stateNumber h s ≡ 0 → i < h .parameters → given (tt {0}) ≡ answered (parameterNumber h s i) (tt {0})
+  unfolding parameterNumber
+  parameter-some sound l = answered-given _ _ (first-pass _ _ sound ∙ first-one _ ∙ unless-true 4 _ (is-less _ _ l))
+
+  pub parameter-found : stateNumber h s ≡ 0 → i < h .parameters → parameterNumber h s i ≡ 0
+  parameter-found sound l = by-given _ (parameter-some sound l)
+
+  -- what a parameter that was found has
+  pub parameter-is : parameterNumber h s i ≡ 0 → (stateNumber h s ≡ 0) × (i < h .parameters)
+  unfolding parameterNumber
+  parameter-is e = let a = first-none _ _ e in (a .0, less-true _ _ (unless-none 4 _ (λ z. omega arith) (sym (first-one _) ∙ a .1)))
+
+  -- ---- the station's row comes last
+  pub row-judged : (k : ℕ) (f : Refusal) → parameterNumber h s i ≡ numberOf f → refused (numberOf f) ≡ carriesOf h s i k
+  unfolding carriesOf
+  row-judged k f e = answered-by _ _ f (sym (first-by _ _ f e))
+
+  module _ (k : ℕ) (found : parameterNumber h s i ≡ 0) where
+    pub row-none : h .stations ≤ k → refused 4 ≡ carriesOf h s i k
+    unfolding carriesOf
+    row-none l = answered-by _ _ Limits (first-pass _ _ found ∙ first-one _ ∙ unless-false 4 _ (not-less _ _ l))
+
+    pub row-some : k < h .stations → (b : Bool) → b ≡ hasMark (markOf (s .tally) i) k → given b ≡ carriesOf h s i k
+    unfolding carriesOf
+    row-some l b e = ap given e ∙ answered-given _ _ (first-pass _ _ found ∙ first-one _ ∙ unless-true 4 _ (is-less _ _ l))

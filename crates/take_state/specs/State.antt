@@ -1,5 +1,6 @@
 -- Document 01, 'Taking a record': "The state holds the packed upper triangle by columns, the right sides, the square sum, a count for each
--- station and a table of sixteen rows of ten last times, 0 for none." What a state is, the empty one, and which states are sound (6).
+-- station and a table of sixteen rows of ten last times, 0 for none."; 02, #105: "The arc's state gains this table [of marks] and its rule". What
+-- a state is, the empty one, and which states are sound (6).
 use Prim.Native.Nat.{ℕ, suc, _*_, _^_, min}
 use mathlib.Core.List.{List, [], _∷_}
 use mathlib.Core.Bool.{Bool, true, false, not}
@@ -16,10 +17,13 @@ use Rattle.num_packed.specs.Room.{sumsRoomy}
 use Rattle.num_packed.specs.Sound.{entry, isZero, breaks, breaksSide}
 use Rattle.arc_heading.specs.Judge.{judged}
 use Rattle.arc_heading.specs.declared.Heading.{Heading}
-use Rattle.take_tally.specs.Tally.{emptyTally, accepted, tallySound}
+use Rattle.take_marks.specs.Marks.{hasMark, markCount}
+use Rattle.take_tally.specs.Tally.{emptyTally, accepted, markOf, tallySound, marksSound}
 use Rattle.take_tally.specs.declared.Tally.{Tally}
 use Rattle.take_state.specs.declared.Sight.{Sight}
 use Rattle.take_state.specs.declared.Sight.the-variants as Sights
+use Rattle.take_state.specs.declared.Carriers.{Carriers}
+use Rattle.take_state.specs.declared.Carriers.the-variants as Numbers
 
 pub record State : Type 0 where
   pub matrix : List ℤ
@@ -50,12 +54,16 @@ matrixSound p top m = below (λ j. below (λ i. not (breaks (pos top) m i j)) (s
 unfoldable pub rightsSound : ℕ → ℕ → List ℤ → List ℤ → Bool
 rightsSound p top m r = below (λ i. not (breaksSide (pos top) m r i)) p
 
--- a state of some stations and p parameters; where n is 0 every bound is 0, and so is every sum
-unfoldable pub soundState : ℕ → ℕ → State → Bool
-soundState stations p s =
+-- the tally and the sums of some stations and p parameters; where n is 0 every bound is 0, and so is every sum
+unfoldable pub sumsSound : ℕ → ℕ → State → Bool
+sumsSound stations p s =
     both (tallySound stations (s .tally))
     (both (matrixSound p (matrixTop (accepted (s .tally))) (s .matrix))
     (rightsSound p (rightTop (accepted (s .tally))) (s .matrix) (s .rights)))
+
+-- a state of some stations and p parameters
+unfoldable pub soundState : ℕ → ℕ → State → Bool
+soundState stations p s = both (sumsSound stations p s) (marksSound p (s .matrix) (s .tally))
 
 -- ---- what is lent
 -- "a number past its capacity standing as the capacity"
@@ -86,12 +94,28 @@ started h m r =
 unfoldable pub seenIn : List ℤ → ℕ → Bool
 seenIn m i = not (isZero (entry m i i))
 
--- whether parameter i is seen: 20, 2, 4, 5, 6 for the heading and its state, then 4 where i is none of its parameters
-unfoldable pub sightOf : Heading → State → ℕ → Answered Bool
-sightOf h s i = answered (first (stateNumber h s ∷ unless 4 (less i (h .parameters)) ∷ [])) (seenIn (s .matrix) i)
+-- a heading with a state, and one of its parameters: 20, 2, 4, 5, 6, then 4 where i is none of them
+unfoldable pub parameterNumber : Heading → State → ℕ → ℕ
+parameterNumber h s i = first (stateNumber h s ∷ unless 4 (less i (h .parameters)) ∷ [])
 
--- what the answer says
+-- whether parameter i is seen
+unfoldable pub sightOf : Heading → State → ℕ → Answered Bool
+sightOf h s i = answered (parameterNumber h s i) (seenIn (s .matrix) i)
+
+-- 02, #105: "give the number of stations for each parameter"
+unfoldable pub carriersOf : Heading → State → ℕ → Answered ℕ
+carriersOf h s i = answered (parameterNumber h s i) (markCount (markOf (s .tally) i))
+
+-- "we are asked which stations carry a parameter": whether the station of row k does; last 4, where k is none of the heading's stations
+unfoldable pub carriesOf : Heading → State → ℕ → ℕ → Answered Bool
+carriesOf h s i k = answered (first (parameterNumber h s i ∷ unless 4 (less k (h .stations)) ∷ [])) (hasMark (markOf (s .tally) i) k)
+
+-- what the answers say
 abbrev pub toldSight : Sight → Answered Bool
 toldSight Sights.Seen = given true
 toldSight Sights.Unseen = given false
 toldSight (Sights.Refused r) = refused (numberOf r)
+
+abbrev pub toldCarriers : Carriers → Answered ℕ
+toldCarriers (Numbers.Number n) = given n
+toldCarriers (Numbers.Refused r) = refused (numberOf r)

@@ -11,6 +11,7 @@ ghost use lib.IntN.{pos};
 ghost use lib.ListN.{length};
 ghost use Rattle.num_limits.specs.Capacities.{acceptedMost, parametersMost};
 ghost use Rattle.num_packed.specs.Triangle.{tri};
+ghost use Rattle.num_whole.specs.Answer.{given};
 ghost use Rattle.refusal.specs.First.{answered};
 ghost use Rattle.refusal.specs.Told.{toldVerdict};
 ghost use Rattle.take_state.specs.State.{
@@ -19,19 +20,29 @@ ghost use Rattle.take_state.specs.State.{
   rightTop,
   matrixSound,
   rightsSound,
+  sumsSound,
   soundState,
   roomNumber,
   stateNumber,
   started,
-  seenIn,
+  parameterNumber,
   sightOf,
+  carriersOf,
+  carriesOf,
   toldSight,
+  toldCarriers,
 };
 
-// Whether a parameter is seen.
+// Whether a parameter is seen, by any station or by one.
 pub enum Sight {
     Seen,
     Unseen,
+    Refused(Refusal),
+}
+
+// How many stations carry a parameter.
+pub enum Carriers {
+    Number(u32),
     Refused(Refusal),
 }
 
@@ -110,9 +121,9 @@ fn rights_sound(p: usize, n: u64, matrix: &[i64], rights: &[i64]) -> bool
     }
 }
 
-fn is_sound(h: Heading, t: Tally, matrix: &[i64], rights: &[i64]) -> bool
+fn sums_sound(h: Heading, t: Tally, matrix: &[i64], rights: &[i64]) -> bool
     requires { ⌜ (h .parameters ≤ parametersMost) × (tri (h .parameters) ≤ length (now matrix)) × (h .parameters ≤ length (now rights)) ⌝ }
-    ensures { λ r. ⌜ r ≡ soundState (h .stations) (h .parameters) (stateOf (now (matrix .entry)) (now (rights .entry)) t) ⌝ }
+    ensures { λ r. ⌜ r ≡ sumsSound (h .stations) (h .parameters) (stateOf (now (matrix .entry)) (now (rights .entry)) t) ⌝ }
 {
     if take_tally::tally_sound(h.stations, t) {
         let counts = t.counts;
@@ -122,6 +133,17 @@ fn is_sound(h: Heading, t: Tally, matrix: &[i64], rights: &[i64]) -> bool
         } else {
             false
         }
+    } else {
+        false
+    }
+}
+
+fn is_sound(h: Heading, t: Tally, matrix: &[i64], rights: &[i64]) -> bool
+    requires { ⌜ (h .parameters ≤ parametersMost) × (tri (h .parameters) ≤ length (now matrix)) × (h .parameters ≤ length (now rights)) ⌝ }
+    ensures { λ r. ⌜ r ≡ soundState (h .stations) (h .parameters) (stateOf (now (matrix .entry)) (now (rights .entry)) t) ⌝ }
+{
+    if sums_sound(h, t, matrix, rights) {
+        take_tally::marks_sound(h.parameters, t, matrix)
     } else {
         false
     }
@@ -141,28 +163,56 @@ pub fn judge_state(h: Heading, t: Tally, matrix: &[i64], rights: &[i64]) -> Verd
     }
 }
 
-// ---- what is seen
+// ---- what is seen, and by whom
 
-fn is_seen(matrix: &[i64], i: usize) -> bool
-    requires { ⌜ (i < parametersMost) × (tri (i + 1) ≤ length (now matrix)) ⌝ }
-    ensures { λ r. ⌜ r ≡ seenIn (now (matrix .entry)) i ⌝ }
+fn sight_of(seen: bool) -> Sight
+    ensures { λ r. ⌜ toldSight r ≡ given seen ⌝ }
 {
-    let k = num_packed::place(i, i);
-    matrix[k] != 0
+    if seen { Sight::Seen } else { Sight::Unseen }
 }
 
-// 20, 2, 4, 5, 6 for the heading and its state, 4 where i is none of its parameters, else whether parameter i is seen.
+// 20, 2, 4, 5, 6 for the heading and its state, 4 where i is none of its parameters.
+fn judge_parameter(h: Heading, t: Tally, matrix: &[i64], rights: &[i64], i: usize) -> Verdict
+    ensures { λ r. ⌜ toldVerdict r ≡ answered (parameterNumber h (stateOf (now (matrix .entry)) (now (rights .entry)) t) i) tt ⌝ }
+{
+    match judge_state(h, t, matrix, rights) {
+        Verdict::Refused(refusal) => Verdict::Refused(refusal),
+        Verdict::Sound => if i < h.parameters {
+            Verdict::Sound
+        } else {
+            Verdict::Refused(Refusal::Limits)
+        },
+    }
+}
+
+// Whether parameter i is seen.
 pub fn seen(h: Heading, t: Tally, matrix: &[i64], rights: &[i64], i: usize) -> Sight
     ensures { λ r. ⌜ toldSight r ≡ sightOf h (stateOf (now (matrix .entry)) (now (rights .entry)) t) i ⌝ }
 {
-    match judge_state(h, t, matrix, rights) {
+    match judge_parameter(h, t, matrix, rights, i) {
         Verdict::Refused(refusal) => Sight::Refused(refusal),
-        Verdict::Sound => if i < h.parameters {
-            if is_seen(matrix, i) {
-                Sight::Seen
-            } else {
-                Sight::Unseen
-            }
+        Verdict::Sound => sight_of(take_tally::is_seen(matrix, i)),
+    }
+}
+
+// How many stations gave an accepted partial other than 0 for parameter i.
+pub fn carried_by(h: Heading, t: Tally, matrix: &[i64], rights: &[i64], i: usize) -> Carriers
+    ensures { λ r. ⌜ toldCarriers r ≡ carriersOf h (stateOf (now (matrix .entry)) (now (rights .entry)) t) i ⌝ }
+{
+    match judge_parameter(h, t, matrix, rights, i) {
+        Verdict::Refused(refusal) => Carriers::Refused(refusal),
+        Verdict::Sound => Carriers::Number(take_marks::count(t.marks[i])),
+    }
+}
+
+// Whether the station of row k did; 4 also where k is none of the heading's stations.
+pub fn carries(h: Heading, t: Tally, matrix: &[i64], rights: &[i64], i: usize, k: usize) -> Sight
+    ensures { λ r. ⌜ toldSight r ≡ carriesOf h (stateOf (now (matrix .entry)) (now (rights .entry)) t) i k ⌝ }
+{
+    match judge_parameter(h, t, matrix, rights, i) {
+        Verdict::Refused(refusal) => Sight::Refused(refusal),
+        Verdict::Sound => if k < h.stations {
+            sight_of(take_marks::has(t.marks[i], k as u16))
         } else {
             Sight::Refused(Refusal::Limits)
         },

@@ -99,13 +99,13 @@ module _ (f : Frame) (b : List ℕ) (s : State) where
       square-is = ap (λ z. z .square) (taken .1)
 
       -- what is booked
-      pub booked : book f b s ≡ stateOf (plus (s .matrix) (triangleTerms (pos (y .weight)) (partialsIn (f .parameters) b))) (plus (s .rights) (times (y .side) (partialsIn (f .parameters) b))) (tallyWith (s .tally) (x .place) (x .column) (x .time) (y .square))
+      pub booked : book f b s ≡ stateOf (plus (s .matrix) (triangleTerms (pos (y .weight)) (partialsIn (f .parameters) b))) (plus (s .rights) (times (y .side) (partialsIn (f .parameters) b))) (tallyWith (s .tally) (x .place) (x .column) (x .time) (y .square) (partialsIn (f .parameters) b))
       unfolding book matrixTerms rightTerms tallyWith fitOf
       booked =
           λ i. stateOf
           (plus (s .matrix) (triangleTerms (pos (weight-is i)) (partialsIn (f .parameters) b)))
           (plus (s .rights) (times (side-is i) (partialsIn (f .parameters) b)))
-          (tallyWith (s .tally) (is-fit i .place) (is-fit i .column) (is-fit i .time) (square-is i))
+          (tallyWith (s .tally) (is-fit i .place) (is-fit i .column) (is-fit i .time) (square-is i) (partialsIn (f .parameters) b))
 
       pub seat-free : count < 256
       unfolding recordAnswer recordNumber fitOf
@@ -177,7 +177,7 @@ module _ (a : Settings) (ns : List ℕ) (cs : List ℤ) (s : State) (h : Prepare
     f = frame a (length (s .rights)) ns cs
 
     shape : Shaped f s
-    shape = record { matrix = omega (arith, h .matrix); rights = le-refl _; counts = h .counts; rows = h .rows }
+    shape = record { matrix = omega (arith, h .matrix); rights = le-refl _; counts = h .counts; rows = h .rows; marks = h .marks }
 
     pub same-rights : length (recordStep f b s .rights) ≡ length (s .rights)
     unfolding book
@@ -198,6 +198,7 @@ module _ (a : Settings) (ns : List ℕ) (cs : List ℤ) (s : State) (h : Prepare
           few = rw same-rights (h .few);
           matrix = same-matrix ∙ h .matrix ∙ ap tri (sym same-rights);
           counts = k .counts;
+          marks = k .marks;
           rows = k .rows;
           sound = rw same-rights v;
         }

@@ -10,6 +10,7 @@ use Rattle.num_limits.specs.Capacities.{parametersMost, stationsMost}
 use Rattle.arc_limits.specs.Limits.{settingsOk}
 use Rattle.arc_limits.specs.declared.Settings.{Settings}
 use Rattle.num_packed.specs.Triangle.{tri}
+use Rattle.take_tally.specs.declared.Tally.{Tally}
 use Rattle.take_state.specs.State.{State, soundState}
 use Rattle.arc_kinds.specs.Kinds.{recordSize}
 use Rattle.take_laws.specs.Machine.{run, answers}
@@ -24,7 +25,12 @@ pub record Prepared (a : Settings) (ns : List ℕ) (cs : List ℤ) (s : State) :
   pub matrix : length (s .matrix) ≡ tri (length (s .rights))
   pub counts : length (s .tally .counts) ≡ stationsMost
   pub rows : length (s .tally .rows) ≡ stationsMost
+  pub marks : length (s .tally .marks) ≡ parametersMost
   pub sound : soundState (length ns) (length (s .rights)) s ≡ true
+
+-- a tally whose marks stand apart
+abbrev pub markedBy : Tally → List ℕ → Tally
+markedBy u marks = record { square = u .square; counts = u .counts; rows = u .rows; marks = marks }
 
 -- the records of a run that a frame's parameters give, taken one after another: the end, and the answers
 unfoldable pub runBy : Frame → State → List ℕ → State

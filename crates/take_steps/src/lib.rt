@@ -11,7 +11,8 @@ ghost use mathlib.Core.Path.{_≡_};
 ghost use Prim.Native.Nat.{_*_, _/_, _≤_, _<_, _^_};
 ghost use lib.IntN.{pos, natAbs};
 ghost use lib.ListN.{length, getD};
-ghost use Rattle.num_limits.specs.Capacities.{parametersMost, weightTop};
+ghost use Rattle.num_limits.specs.Capacities.{parametersMost, stationsMost, weightTop};
+ghost use Rattle.take_marks.specs.Marks.{marksWith};
 ghost use Rattle.num_whole.specs.Sums.{plus, Within};
 ghost use Rattle.refusal.specs.Number.{numberOf};
 ghost use Rattle.byte_words.specs.Words.{lay};
@@ -48,7 +49,8 @@ pub fn row_with(row: Row, column: usize, time: u64) -> Row
     r
 }
 
-// Adds the terms of a record to the sums: w times the products of its partials, and w·R times each. The partials are laid out in `room`.
+// Adds the terms of a record to the sums: w times the products of its partials, and w·R times each; and its station's marks. The partials are
+// laid out in `room`.
 pub fn add_record(
     matrix: &mut [i64],
     rights: &mut [i64],
@@ -56,19 +58,23 @@ pub fn add_record(
     bytes: &[u8],
     weight: u32,
     side: i64,
+    marks: &mut [u16],
+    row: u16,
 )
     requires { ⌜ (length (now rights) ≤ parametersMost) × (length (now matrix) ≡ tri (length (now rights))) × (length (now room) ≡ length (now rights)) ⌝ }
-    requires { ⌜ (weight ≤ weightTop) × (natAbs side ≤ 2 ^ 31) ⌝ }
+    requires { ⌜ (weight ≤ weightTop) × (natAbs side ≤ 2 ^ 31) × (length (now marks) ≡ parametersMost) × (row < stationsMost) ⌝ }
     requires { ⌜ Within (2 ^ 62) (now matrix) × Within (2 ^ 62) (now rights) ⌝ }
     ensures matrix { λ _. ⌜ now (matrix .exit) ≡ plus (now (matrix .entry)) (triangleTerms (pos weight) (partialsIn (length (now (rights .entry))) (now (bytes .entry)))) ⌝ }
     ensures rights { λ _. ⌜ now (rights .exit) ≡ plus (now (rights .entry)) (times side (partialsIn (length (now (rights .entry))) (now (bytes .entry)))) ⌝ }
+    ensures marks { λ _. ⌜ now (marks .exit) ≡ marksWith row (partialsIn (length (now (rights .entry))) (now (bytes .entry))) (now (marks .entry)) ⌝ }
 {
     arc_record::partials(bytes, room);
-    take_add::add_matrix(matrix, room, weight);
+    take_add::add_matrix(matrix, room, weight, marks, row);
     take_add::add_times(rights, side, room);
 }
 
-// The whole records of a run taken one after another, each with its answer written: 0, or the number of its refusal.
+// The whole records of a run taken one after another, each with its answer written: 0, or the number of its refusal. The marks are set in an array of
+// their own, which is lent on: by value they would be copied with each record.
 pub fn take_all(
     settings: Settings,
     numbers: &[u16],
@@ -89,6 +95,7 @@ pub fn take_all(
     let size = RECORD_FIXED + PARTIAL_SIZE * p;
     let n = run.len() / size;
     let mut u = t;
+    let mut marks = t.marks;
     let mut i: usize = 0;
     let mut at: usize = 0;
     while i < n {
@@ -101,7 +108,8 @@ pub fn take_all(
                 let count = u.counts[place];
                 match take_judge::judge(settings.level, x, last_of(row, x.column), count) {
                     Judgement::Accepted(y) => {
-                        add_record(matrix, rights, room, bytes, y.weight, y.side);
+                        let k = place as u16;
+                        add_record(matrix, rights, room, bytes, y.weight, y.side, &mut marks, k);
                         u.square = u.square + y.square;
                         u.counts[place] = count + 1;
                         u.rows[place] = row_with(row, x.column, x.time);
@@ -123,5 +131,6 @@ pub fn take_all(
             }
         }
     }
+    u.marks = marks;
     u
 }

@@ -1,6 +1,6 @@
 // Runs the vectors of taking. Each line is written anew: its question as it was read, the library's own answer, and the state: of a
 // record that is accepted the one after it, else the one before, as it is after the call.
-// Eight of the sixty lines from outside are left out: they hold something in slots past the parameters, which this layout does not have.
+// Four of the sixty lines from outside are left out: they hold something in a sum's slot past the parameters, which this layout does not have.
 // The last four lines take one set of sixteen records from the empty state, in mixes that keep each station's own order: one after another, by
 // turns, backwards, and one more. The state after them is the same, and so is what each record was told.
 use arc_heading::Heading;
@@ -166,11 +166,24 @@ fn rows_of(text: &[u8]) -> [Row; STATIONS_MOST] {
     a
 }
 
+fn marks_of(text: &[u8]) -> [u16; PARAMETERS_MOST] {
+    let mut a = [0u16; PARAMETERS_MOST];
+    let mut i: usize = 0;
+    let mut at: usize = 0;
+    while i < PARAMETERS_MOST {
+        a[i] = desk_lines::as_u16(desk_lines::decimal_at(text, at));
+        at = desk_lines::after(text, at, b',');
+        i += 1;
+    }
+    a
+}
+
 fn tally_of(line: &[u8]) -> Tally {
     Tally {
         square: desk_lines::decimal_at(desk_lines::value(line, 7), 0),
         counts: counts_of(desk_lines::value(line, 8)),
         rows: rows_of(desk_lines::value(line, 9)),
+        marks: marks_of(desk_lines::value(line, 10)),
     }
 }
 
@@ -220,9 +233,19 @@ fn put_rows(t: Tally) {
     }
 }
 
+fn put_marks(marks: [u16; PARAMETERS_MOST]) {
+    let mut i: usize = 0;
+    while i < PARAMETERS_MOST {
+        put_comma(i);
+        desk_lines::put_number(marks[i] as u64, b"");
+        i += 1;
+    }
+}
+
 // Writes a state, each of its parts by a name that begins as told, and ends the line.
 fn put_state(name: &[u8], t: Tally, matrix: &[i64], rights: &[i64]) {
     let counts = t.counts;
+    let marks = t.marks;
     desk_lines::put(name);
     desk_lines::put(b"matrix=");
     put_sums(matrix);
@@ -237,6 +260,9 @@ fn put_state(name: &[u8], t: Tally, matrix: &[i64], rights: &[i64]) {
     desk_lines::put(name);
     desk_lines::put(b"last=");
     put_rows(t);
+    desk_lines::put(name);
+    desk_lines::put(b"marks=");
+    put_marks(marks);
     desk_lines::put(b"\n");
 }
 
@@ -247,7 +273,7 @@ fn before(line: &[u8]) -> &[u8] {
     desk_lines::part(
         line,
         desk_lines::word(line, 5),
-        desk_lines::word_end(line, desk_lines::word(line, 9)),
+        desk_lines::word_end(line, desk_lines::word(line, 10)),
     )
 }
 

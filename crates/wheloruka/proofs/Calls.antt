@@ -7,7 +7,7 @@ use mathlib.Core.Bool.{Bool, true, false}
 use native.Mathlib.Omega.{arith}
 use lib.IntN.{ℤ}
 use lib.ListN.{length}
-use Rattle.num_whole.specs.Tests.{same}
+use Rattle.num_whole.specs.Tests.{same, pick}
 use Rattle.num_whole.specs.Answer.{Answered, given, refused}
 use Rattle.num_whole.proofs.Cases.{yes, no, is-same, not-same, same-true, same-false, by-cases}
 use Rattle.byte_words.specs.Words.{lay}
@@ -19,17 +19,17 @@ use Rattle.refusal.proofs.Firsts.{unless-true, unless-false, first-pass, first-
 use Rattle.arc_heading.specs.declared.Heading.{Heading}
 use Rattle.take_tally.specs.Tally.{emptyTally}
 use Rattle.take_tally.specs.declared.Tally.{Tally}
-use Rattle.take_state.specs.State.{State, stateOf, roomNumber, started, sightOf}
+use Rattle.take_state.specs.State.{State, stateOf, roomNumber, started, sightOf, carriersOf, carriesOf}
 use Rattle.take_state.proofs.Rooms.{by-given, by-refused}
 use Rattle.take_laws.specs.Taking.{takeAnswer, takeStep, runAnswers}
 use Rattle.call_heading.specs.Lent.{headingIn, hasBoth}
 use Rattle.call_tally.specs.Tally.{tallyBytes}
 use Rattle.byte_section.specs.Told.{onDone}
-use Rattle.call_rooms.specs.Result.{resultNumber, resultLeft, toldValues}
+use Rattle.call_rooms.specs.Result.{resultNumber, resultLeft, toldValues, one}
 use Rattle.call_rooms.proofs.Rooms.{as-refused}
 use Rattle.call_files.specs.Taking.{seenNumbers}
 use Rattle.call_files.proofs.Rooms.{is-done, is-kept}
-use Rattle.wheloruka.specs.Taking.{Lent, lent, stateIn, lentNumber, callNumber, callLeft, answersLeft, seenValues}
+use Rattle.wheloruka.specs.Taking.{Lent, lent, stateIn, lentNumber, callNumber, callLeft, answersLeft, seenValues, carriersValues, carriesValues}
 
 -- ---- any call: k is the number that follows
 module _ (b : List ℕ) (x : Lent) (k : ℕ) where
@@ -117,17 +117,56 @@ module _ (b l out : List ℕ) (x : Lent) where
   unfolding answersLeft lentNumber
   answers-whole e left h = yes _ _ _ (is-same _ _ (unless-true 20 _ e)) h
 
--- ---- whether a parameter is seen
-module _ (b : List ℕ) (x : Lent) (i : ℕ) (out : List ℕ) where
-  pub seen-short : hasBoth b (x .tally) ≡ false → (20 ≡ resultNumber (seenValues b x i) (length out)) × (out ≡ resultLeft (seenValues b x i) out)
-  unfolding seenValues
-  seen-short e = as-refused _ out 20 (sym (no _ _ _ e refl)) refl
+-- ---- a state asked for something: f makes the values of what is told, `said` is what the definition says
+module _ {A : Type 0} (f : A → List ℕ) (there : Bool) (said : Answered A) (out : List ℕ) where
+  asked : Answered (List ℕ)
+  asked = pick there (toldValues f said) (refused 20)
+
+  asked-short : there ≡ false → (20 ≡ resultNumber asked (length out)) × (out ≡ resultLeft asked out)
+  unfolding asked
+  asked-short e = as-refused _ out 20 (sym (no _ _ _ e refl)) refl
 
   -- w is what was told of the state
+  asked-whole : there ≡ true → (w : Answered A) → w ≡ said → {n : ℕ} {left : List ℕ}
+      → (n ≡ resultNumber (toldValues f w) (length out)) × (left ≡ resultLeft (toldValues f w) out)
+      → (n ≡ resultNumber asked (length out)) × (left ≡ resultLeft asked out)
+  unfolding asked
+  asked-whole e w t put =
+      let is : toldValues f w ≡ asked = yes _ _ _ e (ap (toldValues f) t) in
+      (put .0 ∙ ap (λ v. resultNumber v (length out)) is, put .1 ∙ ap (λ v. resultLeft v out) is)
+
+-- whether a parameter is seen
+module _ (b : List ℕ) (x : Lent) (i : ℕ) (out : List ℕ) where
+  pub seen-short : hasBoth b (x .tally) ≡ false → (20 ≡ resultNumber (seenValues b x i) (length out)) × (out ≡ resultLeft (seenValues b x i) out)
+  unfolding seenValues asked
+  seen-short e = asked-short seenNumbers (hasBoth b (x .tally)) (sightOf (headingIn b) (stateIn x) i) out e
+
   pub seen-whole : hasBoth b (x .tally) ≡ true → (w : Answered Bool) → w ≡ sightOf (headingIn b) (stateIn x) i → {n : ℕ} {left : List ℕ}
       → (n ≡ resultNumber (toldValues seenNumbers w) (length out)) × (left ≡ resultLeft (toldValues seenNumbers w) out)
       → (n ≡ resultNumber (seenValues b x i) (length out)) × (left ≡ resultLeft (seenValues b x i) out)
-  unfolding seenValues
-  seen-whole e w t put =
-      let is : toldValues seenNumbers w ≡ seenValues b x i = yes _ _ _ e (ap (toldValues seenNumbers) t) in
-      (put .0 ∙ ap (λ v. resultNumber v (length out)) is, put .1 ∙ ap (λ v. resultLeft v out) is)
+  unfolding seenValues asked
+  seen-whole = asked-whole seenNumbers (hasBoth b (x .tally)) (sightOf (headingIn b) (stateIn x) i) out
+
+-- how many stations gave a partial for it
+module _ (b : List ℕ) (x : Lent) (i : ℕ) (out : List ℕ) where
+  pub carriers-short : hasBoth b (x .tally) ≡ false → (20 ≡ resultNumber (carriersValues b x i) (length out)) × (out ≡ resultLeft (carriersValues b x i) out)
+  unfolding carriersValues asked
+  carriers-short e = asked-short one (hasBoth b (x .tally)) (carriersOf (headingIn b) (stateIn x) i) out e
+
+  pub carriers-whole : hasBoth b (x .tally) ≡ true → (w : Answered ℕ) → w ≡ carriersOf (headingIn b) (stateIn x) i → {n : ℕ} {left : List ℕ}
+      → (n ≡ resultNumber (toldValues one w) (length out)) × (left ≡ resultLeft (toldValues one w) out)
+      → (n ≡ resultNumber (carriersValues b x i) (length out)) × (left ≡ resultLeft (carriersValues b x i) out)
+  unfolding carriersValues asked
+  carriers-whole = asked-whole one (hasBoth b (x .tally)) (carriersOf (headingIn b) (stateIn x) i) out
+
+-- whether the station of row k did
+module _ (b : List ℕ) (x : Lent) (i k : ℕ) (out : List ℕ) where
+  pub carries-short : hasBoth b (x .tally) ≡ false → (20 ≡ resultNumber (carriesValues b x i k) (length out)) × (out ≡ resultLeft (carriesValues b x i k) out)
+  unfolding carriesValues asked
+  carries-short e = asked-short seenNumbers (hasBoth b (x .tally)) (carriesOf (headingIn b) (stateIn x) i k) out e
+
+  pub carries-whole : hasBoth b (x .tally) ≡ true → (w : Answered Bool) → w ≡ carriesOf (headingIn b) (stateIn x) i k → {n : ℕ} {left : List ℕ}
+      → (n ≡ resultNumber (toldValues seenNumbers w) (length out)) × (left ≡ resultLeft (toldValues seenNumbers w) out)
+      → (n ≡ resultNumber (carriesValues b x i k) (length out)) × (left ≡ resultLeft (carriesValues b x i k) out)
+  unfolding carriesValues asked
+  carries-whole = asked-whole seenNumbers (hasBoth b (x .tally)) (carriesOf (headingIn b) (stateIn x) i k) out

@@ -1,7 +1,7 @@
 -- The tally of each state that records lead to has numbers of their widths, so that what one call lays in the tally's room the next one reads.
 -- Assumes nothing.
 use Prim.Native.Nat.{ℕ, zero, suc, _+_, _*_, _^_, _<_}
-use mathlib.Core.Path.{_≡_, refl, sym, subst}
+use mathlib.Core.Path.{_≡_, refl, sym, subst, _∙_}
 use mathlib.Core.Bool.{Bool, true, false, _&&_}
 use mathlib.Core.List.{List, [], _∷_}
 use native.Mathlib.Omega.{arith}
@@ -24,6 +24,7 @@ use Rattle.take_rules.specs.Rules.{inWindow}
 use Rattle.arc_limits.specs.Limits.{windowOk, settingsOk}
 use Rattle.arc_heading.specs.declared.Heading.{Heading}
 use Rattle.arc_heading.proofs.Sound.{Sound}
+use Rattle.take_marks.proofs.Lists.{marks-length, marks-small}
 use Rattle.take_tally.specs.Tally.{noRow, lastTimes, tallyWith, emptyTally}
 use Rattle.take_state.specs.State.{State, stateNumber}
 use Rattle.take_laws.specs.Machine.{run}
@@ -68,6 +69,8 @@ bytes-fit b h = record {
     long = length-stands (word 8 b) 8 10 at;
     times = each-stands (λ n. n < 256 ^ 8) (word 8 b) 8 (λ k. word-small 8 b k h) 10 at;
   }) 16 72;
+  words = length-stands (word 2 b) 2 50 1352;
+  marks = each-stands (λ n. n < 256 ^ 2) (word 2 b) 2 (λ at. word-small 2 b at h) 50 1352;
 }
 
 pub empty-fits : TallyFits emptyTally
@@ -77,6 +80,8 @@ empty-fits = record {
   counts = each-same (λ n. n < 256 ^ 4) 0 (omega arith) 16;
   seats = refl;
   rows = each-same RowFits _ (record { long = refl; times = each-same (λ n. n < 256 ^ 8) 0 (omega arith) 10 }) 16;
+  words = refl;
+  marks = each-same (λ n. n < 256 ^ 2) 0 (omega arith) 50;
 }
 
 -- ---- a time in the window of a sound heading
@@ -118,6 +123,8 @@ module _ (h : Heading) (b : List ℕ) (s : State) (v : Held h s) (fit : TallyFit
           long = rw length-set (was .long);
           times = each-set (λ n. n < 256 ^ 8) (lastTimes t (stationRow f b) .times) (typeColumn b) (stamp f b) (was .times) (stamp-small h heading b (ok .fits));
         });
+        words = marks-length _ _ (t .marks) ∙ fit .words;
+        marks = marks-small 16 (stationRow f b) (omega (arith, row, fit .seats)) _ (t .marks) (fit .marks);
       }
 
   fits-record : TallyFits (recordStep (frameOf h) b s .tally)
@@ -126,7 +133,7 @@ module _ (h : Heading) (b : List ℕ) (s : State) (v : Held h s) (fit : TallyFit
 -- ---- one record, and a run, from a state of any values
 module _ (h : Heading) (s : State) (fit : TallyFits (s .tally)) where
   held : stateNumber h s ≡ 0 → Held h s
-  held e = record { number = e; counts = fit .counted; rows = fit .seats }
+  held e = record { number = e; counts = fit .counted; rows = fit .seats; marks = fit .words }
 
   pub fits-take : (b : List ℕ) → takeAnswer h b s ≡ 0 → TallyFits (takeStep h b s .tally)
   unfolding takeAnswer

@@ -7,8 +7,8 @@ use Rattle.num_whole.specs.Tests.{same, pick}
 use Rattle.num_whole.specs.Answer.{Answered, refused}
 use Rattle.byte_words.specs.Words.{lay}
 use Rattle.refusal.specs.First.{unless, first}
-use Rattle.call_rooms.specs.Result.{toldValues}
-use Rattle.take_state.specs.State.{State, stateOf, roomNumber, stateNumber, started, sightOf}
+use Rattle.call_rooms.specs.Result.{toldValues, one}
+use Rattle.take_state.specs.State.{State, stateOf, roomNumber, stateNumber, started, sightOf, carriersOf, carriesOf}
 use Rattle.take_laws.specs.Taking.{takeAnswer, takeStep, runNumber, runState, runAnswers}
 use Rattle.call_heading.specs.Lent.{headingIn, hasBoth}
 use Rattle.call_tally.specs.Tally.{tallyIn, tallyBytes}
@@ -70,3 +70,11 @@ answersLeft b l out x = pick (same (lentNumber b x) 0) (runAnswers (headingIn b)
 -- ---- whether a parameter is seen: 1 or 0
 unfoldable pub seenValues : List ℕ → Lent → ℕ → Answered (List ℕ)
 seenValues b x i = pick (hasBoth b (x .tally)) (toldValues seenNumbers (sightOf (headingIn b) (stateIn x) i)) (refused 20)
+
+-- ---- 02, #105: "give the number of stations for each parameter"
+unfoldable pub carriersValues : List ℕ → Lent → ℕ → Answered (List ℕ)
+carriersValues b x i = pick (hasBoth b (x .tally)) (toldValues one (carriersOf (headingIn b) (stateIn x) i)) (refused 20)
+
+-- ---- "which stations carry a parameter": 1 or 0 for the station of row k of the heading
+unfoldable pub carriesValues : List ℕ → Lent → ℕ → ℕ → Answered (List ℕ)
+carriesValues b x i k = pick (hasBoth b (x .tally)) (toldValues seenNumbers (carriesOf (headingIn b) (stateIn x) i k)) (refused 20)

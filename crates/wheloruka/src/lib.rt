@@ -27,6 +27,8 @@ ghost use Rattle.wheloruka.specs.Taking.{
   runLeft,
   answersLeft,
   seenValues,
+  carriersValues,
+  carriesValues,
 };
 ghost use Rattle.call_told.specs.Told.{toldNumber, toldOut};
 ghost use Rattle.call_part.specs.Calls.{
@@ -287,6 +289,54 @@ pub extern "C" fn whl_seen(
         let h = call_heading::heading_in(heading);
         let t = call_tally::tally_in(tally);
         call_files::give_sight(out, take_state::seen(h, t, matrix, rights, parameter))
+    } else {
+        20
+    }
+}
+
+// How many stations gave an accepted partial other than 0 for a parameter.
+#[no_mangle]
+pub extern "C" fn whl_carriers(
+    heading: &[u8],
+    tally: &[u8],
+    matrix: &[i64],
+    rights: &[i64],
+    parameter: usize,
+    out: &mut [u32],
+) -> u32
+    ensures { λ r. ⌜ r ≡ resultNumber (carriersValues (now (heading .entry)) (lent (now (tally .entry)) (now (matrix .entry)) (now (rights .entry))) parameter) (length (now (out .entry))) ⌝ }
+    ensures left { λ _. ⌜ now (out .exit) ≡ resultLeft (carriersValues (now (heading .entry)) (lent (now (tally .entry)) (now (matrix .entry)) (now (rights .entry))) parameter) (now (out .entry)) ⌝ }
+{
+    if call_heading::has_both(heading, tally) {
+        let h = call_heading::heading_in(heading);
+        let t = call_tally::tally_in(tally);
+        call_files::give_carriers(out, take_state::carried_by(h, t, matrix, rights, parameter))
+    } else {
+        20
+    }
+}
+
+// Whether the station of a row of the heading did: 1 or 0.
+#[no_mangle]
+pub extern "C" fn whl_carries(
+    heading: &[u8],
+    tally: &[u8],
+    matrix: &[i64],
+    rights: &[i64],
+    parameter: usize,
+    station: usize,
+    out: &mut [u32],
+) -> u32
+    ensures { λ r. ⌜ r ≡ resultNumber (carriesValues (now (heading .entry)) (lent (now (tally .entry)) (now (matrix .entry)) (now (rights .entry))) parameter station) (length (now (out .entry))) ⌝ }
+    ensures left { λ _. ⌜ now (out .exit) ≡ resultLeft (carriesValues (now (heading .entry)) (lent (now (tally .entry)) (now (matrix .entry)) (now (rights .entry))) parameter station) (now (out .entry)) ⌝ }
+{
+    if call_heading::has_both(heading, tally) {
+        let h = call_heading::heading_in(heading);
+        let t = call_tally::tally_in(tally);
+        call_files::give_sight(
+            out,
+            take_state::carries(h, t, matrix, rights, parameter, station),
+        )
     } else {
         20
     }

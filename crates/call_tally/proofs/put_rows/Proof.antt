@@ -11,7 +11,7 @@ use Rattle.byte_section.specs.Section.{encoded}
 use Rattle.take_tally.specs.Tally.{noRow}
 use Rattle.call_tally.specs.Tally.{rowBytes}
 use Rattle.call_tally.proofs.Bytes.{row-long}
-use Rattle.call_tally.proofs.Loops.{rest-whole, lay-end, lay-turn}
+use Rattle.call_tally.proofs.Loops.{rest-whole, lay-end, lay-turn, long-end, long-turn}
 use borrow.Author.Needs.{needs}
 use Rattle.call_tally.proofs.put_rows.Statement.{statement}
 use Rattle.call_tally.proofs.put_rows.Tie as tie
@@ -23,6 +23,7 @@ Inv-loop out₀ t at₀ i₀ out at i =
     × (length out ≡ length out₀)
     × (at ≡ 72 + 80 * i)
     × (lay out₀ 72 (encoded rowBytes (t .rows)) ≡ lay out at (encoded rowBytes (rest (t .rows) 16 i)))
+    × (length (encoded rowBytes (t .rows)) ≡ 80 * i + length (encoded rowBytes (rest (t .rows) 16 i)))
 
 abbrev μ-loop : tie.MeasureT-loop
 μ-loop out₀ t at₀ i₀ out at i = 16 - i
@@ -30,7 +31,9 @@ abbrev μ-loop : tie.MeasureT-loop
 loop-holds : tie.Need-loop-holds Inv-loop μ-loop
 loop-holds c =
     let long : length (c .before .args .t1 .rows) ≡ 16 = simp length-map at (c .before .good .0 .1 .1 .1 .1 .0 .1 .0 .1) in
-    (search needs, long, refl, omega arith, ap (λ l. lay (c .before .args .out .now) 72 (encoded rowBytes l)) (rest-whole _ 16 long))
+    let bytes : length (encoded rowBytes (c .before .args .t1 .rows)) ≡ length (encoded rowBytes (rest (c .before .args .t1 .rows) 16 0)) =
+    ap (λ l. length (encoded rowBytes l)) (rest-whole _ 16 long) in
+    (search needs, long, refl, omega arith, ap (λ l. lay (c .before .args .out .now) 72 (encoded rowBytes l)) (rest-whole _ 16 long), omega (arith, bytes))
 
 mul-w : tie.Need-mul-w Inv-loop μ-loop
 mul-w c = search needs
@@ -59,13 +62,18 @@ loop-again c =
       rw e (length-lay _ _ _ ∙ inv .2),
       search needs,
       rw e (inv .4 ∙ lay-turn _ _ _ _ _ _ noRow 80 (omega arith) (omega arith) (row-long _ (c .before .before .put-row .ensures .1))),
+      long-turn rowBytes 80 _ _ _ _ (inv .5) noRow (omega arith) (omega arith) (row-long _ (c .before .before .put-row .ensures .1)),
     )
 
 same-length : tie.Need-same-length Inv-loop μ-loop
 same-length c = search needs
 
 returns : tie.Need-returns Inv-loop μ-loop
-returns c = sym (c .before .loop .inv .4 ∙ lay-end _ _ _ _ _ _ (omega arith))
+returns c =
+    let inv = c .before .loop .inv in (
+      sym (inv .4 ∙ lay-end _ _ _ _ _ _ (omega arith)),
+      long-end rowBytes 80 _ _ _ _ (inv .5) (omega arith) ∙ omega arith,
+    )
 
 pub put-rows-spec : {M : Type 1} → statement M
 put-rows-spec =

@@ -11,12 +11,22 @@ counts-in-requires c κs = search needs
 rows-in-requires : tie.Need-rows-in-requires
 rows-in-requires c κs = search needs
 
+marks-in-requires : tie.Need-marks-in-requires
+marks-in-requires c κs = search needs
+
 read-u64-requires : tie.Need-read-u64-requires
 read-u64-requires c κs = search needs
 
 returns : tie.Need-returns
 unfolding tallyIn
-returns c = λ i. record { square = c .read-u64 .ensures i; counts = c .before .before .counts-in .ensures i; rows = c .before .rows-in .ensures i }
+returns c =
+    λ i.
+    record {
+      square = c .read-u64 .ensures i;
+      counts = c .before .before .before .counts-in .ensures i;
+      rows = c .before .before .rows-in .ensures i;
+      marks = c .before .marks-in .ensures i;
+    }
 
 pub tally-in-spec : {M : Type 1} → statement M
-tally-in-spec = tie.close (tie.spec counts-in-requires rows-in-requires read-u64-requires returns)
+tally-in-spec = tie.close (tie.spec counts-in-requires rows-in-requires marks-in-requires read-u64-requires returns)

@@ -18,21 +18,21 @@ use Rattle.list_lines.proofs.put_parameters.Statement.{statement}
 use Rattle.list_lines.proofs.put_parameters.Tie as tie
 
 abbrev Inv-loop : tie.InvT-loop
-Inv-loop room₀ start matrix rights h n at₀ i₀ room at i =
+Inv-loop room₀ start matrix rights h t n at₀ i₀ room at i =
     (i ≤ n)
     × (length (h .labels) ≡ 50)
     × (length room ≡ length room₀)
-    × (laid room at (parameterLines matrix rights i (rest (h .labels) n i)) ≡ laid room₀ start (parameterLines matrix rights 0 (labelsOf h)))
+    × (laid room at (parameterLines matrix rights (t .marks) i (rest (h .labels) n i)) ≡ laid room₀ start (parameterLines matrix rights (t .marks) 0 (labelsOf h)))
 
 abbrev μ-loop : tie.MeasureT-loop
-μ-loop room₀ start matrix rights h n at₀ i₀ room at i = n - i
+μ-loop room₀ start matrix rights h t n at₀ i₀ room at i = n - i
 
 -- Views: from one place of the code to an earlier one. A statement put between two of them changes one line here.
 abbrev start-of-turn : tie.At-loop Inv-loop μ-loop → tie.Start Inv-loop μ-loop
 start-of-turn c = c .before .before
 
-abbrev turn-of-put : tie.After-put-parameter Inv-loop μ-loop → tie.At-loop Inv-loop μ-loop
-turn-of-put c = c .before .before .before .before .before .before .before
+abbrev inside-of-put : tie.After-put-parameter Inv-loop μ-loop → tie.In-loop Inv-loop μ-loop
+inside-of-put c = c .before .before .before .before .before .before .before
 
 loop-holds : tie.Need-loop-holds Inv-loop μ-loop
 unfolding labelsOf rest
@@ -60,6 +60,12 @@ shared-slice-copy-out-put-parameter-2 :
     tie.Need-shared-slice-copy-out-put-parameter-2 Inv-loop μ-loop
 shared-slice-copy-out-put-parameter-2 c = search needs
 
+mul-put-parameter-3 : tie.Need-mul-put-parameter-3 Inv-loop μ-loop
+mul-put-parameter-3 c = search needs
+
+element-copy-out-put-parameter : tie.Need-element-copy-out-put-parameter Inv-loop μ-loop
+element-copy-out-put-parameter c = search needs
+
 put-parameter-requires : tie.Need-put-parameter-requires Inv-loop μ-loop
 put-parameter-requires c κs = search needs
 
@@ -71,15 +77,16 @@ loop-less c = search needs
 
 loop-again : tie.Need-loop-again Inv-loop μ-loop
 loop-again c =
-    let put = c .before .before in let turn = turn-of-put put in let start = start-of-turn turn in
+    let put = c .before .before in let inside = inside-of-put put in let turn = inside .before in let start = start-of-turn turn in
+    let more = inside .loop-test .taken in
     let l = turn .loop in
     let a = start .args in
-    let line = row-laid (l .room) (l .at) _ (a .matrix .now) (a .rights .now) (l .i) (put .before .before .before .before .place .ensures)
+    let line = row-laid (l .room) (l .at) _ (a .matrix .now) (a .rights .now) (l .i) _ (put .before .before .before .before .before .place .ensures)
     (toZ-ofZ w64 _ (search needs)) (toZ-ofZ w64 _ (search needs)) (put .put-parameter .ensures) in (
-      search needs,
-      search needs,
+      omega (arith, more),
+      l .inv .1,
       put .put-parameter .kept .0 ∙ l .inv .2,
-      lines-turn _ _ _ _ line (parameters-turn (a .matrix .now) (a .rights .now) _ _ (l .i) (omega arith) (omega arith)) (l .inv .3),
+      lines-turn _ _ _ _ line (parameters-turn (a .matrix .now) (a .rights .now) (a .t4 .marks) _ _ (l .i) (omega (arith, start .pre .0, l .inv .1)) more) (l .inv .3),
     )
 
 least-requires : tie.Need-least-requires Inv-loop μ-loop
@@ -89,7 +96,7 @@ same-length : tie.Need-same-length Inv-loop μ-loop
 same-length c = search needs
 
 returns : tie.Need-returns Inv-loop μ-loop
-returns c = lines-end _ _ (c .least .ensures) (parameters-end _ _ _ _ _ (omega arith)) (c .before .before .loop .inv .3)
+returns c = lines-end _ _ (c .least .ensures) (parameters-end _ _ _ _ _ _ (omega arith)) (c .before .before .loop .inv .3)
 
 pub put-parameters-spec : {M : Type 1} → statement M
 put-parameters-spec =
@@ -105,6 +112,8 @@ put-parameters-spec =
     shared-slice-copy-out-put-parameter
     mul-put-parameter-2
     shared-slice-copy-out-put-parameter-2
+    mul-put-parameter-3
+    element-copy-out-put-parameter
     put-parameter-requires
     add-i
     loop-less

@@ -17,7 +17,7 @@ diagonal-of-gap c = c .before .before .before .before .before
 abbrev gap-of-right : tie.After-put-signed2 → tie.After-put-text
 gap-of-right c = c .before .before .before .before
 
-abbrev right-of-end : tie.After-put-text2 → tie.After-put-signed2
+abbrev right-of-end : tie.After-put-one → tie.After-put-signed2
 right-of-end c = c .before .before .before .before .before
 
 put-signed-requires : tie.Need-put-signed-requires
@@ -32,11 +32,11 @@ put-text-requires c κs = search needs
 put-signed-requires-2 : tie.Need-put-signed-requires-2
 put-signed-requires-2 c κs = search needs
 
-slice-aggregate-put-text-2 : tie.Need-slice-aggregate-put-text-2
-slice-aggregate-put-text-2 c = search needs
+slice-aggregate-put-one : tie.Need-slice-aggregate-put-one
+slice-aggregate-put-one c = search needs
 
-put-text-requires-2 : tie.Need-put-text-requires-2
-put-text-requires-2 c κs = search needs
+put-one-requires : tie.Need-put-one-requires
+put-one-requires c κs = search needs
 
 same-length : tie.Need-same-length
 same-length c = search needs
@@ -46,8 +46,8 @@ returns c =
     let end = c .before .before in let right = right-of-end end in let gap = gap-of-right right in let diagonal = diagonal-of-gap gap in let start = start-of-diagonal diagonal in
     let a = start .args in
     let f = start .fits in
-    sums-laid _ _ (a .diagonal) (a .right) (toZ-ofZ w64 (a .diagonal) (f .diagonal)) (toZ-ofZ w64 (a .right) (f .right))
-    (diagonal .put-signed .ensures) (gap .put-text .ensures) (right .put-signed2 .ensures) (end .put-text2 .ensures)
+    sums-laid _ _ (a .diagonal) (a .right) (a .n) (toZ-ofZ w64 (a .diagonal) (f .diagonal)) (toZ-ofZ w64 (a .right) (f .right))
+    (diagonal .put-signed .ensures) (gap .put-text .ensures) (right .put-signed2 .ensures) (end .put-one .ensures)
 
 pub put-sums-spec : {M : Type 1} → statement M
 put-sums-spec =
@@ -57,7 +57,7 @@ put-sums-spec =
     slice-aggregate-put-text
     put-text-requires
     put-signed-requires-2
-    slice-aggregate-put-text-2
-    put-text-requires-2
+    slice-aggregate-put-one
+    put-one-requires
     same-length
     returns)

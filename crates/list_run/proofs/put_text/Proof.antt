@@ -79,7 +79,7 @@ returns c s h =
     let e = end-good s (a .c) (a .matrix .now) (a .rights .now) (a .table .now) h _ (sym (ap toldPart (head .before .enum-told .given .1)) ∙ f .finish .ensures .0) in
     put .put-arc .ensures
     ∙ ap (laid (a .room .now) 0)
-    (ap (λ g. arcLines g (a .c .position .taken) (a .table .now) (a .matrix .now) (a .rights .now) (a .c .tally .square)) (head .heading .ensures .1)
+    (ap (λ g. arcLines g (a .c .position .taken) (a .table .now) (a .matrix .now) (a .rights .now) (a .c .tally)) (head .heading .ensures .1)
     ∙ text-good s (a .c) (a .matrix .now) (a .rights .now) (a .table .now) h (e .0) (e .1))
 
 same-length-2 : tie.Need-same-length-2

@@ -36,6 +36,9 @@ counts c = simp length-map at (c .good .1 .1 .1 .1 .0 .1 .1 .1 .0 .1 .0 .1)
 rows : (c : tie.Start) → length (c .args .t .rows) ≡ 16
 rows c = simp length-map at (c .good .1 .1 .1 .1 .0 .1 .1 .1 .1 .0 .1 .0 .1)
 
+marks : (c : tie.Start) → length (c .args .t .marks) ≡ 50
+marks c = simp length-map at (c .good .1 .1 .1 .1 .0 .1 .1 .1 .1 .1 .0 .1 .0 .1)
+
 opens : (c : tie.After-enum-told) → let a = start-of-read c .args in
     opened (positionOf (a .p) .kept ++ a .bytes .now) ≡ good (record { heading = a .new .heading; count = a .new .count; start = a .new .start })
 opens c = sym (start-of-read c .pre .opens) ∙ opening-read _ (c .enum-told .given .1)
@@ -46,12 +49,12 @@ enum-told c = search needs
 take-done-requires : tie.Need-take-done-requires
 take-done-requires c κs =
     let read = c .before .before .before .before .before in let d = start-of-read read in let a = d .args in let o = opens read in
-    (sound-there (a .p) (stateOf (a .matrix .now) (a .rights .now) (a .t)) (a .bytes .now) (a .answers .now) (d .pre .number) (counts d) (rows d) _ o, (ready (a .p) (stateOf (a .matrix .now) (a .rights .now) (a .t)) (a .bytes .now) (a .answers .now) (d .pre .number) (counts d) (rows d) _ o (a .n) (a .f) (d .pre .front) (d .pre .many), omega (arith, d .pre .many, fine (a .p) (stateOf (a .matrix .now) (a .rights .now) (a .t)) (a .bytes .now) (a .answers .now) (d .pre .number) .enough)))
+    (sound-there (a .p) (stateOf (a .matrix .now) (a .rights .now) (a .t)) (a .bytes .now) (a .answers .now) (d .pre .number) (counts d) (rows d) (marks d) _ o, (ready (a .p) (stateOf (a .matrix .now) (a .rights .now) (a .t)) (a .bytes .now) (a .answers .now) (d .pre .number) (counts d) (rows d) (marks d) _ o (a .n) (a .f) (d .pre .front) (d .pre .many), omega (arith, d .pre .many, fine (a .p) (stateOf (a .matrix .now) (a .rights .now) (a .t)) (a .bytes .now) (a .answers .now) (d .pre .number) .enough)))
 
 moved-on-requires : tie.Need-moved-on-requires
 moved-on-requires c κs =
     let read = read-of-taken (c .before .before .before .before) in let d = start-of-read read in let a = d .args in let o = opens read in
-    (ready (a .p) (stateOf (a .matrix .now) (a .rights .now) (a .t)) (a .bytes .now) (a .answers .now) (d .pre .number) (counts d) (rows d) _ o (a .n) (a .f) (d .pre .front) (d .pre .many), (d .pre .few, d .pre .count, few-taken (a .p) (stateOf (a .matrix .now) (a .rights .now) (a .t)) (a .bytes .now) (a .answers .now) (d .pre .number) (counts d) (rows d) _ o, start-low (a .p) (stateOf (a .matrix .now) (a .rights .now) (a .t)) (a .bytes .now) (a .answers .now) (d .pre .number) (counts d) (rows d) _ o, inside (a .p) (stateOf (a .matrix .now) (a .rights .now) (a .t)) (a .bytes .now) (a .answers .now) (d .pre .number) (counts d) (rows d) _ o (a .n) (a .f) (d .pre .front) (d .pre .many)))
+    (ready (a .p) (stateOf (a .matrix .now) (a .rights .now) (a .t)) (a .bytes .now) (a .answers .now) (d .pre .number) (counts d) (rows d) (marks d) _ o (a .n) (a .f) (d .pre .front) (d .pre .many), (d .pre .few, d .pre .count, few-taken (a .p) (stateOf (a .matrix .now) (a .rights .now) (a .t)) (a .bytes .now) (a .answers .now) (d .pre .number) (counts d) (rows d) (marks d) _ o, start-low (a .p) (stateOf (a .matrix .now) (a .rights .now) (a .t)) (a .bytes .now) (a .answers .now) (d .pre .number) (counts d) (rows d) (marks d) _ o, inside (a .p) (stateOf (a .matrix .now) (a .rights .now) (a .t)) (a .bytes .now) (a .answers .now) (d .pre .number) (counts d) (rows d) (marks d) _ o (a .n) (a .f) (d .pre .front) (d .pre .many)))
 
 enum-known-answer : tie.Need-enum-known-answer
 enum-known-answer c = search needs
@@ -76,7 +79,7 @@ returns c =
     let h = a .new .heading in
     let t = a .p .taken in
     let is = front-begins (a .p) (a .bytes .now) (a .f) (d .pre .front) in
-    let w = went (a .p) (stateOf (a .matrix .now) (a .rights .now) (a .t)) (a .bytes .now) (a .answers .now) (d .pre .number) (counts d) (rows d) (a .n) h (d .pre .many) (heading-good t (positionOf (a .p) .kept ++ a .bytes .now) _ o) in
+    let w = went (a .p) (stateOf (a .matrix .now) (a .rights .now) (a .t)) (a .bytes .now) (a .answers .now) (d .pre .number) (counts d) (rows d) (marks d) (a .n) h (d .pre .many) (heading-good t (positionOf (a .p) .kept ++ a .bytes .now) _ o) in
     let m = c .before .moved-on in
     let k = taken .take-done in (
       m .ensures .0 ∙ ap (λ x. toldForm (soFar (readAt t x)) (a .n) (t + a .n)) is ∙ w .says,
@@ -94,7 +97,7 @@ returns-2 c =
     let d = c .before .before .before .before .before .before in
     let a = d .args in
     let o : opened (positionOf (a .p) .kept ++ a .bytes .now) ≡ bad _ _ = sym (d .pre .opens) ∙ opening-refused (a .new) (c .before .before .answer .given .1) in
-    let w = before (a .p) (stateOf (a .matrix .now) (a .rights .now) (a .t)) (a .bytes .now) (a .answers .now) (d .pre .number) (counts d) (rows d) _ _ o (a .n) (a .f) (d .pre .front) (d .pre .many) in
+    let w = before (a .p) (stateOf (a .matrix .now) (a .rights .now) (a .t)) (a .bytes .now) (a .answers .now) (d .pre .number) (counts d) (rows d) (marks d) _ _ o (a .n) (a .f) (d .pre .front) (d .pre .many) in
     let u = c .unopened in
     (u .ensures .0 ∙ w .says, (u .ensures .1 .0 ∙ w .leads, (ap (stateOf (a .matrix .now) (a .rights .now)) (u .ensures .1 .1) ∙ w .state, w .answers)))
 

@@ -29,6 +29,7 @@ held c =
       number = c .pre .0;
       counts = simp length-map at (c .good .1 .0 .1 .1 .1 .0 .1 .0 .1);
       rows = simp length-map at (c .good .1 .0 .1 .1 .1 .1 .0 .1 .0 .1);
+      marks = simp length-map at (c .good .1 .0 .1 .1 .1 .1 .1 .0 .1 .0 .1);
     }
 
 single : (c : tie.Start) → 1 ≤ length (take 1 (c .args .answers .now))

@@ -38,7 +38,7 @@ abbrev fit-of-accepted : tie.After-known-told2 → tie.After-known-told
 fit-of-accepted c = fit-of-judged (judged-of-accepted c)
 
 abbrev accepted-of-added : tie.After-add-record → tie.After-known-told2
-accepted-of-added c = c .before .before .before .before .before
+accepted-of-added c = c .before .before .before .before .before .before .before
 
 abbrev fit-of-added : tie.After-add-record → tie.After-known-told
 fit-of-added c = fit-of-accepted (accepted-of-added c)
@@ -100,9 +100,15 @@ judge-requires c κs =
 enum-known-y : tie.Need-enum-known-y
 enum-known-y c = search needs
 
+cast-k : tie.Need-cast-k
+cast-k c = record { fits = omega (arith, place-small (fit-of-accepted (c .before))) }
+
+slice-aggregate-add-record : tie.Need-slice-aggregate-add-record
+slice-aggregate-add-record c = search needs
+
 add-record-requires : tie.Need-add-record-requires
 add-record-requires c κs =
-    let accepted = c .before .before .before .before in let fit-here = fit-of-accepted accepted in let t = start-of-fit fit-here in let a = t .args in
+    let accepted = c .before .before .before .before .before .before in let fit-here = fit-of-accepted accepted in let t = start-of-fit fit-here in let a = t .args in
     let f = frame-of t in let s = state-of t in
     let h = t .pre .0 in
     let x = fit-here .before .x .given .0 .0 in
@@ -112,14 +118,14 @@ add-record-requires c κs =
     let l = level-few (a .settings) (a .numbers .now) (a .corrections .now) s h in (
       (h .few, h .matrix, t .pre .1),
       (
-        (weight-small f (a .bytes .now) s x fit y j l, rw (toZ-ofZ w64 (y .side) (side-fits accepted)) (side-small f (a .bytes .now) s x fit y j l)),
+        (weight-small f (a .bytes .now) s x fit y j l, rw (toZ-ofZ w64 (y .side) (side-fits accepted)) (side-small f (a .bytes .now) s x fit y j l), h .marks, place-small fit-here),
         (matrix-small (a .settings) (a .numbers .now) (a .corrections .now) s h, rights-small (a .settings) (a .numbers .now) (a .corrections .now) s h),
       ),
     )
 
 add-after : tie.Need-add-after
 add-after c =
-    let accepted = accepted-of-added (c .before .before .before .before) in let fit = fit-of-accepted accepted in let t = start-of-fit fit in let a = t .args in
+    let accepted = accepted-of-added (c .before .before .before .before .before) in let fit = fit-of-accepted accepted in let t = start-of-fit fit in let a = t .args in
     let f = frame-of t in let s = state-of t in
     let h = t .pre .0 in
     let l = level-few (a .settings) (a .numbers .now) (a .corrections .now) s h in
@@ -128,24 +134,24 @@ add-after c =
 
 add-after-2 : tie.Need-add-after-2
 add-after-2 c =
-    let accepted = accepted-of-added (c .before .before .before .before) in let fit = fit-of-accepted accepted in let t = start-of-fit fit in
+    let accepted = accepted-of-added (c .before .before .before .before .before) in let fit = fit-of-accepted accepted in let t = start-of-fit fit in
     let q = seat-free (frame-of t) (t .args .bytes .now) (state-of t) _ (fit-at fit) _ (judged-at accepted) in
     record { fits = omega (arith, q) }
 
 mul-after : tie.Need-mul-after
-mul-after c = record { fits = omega (arith, place-small (fit-of-added (c .before .before .before .before))) }
+mul-after c = record { fits = omega (arith, place-small (fit-of-added (c .before .before .before .before .before))) }
 
 element-write-after : tie.Need-element-write-after
-element-write-after c = place-small (fit-of-added (c .before .before .before .before))
+element-write-after c = place-small (fit-of-added (c .before .before .before .before .before))
 
 row-with-requires : tie.Need-row-with-requires
-row-with-requires c κs = ready-at (fit-of-added (c .before .before .before .before)) .column
+row-with-requires c κs = ready-at (fit-of-added (c .before .before .before .before .before)) .column
 
-mul-t42 : tie.Need-mul-t42
-mul-t42 c = record { fits = omega (arith, place-small (fit-of-added (c .before .before .before .before .before))) }
+mul-t47 : tie.Need-mul-t47
+mul-t47 c = record { fits = omega (arith, place-small (fit-of-added (c .before .before .before .before .before .before))) }
 
 element-set-from-after : tie.Need-element-set-from-after
-element-set-from-after c = place-small (fit-of-added (c .before .before .before .before .before))
+element-set-from-after c = place-small (fit-of-added (c .before .before .before .before .before .before))
 
 enum-known-late : tie.Need-enum-known-late
 enum-known-late c = search needs
@@ -165,7 +171,7 @@ same-length-3 c = search needs
 returns : tie.Need-returns
 unfolding tallyWith
 returns c =
-    let added = c .before .before .before .before .before in let accepted = accepted-of-added added in let fit-here = fit-of-accepted accepted in let t = start-of-fit fit-here in let a = t .args in
+    let added = c .before .before .before .before .before .before in let accepted = accepted-of-added added in let fit-here = fit-of-accepted accepted in let t = start-of-fit fit-here in let a = t .args in
     let f = frame-of t in let s = state-of t in
     let x = fit-here .before .x .given .0 .0 in
     let fit = fit-at fit-here in
@@ -173,9 +179,9 @@ returns c =
     let j = judged-at accepted in
     let n = late-taken f (a .bytes .now) s x fit y j in
     let add = added .add-record .ensures in
-    let sides = add .1 ∙ ap (λ z. plus (a .rights .now) (times z (partialsIn (length (a .rights .now)) (a .bytes .now)))) (toZ-ofZ w64 (y .side) (side-fits accepted)) in (
+    let sides = add .1 .0 ∙ ap (λ z. plus (a .rights .now) (times z (partialsIn (length (a .rights .now)) (a .bytes .now)))) (toZ-ofZ w64 (y .side) (side-fits accepted)) in (
       answered-given _ tt n,
-      (λ i. stateOf (add .0 i) (sides i) (record { square = a .t4 .square + y .square; counts = set (a .t4 .counts) (x .place) (getD (a .t4 .counts) (x .place) 0 + 1); rows = set (a .t4 .rows) (x .place) (c .row-with .ensures i) }))
+      (λ i. stateOf (add .0 i) (sides i) (record { square = a .t4 .square + y .square; counts = set (a .t4 .counts) (x .place) (getD (a .t4 .counts) (x .place) 0 + 1); rows = set (a .t4 .rows) (x .place) (c .row-with .ensures i); marks = add .1 .1 i }))
           ∙ sym (step-books f (a .bytes .now) s n ∙ booked f (a .bytes .now) s x fit y j),
     )
 
@@ -208,13 +214,15 @@ take-record-spec =
     last-of-requires
     judge-requires
     enum-known-y
+    cast-k
+    slice-aggregate-add-record
     add-record-requires
     add-after
     add-after-2
     mul-after
     element-write-after
     row-with-requires
-    mul-t42
+    mul-t47
     element-set-from-after
     enum-known-late
     enum-known-e

@@ -1,21 +1,23 @@
--- `take_state::seen` meets its contract: the state is judged, then the parameter's number, then its diagonal sum.
+-- `take_state::seen` meets its contract: the state and the parameter's number are judged, then its diagonal sum is looked at.
 -- Assumes nothing.
 use mathlib.Core.Path.{_≡_, sym, ap, _∙_}
 use native.Mathlib.Omega.{arith}
+use Rattle.num_whole.specs.Answer.{given}
 use Rattle.num_packed.proofs.Places.{tri-next, tri-within}
 use Rattle.refusal.specs.Told.{toldVerdict}
-use Rattle.take_state.specs.State.{stateOf, stateNumber}
-use Rattle.take_state.proofs.Rooms.{by-given, by-refused, state-roomed, sight-judged, sight-none, sight-some}
+use Rattle.refusal.proofs.Firsts.{answered-given, answered-by}
+use Rattle.take_state.specs.State.{stateOf, parameterNumber, seenIn, sightOf}
+use Rattle.take_state.proofs.Rooms.{by-given, by-refused, state-roomed, parameter-is}
 use borrow.Author.Needs.{needs}
 use Rattle.take_state.proofs.seen.Statement.{statement}
 use Rattle.take_state.proofs.seen.Tie as tie
 
--- the state is accepted
-sound : (c : tie.After-enum-told) → let s = c .before .before .before .args in stateNumber (s .h) (stateOf (s .matrix .now) (s .rights .now) (s .t)) ≡ 0
-sound c = by-given _ (sym (ap toldVerdict (c .enum-told .given .1)) ∙ c .before .before .judge-state .ensures)
+-- the state is accepted, and the parameter is one of the heading's
+found : (c : tie.After-enum-told) → let s = c .before .before .before .args in parameterNumber (s .h) (stateOf (s .matrix .now) (s .rights .now) (s .t)) (s .i) ≡ 0
+found c = by-given _ (sym (ap toldVerdict (c .enum-told .given .1)) ∙ c .before .before .judge-parameter .ensures)
 
-judge-state-requires : tie.Need-judge-state-requires
-judge-state-requires c κs = search needs
+judge-parameter-requires : tie.Need-judge-parameter-requires
+judge-parameter-requires c κs = search needs
 
 enum-known-refusal : tie.Need-enum-known-refusal
 enum-known-refusal c = search needs
@@ -25,33 +27,32 @@ enum-told c = search needs
 
 is-seen-requires : tie.Need-is-seen-requires
 is-seen-requires c κs =
-    let w = state-roomed _ _ (sound (c .before .before)) in
-    let i = c .before .before .before .before .before .args .i in
-    (omega (arith, w .sound .few), omega (arith, w .matrix, tri-next i, tri-within i _ (c .if1 .taken)))
+    let f = parameter-is _ _ _ (found c) in
+    let w = state-roomed _ _ (f .0) in
+    let i = c .before .before .before .args .i in
+    (omega (arith, f .1, w .sound .few), omega (arith, w .matrix, tri-next i, tri-within i _ (f .1)))
+
+sight-of-requires : tie.Need-sight-of-requires
+sight-of-requires c κs = search needs
 
 returns : tie.Need-returns
+unfolding sightOf
 returns c =
-    sight-judged _ _ _ (c .before .refusal .given .0 .0)
-    (by-refused _ _ (sym (ap toldVerdict (c .before .refusal .given .1)) ∙ c .before .before .before .judge-state .ensures))
+    answered-by _ _ (c .before .refusal .given .0 .0)
+    (by-refused _ _ (sym (ap toldVerdict (c .before .refusal .given .1)) ∙ c .before .before .before .judge-parameter .ensures))
 
 returns-2 : tie.Need-returns-2
-returns-2 c = sight-some _ _ _ (sound (c .before .before .before .before)) (c .before .before .if1 .taken) _ (sym (c .if2 .taken) ∙ c .before .is-seen .ensures)
-
-returns-3 : tie.Need-returns-3
-returns-3 c = sight-some _ _ _ (sound (c .before .before .before .before)) (c .before .before .if1 .taken) _ (sym (c .if2 .left) ∙ c .before .is-seen .ensures)
-
-returns-4 : tie.Need-returns-4
-returns-4 c = sight-none _ _ _ (sound (c .before .before)) (omega arith)
+unfolding sightOf seenIn
+returns-2 c = c .sight-of .ensures ∙ ap given (c .before .is-seen .ensures) ∙ answered-given _ _ (found (c .before .before))
 
 pub seen-spec : {M : Type 1} → statement M
 seen-spec =
     tie.close
     (tie.spec
-    judge-state-requires
+    judge-parameter-requires
     enum-known-refusal
     enum-told
     is-seen-requires
+    sight-of-requires
     returns
-    returns-2
-    returns-3
-    returns-4)
+    returns-2)

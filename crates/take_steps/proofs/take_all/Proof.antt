@@ -17,9 +17,10 @@ use Rattle.arc_record.specs.Record.{partialsIn}
 use Rattle.take_tally.specs.Tally.{noRow, tallyWith}
 use Rattle.take_fit.specs.Fit.{fitted, toldFit}
 use Rattle.take_judge.specs.Judged.{judgedLate, toldJudgement}
+use Rattle.take_marks.specs.Marks.{marksWith}
 use Rattle.take_laws.specs.Taking.{Frame, frame, recordStep, recordAnswer}
 use Rattle.take_laws.proofs.Kept.{step-books, step-leaves}
-use Rattle.take_steps.specs.Runs.{runBy, answersBy}
+use Rattle.take_steps.specs.Runs.{markedBy, runBy, answersBy}
 use Rattle.take_steps.proofs.Steps.{Ready, ready, fit-refused, late-refused, late-taken, booked, weight-small, side-small, square-small, seat-free, level-few, matrix-small, rights-small, square-room}
 use Rattle.take_steps.proofs.Runs.{part-size, turn-start, turn-next, going-end, part-inside}
 use Prim.Native.Nat.{_-_}
@@ -30,14 +31,14 @@ use Rattle.take_steps.proofs.take_all.Statement.{statement}
 use Rattle.take_steps.proofs.take_all.Tie as tie
 
 abbrev Inv-loop : tie.InvT-loop
-Inv-loop settings numbers corrections matrix₀ rights₀ room₀ run out₀ p size n u₀ i₀ at₀ matrix rights room out u i at = Turn settings numbers corrections p size n run (stateOf matrix₀ rights₀ u₀) out₀ i at (stateOf matrix rights u) room out
+Inv-loop settings numbers corrections matrix₀ rights₀ room₀ run out₀ p size n u₀ marks₀ i₀ at₀ matrix rights room out u marks i at = Turn settings numbers corrections p size n run (stateOf matrix₀ rights₀ u₀) out₀ i at (stateOf matrix rights (markedBy u marks)) room out
 
 abbrev μ-loop : tie.MeasureT-loop
-μ-loop settings numbers corrections matrix₀ rights₀ room₀ run out₀ p size n u₀ i₀ at₀ matrix rights room out u i at = n - i
+μ-loop settings numbers corrections matrix₀ rights₀ room₀ run out₀ p size n u₀ marks₀ i₀ at₀ matrix rights room out u marks i at = n - i
 
 -- Views: from one place of the code to an earlier one. A statement put between two of them changes one line here.
 abbrev start-of-inside : tie.In-loop Inv-loop μ-loop → tie.Start Inv-loop μ-loop
-start-of-inside c = c .before .before .before .before .before
+start-of-inside c = c .before .before .before .before .before .before
 
 abbrev inside-of-fit : tie.After-known-told Inv-loop μ-loop → tie.In-loop Inv-loop μ-loop
 inside-of-fit c = c .before .before .before .before .before
@@ -64,13 +65,13 @@ abbrev inside-of-refused : tie.After-code Inv-loop μ-loop → tie.In-loop Inv-l
 inside-of-refused c = inside-of-fit (fit-of-judged (judged-of-refused c))
 
 abbrev accepted-of-added : tie.After-add-record Inv-loop μ-loop → tie.After-known-told2 Inv-loop μ-loop
-accepted-of-added c = c .before .before .before .before .before
+accepted-of-added c = c .before .before .before .before .before .before
 
 abbrev fit-of-added : tie.After-add-record Inv-loop μ-loop → tie.After-known-told Inv-loop μ-loop
 fit-of-added c = fit-of-accepted (accepted-of-added c)
 
 abbrev added-of-row-with : tie.After-row-with Inv-loop μ-loop → tie.After-add-record Inv-loop μ-loop
-added-of-row-with c = c .before .before .before .before .before
+added-of-row-with c = c .before .before .before .before .before .before
 
 abbrev fit-of-row-with : tie.After-row-with Inv-loop μ-loop → tie.After-known-told Inv-loop μ-loop
 fit-of-row-with c = fit-of-added (added-of-row-with c)
@@ -86,7 +87,7 @@ abbrev bytes-of : tie.In-loop Inv-loop μ-loop → List ℕ
 bytes-of c = let a = start-of-inside c .args in take (32 + 2 * length (a .rights .now)) (drop (c .before .loop .at) (a .run .now))
 
 abbrev state-of : tie.In-loop Inv-loop μ-loop → State
-state-of c = let l = c .before .loop in stateOf (l .matrix) (l .rights) (l .u)
+state-of c = let l = c .before .loop in stateOf (l .matrix) (l .rights) (markedBy (l .u) (l .marks))
 
 -- one record more can be counted, its answer has a place, and the next turn stands on what it left
 out-room : (c : tie.In-loop Inv-loop μ-loop) → c .before .loop .i < length (c .before .loop .out)
@@ -138,7 +139,7 @@ div-n : tie.Need-div-n Inv-loop μ-loop
 div-n c = search needs
 
 loop-holds : tie.Need-loop-holds Inv-loop μ-loop
-loop-holds c = let a = c .before .before .before .args in turn-start _ _ _ _ _ _ _ _ (a .room .now) (c .before .before .before .pre .0 .0) (c .before .before .before .pre .0 .1)
+loop-holds c = let s = c .before .before .before .before in turn-start _ _ _ _ _ _ _ _ (s .args .room .now) (s .pre .0 .0) (s .pre .0 .1)
 
 add-e : tie.Need-add-e Inv-loop μ-loop
 add-e c =
@@ -185,9 +186,15 @@ judge-requires c κs =
 enum-known-y : tie.Need-enum-known-y Inv-loop μ-loop
 enum-known-y c = search needs
 
+cast-k : tie.Need-cast-k Inv-loop μ-loop
+cast-k c = record { fits = omega (arith, place-small (fit-of-accepted c)) }
+
+slice-aggregate-add-record : tie.Need-slice-aggregate-add-record Inv-loop μ-loop
+slice-aggregate-add-record c = search needs
+
 add-record-requires : tie.Need-add-record-requires Inv-loop μ-loop
 add-record-requires c κs =
-    let accepted = c .before .before .before .before in let fit-here = fit-of-accepted accepted in let inside = inside-of-fit fit-here in let a = start-of-inside inside .args in let l = inside .before .loop in
+    let accepted = c .before .before .before .before .before in let fit-here = fit-of-accepted accepted in let inside = inside-of-fit fit-here in let a = start-of-inside inside .args in let l = inside .before .loop in
     let f = frame-of inside in let b = bytes-of inside in let s = state-of inside in
     let h = l .inv .prepared in
     let x = fit-here .before .x .given .0 .0 in
@@ -197,14 +204,14 @@ add-record-requires c κs =
     let v = level-few (a .settings) (a .numbers .now) (a .corrections .now) s h in (
       (h .few, h .matrix, l .inv .room-long ∙ sym (l .inv .rights-long)),
       (
-        (weight-small f b s x fit y j v, rw (toZ-ofZ w64 (y .side) (side-fits accepted)) (side-small f b s x fit y j v)),
+        (weight-small f b s x fit y j v, rw (toZ-ofZ w64 (y .side) (side-fits accepted)) (side-small f b s x fit y j v), h .marks, place-small fit-here),
         (matrix-small (a .settings) (a .numbers .now) (a .corrections .now) s h, rights-small (a .settings) (a .numbers .now) (a .corrections .now) s h),
       ),
     )
 
 add-u : tie.Need-add-u Inv-loop μ-loop
 add-u c =
-    let accepted = accepted-of-added (c .before .before .before .before) in let fit = fit-of-accepted accepted in let inside = inside-of-fit fit in let a = start-of-inside inside .args in let l = inside .before .loop in
+    let accepted = accepted-of-added (c .before .before .before .before .before) in let fit = fit-of-accepted accepted in let inside = inside-of-fit fit in let a = start-of-inside inside .args in let l = inside .before .loop in
     let f = frame-of inside in let b = bytes-of inside in let s = state-of inside in
     let h = l .inv .prepared in
     let v = level-few (a .settings) (a .numbers .now) (a .corrections .now) s h in
@@ -213,22 +220,22 @@ add-u c =
 
 add-u-2 : tie.Need-add-u-2 Inv-loop μ-loop
 add-u-2 c =
-    let accepted = accepted-of-added (c .before .before .before .before) in let fit = fit-of-accepted accepted in let inside = inside-of-fit fit in
+    let accepted = accepted-of-added (c .before .before .before .before .before) in let fit = fit-of-accepted accepted in let inside = inside-of-fit fit in
     let f = frame-of inside in let b = bytes-of inside in let s = state-of inside in
     let q = seat-free f b s _ (fit-at fit) _ (judged-at accepted) in
     record { fits = omega (arith, q) }
 
 mul-u : tie.Need-mul-u Inv-loop μ-loop
-mul-u c = record { fits = omega (arith, place-small (fit-of-added (c .before .before .before .before))) }
+mul-u c = record { fits = omega (arith, place-small (fit-of-added (c .before .before .before .before .before))) }
 
 element-write-u : tie.Need-element-write-u Inv-loop μ-loop
-element-write-u c = place-small (fit-of-added (c .before .before .before .before))
+element-write-u c = place-small (fit-of-added (c .before .before .before .before .before))
 
 row-with-requires : tie.Need-row-with-requires Inv-loop μ-loop
-row-with-requires c κs = ready-at (fit-of-added (c .before .before .before .before)) .column
+row-with-requires c κs = ready-at (fit-of-added (c .before .before .before .before .before)) .column
 
-mul-t50 : tie.Need-mul-t50 Inv-loop μ-loop
-mul-t50 c = record { fits = omega (arith, place-small (fit-of-row-with c)) }
+mul-t54 : tie.Need-mul-t54 Inv-loop μ-loop
+mul-t54 c = record { fits = omega (arith, place-small (fit-of-row-with c)) }
 
 element-set-from-u : tie.Need-element-set-from-u Inv-loop μ-loop
 element-set-from-u c = place-small (fit-of-row-with c)
@@ -257,10 +264,11 @@ loop-again c =
     let wide = l .inv .rights-long in
     let whole : take (l .at + size - l .at) (drop (l .at) (a .run .now)) ≡ b = ap (λ k. take k (drop (l .at) (a .run .now))) (sym (part-size (l .at) size)) in
     let sums = add .0 ∙ ap₂ (λ k r. plus (l .matrix) (triangleTerms (pos (y .weight)) (partialsIn k r))) wide whole in
-    let sides = add .1 ∙ ap (λ z. plus (l .rights) (times z (partialsIn (length (l .rights)) (take (l .at + size - l .at) (drop (l .at) (a .run .now)))))) (toZ-ofZ w64 (y .side) (side-fits accepted))
+    let sides = add .1 .0 ∙ ap (λ z. plus (l .rights) (times z (partialsIn (length (l .rights)) (take (l .at + size - l .at) (drop (l .at) (a .run .now)))))) (toZ-ofZ w64 (y .side) (side-fits accepted))
     ∙ ap₂ (λ k r. plus (l .rights) (times (y .side) (partialsIn k r))) wide whole in
-    let after : stateOf (added .add-record .last .0) (added .add-record .last .1 .0) (record { square = l .u .square + y .square; counts = set (l .u .counts) (x .place) (getD (l .u .counts) (x .place) 0 + 1); rows = set (l .u .rows) (x .place) (c .row-with .result) }) ≡ recordStep f b s =
-    (λ i. stateOf (sums i) (sides i) (record { square = l .u .square + y .square; counts = set (l .u .counts) (x .place) (getD (l .u .counts) (x .place) 0 + 1); rows = set (l .u .rows) (x .place) (c .row-with .ensures i) }))
+    let marks = add .1 .1 ∙ ap₂ (λ k r. marksWith (x .place) (partialsIn k r) (l .marks)) wide whole in
+    let after : stateOf (added .add-record .last .0) (added .add-record .last .1 .0) (record { square = l .u .square + y .square; counts = set (l .u .counts) (x .place) (getD (l .u .counts) (x .place) 0 + 1); rows = set (l .u .rows) (x .place) (c .row-with .result); marks = added .add-record .last .1 .1 .1 .1 .1 .1 .0 }) ≡ recordStep f b s =
+    (λ i. stateOf (sums i) (sides i) (record { square = l .u .square + y .square; counts = set (l .u .counts) (x .place) (getD (l .u .counts) (x .place) 0 + 1); rows = set (l .u .rows) (x .place) (c .row-with .ensures i); marks = marks i }))
     ∙ sym (step-books f b s n ∙ booked f b s x fit y j) in
     next inside _ 0 (added .add-record .last .1 .1 .0)
     (added .add-record .kept .1 .1 .0 ∙ l .inv .room-long) after (sym n)
@@ -318,13 +326,13 @@ loop-again-3 c =
     (c .code2 .ensures ∙ sym n)
 
 same-length : tie.Need-same-length Inv-loop μ-loop
-same-length c = c .before .loop .inv .matrix-long ∙ sym (c .before .before .before .before .before .pre .0 .0 .matrix)
+same-length c = c .before .loop .inv .matrix-long ∙ sym (c .before .before .before .before .before .before .pre .0 .0 .matrix)
 
 same-length-2 : tie.Need-same-length-2 Inv-loop μ-loop
 same-length-2 c = c .before .loop .inv .rights-long
 
 same-length-3 : tie.Need-same-length-3 Inv-loop μ-loop
-same-length-3 c = c .before .loop .inv .room-long ∙ sym (c .before .before .before .before .before .pre .0 .1)
+same-length-3 c = c .before .loop .inv .room-long ∙ sym (c .before .before .before .before .before .before .pre .0 .1)
 
 same-length-4 : tie.Need-same-length-4 Inv-loop μ-loop
 same-length-4 c = c .before .loop .inv .out-long
@@ -332,9 +340,9 @@ same-length-4 c = c .before .loop .inv .out-long
 returns : tie.Need-returns Inv-loop μ-loop
 unfolding runBy answersBy
 returns c =
-    let a = c .before .before .before .before .before .args in
+    let a = c .before .before .before .before .before .before .args in
     let l = c .before .loop in
-    going-end (frame (a .settings) (length (a .rights .now)) (a .numbers .now) (a .corrections .now)) _ _ (a .run .now) (stateOf (a .matrix .now) (a .rights .now) (a .t)) (a .out .now) (l .i) (l .at) (stateOf (l .matrix) (l .rights) (l .u)) (l .out) (l .inv .going) (omega arith)
+    going-end (frame (a .settings) (length (a .rights .now)) (a .numbers .now) (a .corrections .now)) _ _ (a .run .now) (stateOf (a .matrix .now) (a .rights .now) (a .t)) (a .out .now) (l .i) (l .at) (stateOf (l .matrix) (l .rights) (markedBy (l .u) (l .marks))) (l .out) (l .inv .going) (omega arith)
 
 pub take-all-spec : {M : Type 1} → statement M
 take-all-spec =
@@ -359,13 +367,15 @@ take-all-spec =
     last-of-requires
     judge-requires
     enum-known-y
+    cast-k
+    slice-aggregate-add-record
     add-record-requires
     add-u
     add-u-2
     mul-u
     element-write-u
     row-with-requires
-    mul-t50
+    mul-t54
     element-set-from-u
     slice-write-out
     add-i

@@ -13,7 +13,7 @@ no-rows-requires : tie.Need-no-rows-requires
 no-rows-requires c κs = search needs
 
 abbrev withRows : List Row → Tally
-withRows w = record { square = 0; counts = replicate 16 0; rows = w }
+withRows w = record { square = 0; counts = replicate 16 0; rows = w; marks = replicate 50 0 }
 
 returns : tie.Need-returns
 returns c = ap withRows (c .no-rows .ensures)

@@ -1,4 +1,4 @@
--- `take_state::is_seen` meets its contract.
+-- `take_tally::is_seen` meets its contract.
 -- Assumes nothing.
 use mathlib.Core.Path.{ap, _∙_}
 use mathlib.Core.Bool.{not}
@@ -8,23 +8,20 @@ use lib.ListN.{getD}
 use Rattle.num_packed.specs.Sound.{isZero}
 use Rattle.num_packed.proofs.Places.{tri-next}
 use Rattle.num_packed.proofs.Tests.{zero-bits}
-use Rattle.take_state.specs.State.{seenIn}
-use Rattle.take_state.proofs.Rooms.{place-small}
 use borrow.Author.Needs.{needs}
-use Rattle.take_state.proofs.is_seen.Statement.{statement}
-use Rattle.take_state.proofs.is_seen.Tie as tie
+use Rattle.take_tally.proofs.is_seen.Statement.{statement}
+use Rattle.take_tally.proofs.is_seen.Tie as tie
 
 place-requires : tie.Need-place-requires
 place-requires c κs = search needs
 
 mul-result : tie.Need-mul-result
-mul-result c = record { fits = omega (arith, c .place .ensures, place-small (c .before .args .i) (c .before .pre .0)) }
+mul-result c = omega (arith, tri-next (c .before .args .i))
 
 shared-slice-copy-out-result : tie.Need-shared-slice-copy-out-result
 shared-slice-copy-out-result c = omega (arith, c .place .ensures, tri-next (c .before .args .i))
 
 returns : tie.Need-returns
-unfolding seenIn
 returns c =
     let m = c .before .before .args .matrix .now in
     ap not (zero-bits (getD m (c .before .place .result) (pos 0)) (search needs) ∙ ap (λ k. isZero (getD m k (pos 0))) (c .before .place .ensures))

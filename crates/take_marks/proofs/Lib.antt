@@ -1,0 +1,5 @@
+pub mod Digits
+pub mod Marks
+pub mod Lists
+pub mod Stations
+pub mod Partials
