@@ -16,7 +16,8 @@ use Rattle.norm_read.specs.declared.NormalRead.{NormalRead}
 use Rattle.merge_join.specs.Join.{union, share}
 use Rattle.merge_join.proofs.Shared.{share-counted}
 use Rattle.merge_read.specs.Read.{agreeAt}
-use Rattle.merge_laws.specs.Merge.{keysOf, mergedOf, agree, mergeNumber}
+use Rattle.norm_labels.specs.Labels.{keysOf}
+use Rattle.merge_laws.specs.Merge.{mergedOf, agree, mergeNumber}
 use Rattle.merge_laws.proofs.Numbers.{gives-21, gives-22, gives-23, gives-24, gives-none}
 use Rattle.merge_put.specs.Parts.{systemInFile, Joined, ArcsFit}
 use Rattle.merge_put.proofs.Known.{Known}
@@ -24,7 +25,7 @@ use Rattle.merge_put.proofs.Sums.{labels-agree}
 use Rattle.merge_put.proofs.Steps.{bytes-long}
 use Rattle.merge.specs.Files.{Merging, wrote, refusing, mergedBytes, pairAnswer, pairLeft}
 use Rattle.merge.proofs.Outcomes.{pair-refused, pair-short, pair-written}
-use Rattle.merge_laws.proofs.Values.{arcs-in-order}
+use Rattle.norm_labels.proofs.Values.{arcs-in-order}
 
 module _ (a : List ℕ) (x : NormalRead) (ka : Known a x) (b : List ℕ) (y : NormalRead) (kb : Known b y) where
   -- what is answered, and the room as it is left

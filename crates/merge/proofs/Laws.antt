@@ -25,7 +25,8 @@ use Rattle.norm_kinds.specs.Bytes.{normalBytes}
 use Rattle.norm_read.specs.Normal.{readNormal}
 use Rattle.norm_read.proofs.Accepted.{accepted-estimates}
 use Rattle.norm_read.proofs.Back.{longest, placed, normal-longest, written-read}
-use Rattle.merge_laws.specs.Merge.{keysOf, labelByKey, value, side, mergedOf, mergeNumber}
+use Rattle.norm_labels.specs.Labels.{keysOf, labelByKey, value, side}
+use Rattle.merge_laws.specs.Merge.{mergedOf, mergeNumber}
 use Rattle.merge_laws.proofs.Merged.{in-merged-first, in-merged-second}
 use Rattle.merge_laws.proofs.Laws.{merge-value, merge-side, merge-totals, merge-labels, merge-arcs, priors-first, priors-second, merge-either, refuse-either, merge-sound, merge-groups, accept-groups, accept-back}
 use Rattle.merge_laws.proofs.Files.{merged-each}

@@ -8,12 +8,14 @@ use native.Mathlib.Omega.{arith}
 use lib.ListN.{length, getD}
 use Rattle.num_whole.proofs.Cases.{apart, by-cases}
 use Rattle.norm_system.specs.System.{has}
-use Rattle.merge_join.specs.Join.{union, seat, SeatedAt}
-use Rattle.merge_join.proofs.Union.{map-own, has-union, either-none}
-use Rattle.merge_join.proofs.Seats.{seated, unseated, has-at}
+use Rattle.merge_join.specs.Join.{union, SeatedAt}
+use Rattle.norm_labels.specs.Seats.{seat}
+use Rattle.norm_labels.proofs.Ascending.{map-own}
+use Rattle.merge_join.proofs.Union.{has-union, either-none}
+use Rattle.norm_labels.proofs.Seats.{seated, unseated, has-at}
 use Rattle.merge_join.proofs.Places.{in-second}
-use Rattle.merge_sums.specs.Table.{rowsOf}
-use Rattle.merge_sums.proofs.Tables.{rows-alike, rows-map}
+use Rattle.norm_labels.specs.Table.{rowsOf}
+use Rattle.norm_labels.proofs.Tables.{rows-alike, rows-map}
 use Rattle.merge_heads.specs.Heads.{numberOfTwo, numberAt, Somewhere}
 use Rattle.merge_heads.proofs.Chosen.{number-first, number-second}
 

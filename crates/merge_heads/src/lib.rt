@@ -6,7 +6,7 @@ ghost use lib.ListN.{length};
 ghost use Rattle.byte_words.specs.Words.{lay};
 ghost use Rattle.byte_section.specs.Section.{encoded};
 ghost use Rattle.norm_kinds.specs.Kinds.{arcNumberBytes, normalLabelBytes};
-ghost use Rattle.merge_sums.specs.Table.{rowsOf};
+ghost use Rattle.norm_labels.specs.Table.{rowsOf};
 ghost use Rattle.merge_heads.specs.Heads.{numberOfTwo, numberAt, labelOfTwo, labelOfUnion, Somewhere, Short};
 
 fn number_in(xs: &[u64], ys: &[u64], p: usize, q: usize) -> u64

@@ -12,11 +12,13 @@ use lib.Seq.{drop-cons}
 use Rattle.num_whole.specs.Tests.{pick}
 use Rattle.num_whole.proofs.Cases.{is-less, not-less}
 use Rattle.byte_words.specs.Words.{lay}
-use Rattle.merge_join.specs.Join.{ascending, union, seat, seats, Joins}
+use Rattle.norm_labels.specs.Seats.{ascending, seat, seats}
+use Rattle.merge_join.specs.Join.{union, Joins}
 use Rattle.merge_join.specs.Walk.{ahead, Stepped}
 use Rattle.merge_join.specs.declared.Turn.{Turn}
-use Rattle.merge_join.proofs.Union.{Asc, asc-from, asc-down, union-asc, union-comm}
-use Rattle.merge_join.proofs.Seats.{seat-first, seat-later, seat-below}
+use Rattle.norm_labels.proofs.Ascending.{Asc, asc-from, asc-down}
+use Rattle.merge_join.proofs.Union.{union-asc, union-comm}
+use Rattle.norm_labels.proofs.Seats.{seat-first, seat-later, seat-below}
 
 asc-drop : (floor i : ℕ) (l : List ℕ) → Asc floor l → Asc floor (drop i l)
 asc-drop floor zero l p = p

@@ -1,5 +1,4 @@
 pub mod Union
-pub mod Seats
 pub mod Shared
 pub mod Joining
 pub mod Places

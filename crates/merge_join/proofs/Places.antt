@@ -11,9 +11,10 @@ use Rattle.num_whole.proofs.Cases.{apart, by-cases}
 use Rattle.byte_words.specs.Words.{lay}
 use Rattle.byte_words.proofs.Words.{lay-front}
 use Rattle.norm_system.specs.System.{has}
-use Rattle.merge_join.specs.Join.{union, seat, seats, SeatedAt, Joins}
+use Rattle.merge_join.specs.Join.{union, SeatedAt, Joins}
+use Rattle.norm_labels.specs.Seats.{seat, seats}
 use Rattle.merge_join.proofs.Union.{either-none, has-union}
-use Rattle.merge_join.proofs.Seats.{seated}
+use Rattle.norm_labels.proofs.Seats.{seated}
 use Rattle.merge_join.proofs.Shared.{union-long}
 
 pub length-seats : (l u : List ℕ) → length (seats l u) ≡ length u

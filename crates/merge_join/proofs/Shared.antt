@@ -10,8 +10,10 @@ use lib.ListN.{length}
 use Rattle.num_whole.specs.Tests.{less, either}
 use Rattle.num_whole.proofs.Cases.{is-less, not-less, less-true, less-false, not-same, by-cases}
 use Rattle.norm_system.specs.System.{has}
-use Rattle.merge_join.specs.Join.{ascending, union, share}
-use Rattle.merge_join.proofs.Union.{Asc, asc-from, asc-down, by-order, has-below, has-head, some-union, union-comm}
+use Rattle.norm_labels.specs.Seats.{ascending}
+use Rattle.merge_join.specs.Join.{union, share}
+use Rattle.norm_labels.proofs.Ascending.{Asc, asc-from, asc-down, has-below, has-head}
+use Rattle.merge_join.proofs.Union.{by-order, some-union, union-comm}
 
 pub union-long : (xs ys : List ℕ) → length (union xs ys) ≤ length xs + length ys
 unfolding union

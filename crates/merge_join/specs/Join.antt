@@ -1,18 +1,14 @@
 -- Document 01, 'Normal file': "Merging .. unites labels and arcs". Two ascending lists of numbers (arcs, or the keys of labels) united in
 -- order, and where each number of the union stands in the one and in the other.
 use mathlib.Core.Path.{_≡_}
-use mathlib.Core.List.{List, [], _∷_, map}
+use mathlib.Core.List.{List, [], _∷_}
 use mathlib.Core.Bool.{Bool, false}
-use Prim.Native.Nat.{ℕ, suc, _<_}
+use Prim.Native.Nat.{ℕ, _<_}
 use lib.ListN.{length, getD}
-use Rattle.num_whole.specs.Tests.{less, same, pick, either}
-use Rattle.num_whole.specs.Lists.{ascend}
+use Rattle.num_whole.specs.Tests.{less, pick, either}
 use Rattle.byte_words.specs.Words.{lay}
 use Rattle.norm_system.specs.System.{has}
-
--- numbers that strictly ascend
-unfoldable pub ascending : List ℕ → Bool
-ascending l = ascend (λ k. k) 0 l
+use Rattle.norm_labels.specs.Seats.{seat, seats}
 
 -- the numbers of both, each once, in order
 unfoldable pub union : List ℕ → List ℕ → List ℕ
@@ -22,15 +18,6 @@ union (x ∷ xs) (y ∷ ys) =
     pick (less x y) (x ∷ union xs (y ∷ ys))
     (pick (less y x) (y ∷ union (x ∷ xs) ys)
     (x ∷ union xs ys))
-
--- where a number stands in a list; the list's length where it stands nowhere
-unfoldable pub seat : List ℕ → ℕ → ℕ
-seat [] k = 0
-seat (x ∷ l) k = pick (same x k) 0 (suc (seat l k))
-
--- where each number of u stands in l
-unfoldable pub seats : List ℕ → List ℕ → List ℕ
-seats l u = map (seat l) u
 
 -- whether the two have a number in common
 unfoldable pub share : List ℕ → List ℕ → Bool

@@ -4,7 +4,8 @@ use mathlib.Core.Path.{_≡_}
 use mathlib.Core.List.{List, _∷_, map}
 use Prim.Native.Nat.{ℕ, suc, _+_, _≤_}
 use lib.ListN.{length, drop}
-use Rattle.merge_join.specs.Join.{union, seat}
+use Rattle.merge_join.specs.Join.{union}
+use Rattle.norm_labels.specs.Seats.{seat}
 use Rattle.merge_join.specs.declared.Turn.{Turn}
 
 -- the places in xs of the numbers still to come, where i numbers of xs and j of ys are done

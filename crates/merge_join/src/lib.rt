@@ -3,7 +3,8 @@ ghost use mathlib.Core.Path.{_≡_};
 ghost use mathlib.Core.Bool.{true};
 ghost use Prim.Native.Nat.{_+_, _≤_, _<_};
 ghost use lib.ListN.{length};
-ghost use Rattle.merge_join.specs.Join.{ascending, Joins};
+ghost use Rattle.norm_labels.specs.Seats.{ascending};
+ghost use Rattle.merge_join.specs.Join.{Joins};
 ghost use Rattle.merge_join.specs.Walk.{Stepped};
 
 // A number's place in the left and in the right list, a list's length where it lacks the number; and how many of each are then done.

@@ -16,11 +16,12 @@ use Rattle.num_packed.specs.Triangle.{tri}
 use Rattle.num_packed.specs.Sound.{entry}
 use Rattle.num_packed.proofs.Places.{tri-within}
 use Rattle.norm_system.specs.System.{System, has}
-use Rattle.merge_join.specs.Join.{seat}
-use Rattle.merge_join.proofs.Seats.{seated, seats-order}
-use Rattle.merge_laws.specs.Merge.{keysOf, value, side, addInto, table}
-use Rattle.merge_laws.proofs.Tables.{table-at}
-use Rattle.merge_laws.proofs.Values.{Formed, keys-long, map-at, within, value-there, value-no-row, value-no-column, value-below, side-none}
+use Rattle.norm_labels.specs.Seats.{seat}
+use Rattle.norm_labels.proofs.Seats.{seated, seats-order}
+use Rattle.norm_labels.specs.Labels.{keysOf, value, side, table}
+use Rattle.merge_laws.specs.Merge.{addInto}
+use Rattle.norm_labels.proofs.Tables.{table-at, table-alike}
+use Rattle.norm_labels.proofs.Values.{Formed, keys-long, map-at, within, value-there, value-no-row, value-no-column, value-below, side-none, map-alike, same-system}
 
 pub nothing : {a b : ℤ} → a ≡ pos 0 → b ≡ pos 0 → pos 0 ≡ a +ℤ b
 nothing {a} {b} p q = sym (ap₂ (λ u v. u +ℤ v) p q)
@@ -78,3 +79,14 @@ module _ (g x : System) (fg : Formed g) (fx : Formed x) (sub : (k : ℕ) → has
           getD-plus (g .rights) (map (side x) (keysOf g)) (seat (keysOf g) k) (omega arith)
           ∙ ap (λ z. getD (g .rights) (seat (keysOf g) k) (pos 0) +ℤ z)
           (map-at (side x) (pos 0) (keysOf g) (seat (keysOf g) k) (omega arith) ∙ ap (side x) (seated (keysOf g) k a .is))
+
+-- ---- adding: what is added is the system on the other's labels, so a system that has at any two labels what another has adds the same
+pub add-alike : (g x y : System) → x .accepted ≡ y .accepted → x .square ≡ y .square → ((k l : ℕ) → value x k l ≡ value y k l)
+    → ((k : ℕ) → side x k ≡ side y k) → addInto g x ≡ addInto g y
+unfolding addInto
+add-alike g x y n q v w =
+    same-system refl refl
+    (ap (plus (g .matrix)) (table-alike (value x) (value y) (keysOf g) (λ k l a b. v k l)))
+    (ap (plus (g .rights)) (map-alike (side x) (side y) (keysOf g) (λ k h. w k)))
+    (ap (λ m. g .accepted + m) n)
+    (ap (λ m. g .square + m) q)

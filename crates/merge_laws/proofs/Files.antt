@@ -16,11 +16,12 @@ use Rattle.norm_read.specs.Normal.{Normal}
 use Rattle.norm_read.proofs.Accepted.{Standing}
 use Rattle.merge_join.specs.Join.{union}
 use Rattle.merge_join.proofs.Shared.{union-full}
-use Rattle.merge_laws.specs.Merge.{keysOf, noNormalLabel, labelByKey, carried, mergedOf}
+use Rattle.norm_labels.specs.Labels.{keysOf, noNormalLabel, labelByKey}
+use Rattle.merge_laws.specs.Merge.{carried, mergedOf}
 use Rattle.merge_laws.proofs.Merged.{merged-labels}
 use Rattle.merge_laws.proofs.Numbers.{Mergeable}
 use Rattle.merge_laws.proofs.Written.{StandsIn}
-use Rattle.merge_laws.proofs.Values.{arcs-in-order}
+use Rattle.norm_labels.proofs.Values.{arcs-in-order}
 
 -- ---- what each label of both systems is, and what stands past them, each label of the merged system is
 each-get : {A : Type 0} (P : A → Type 0) (d : A) → P d → (l : List A) → Each P l → (i : ℕ) → P (getD l i d)

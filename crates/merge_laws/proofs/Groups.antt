@@ -12,12 +12,15 @@ use Rattle.num_whole.specs.Lists.{all}
 use Rattle.num_whole.proofs.Cases.{apart, holds, not-less, by-cases}
 use Rattle.norm_system.specs.System.{System, has}
 use Rattle.norm_system.proofs.Sound.{SoundSystem}
-use Rattle.merge_join.specs.Join.{ascending, union, share}
+use Rattle.norm_labels.specs.Seats.{ascending}
+use Rattle.merge_join.specs.Join.{union, share}
 use Rattle.merge_join.specs.Alike.{alike}
-use Rattle.merge_join.proofs.Union.{union-ascends, union-comm, union-assoc, has-union, has-head, either-second, either-false, either-none}
+use Rattle.merge_join.proofs.Union.{union-ascends, union-comm, union-assoc, has-union, either-false, either-none}
+use Rattle.norm_labels.proofs.Ascending.{has-head, either-second}
 use Rattle.merge_join.proofs.Shared.{union-more, share-union, share-comm}
-use Rattle.merge_laws.specs.Merge.{keysOf, labelByKey, mergedOf, agree, mergeNumber}
-use Rattle.merge_laws.proofs.Values.{keys-ascend, arcs-in-order}
+use Rattle.norm_labels.specs.Labels.{keysOf, labelByKey}
+use Rattle.merge_laws.specs.Merge.{mergedOf, agree, mergeNumber}
+use Rattle.norm_labels.proofs.Values.{keys-ascend, arcs-in-order}
 use Rattle.merge_laws.proofs.Merged.{merged-keys, merged-arcs, has-merged, in-merged-first, in-merged-second, label-first, label-second}
 use Rattle.merge_laws.proofs.Numbers.{Mergeable, gives-none, all-has, label-same}
 

@@ -10,8 +10,9 @@ use Rattle.num_whole.proofs.Cases.{by-cases}
 use Rattle.norm_system.specs.System.{System, has}
 use Rattle.norm_system.proofs.Sound.{SoundSystem}
 use Rattle.merge_join.proofs.Union.{has-union}
-use Rattle.merge_laws.specs.Merge.{keysOf, labelByKey, value, side, mergedOf, mergeNumber}
-use Rattle.merge_laws.proofs.Values.{formed, arcs-in-order}
+use Rattle.norm_labels.specs.Labels.{keysOf, labelByKey, value, side}
+use Rattle.merge_laws.specs.Merge.{mergedOf, mergeNumber}
+use Rattle.norm_labels.proofs.Values.{formed, arcs-in-order}
 use Rattle.merge_laws.proofs.Merged.{merged-arcs, merged-value, merged-side, merged-accepted, merged-square, has-merged, label-first, label-second}
 use Rattle.merge_laws.proofs.Numbers.{mergeable, number-comm, label-same}
 use Rattle.merge_laws.proofs.Orders.{merged-either, merged-group}

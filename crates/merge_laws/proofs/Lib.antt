@@ -1,10 +1,7 @@
-pub mod Tables
-pub mod Values
 pub mod Adding
 pub mod Merged
 pub mod Numbers
 pub mod Orders
-pub mod Breaks
 pub mod Soundness
 pub mod Whole
 pub mod Groups

@@ -7,25 +7,21 @@ use Prim.Native.Nat.{ℕ, _+_}
 use native.Mathlib.Nat.{zero-add}
 use lib.IntN.{ℤ, pos, _+ℤ_, +ℤ-idl}
 use lib.ListN.{length, getD, replicate, length-map, length-replicate}
-use Rattle.num_whole.specs.Tests.{same, either}
+use Rattle.num_whole.specs.Tests.{either}
 use Rattle.num_whole.specs.Sums.{plus}
 use Rattle.num_whole.proofs.Cases.{apart, yes, no, at-once, by-cases}
 use Rattle.num_packed.specs.Triangle.{tri}
 use Rattle.norm_system.specs.System.{System, has, keyOf}
-use Rattle.merge_join.specs.Join.{ascending, union, seat}
-use Rattle.merge_join.proofs.Union.{map-own, union-ascends, has-union, has-head, either-second, either-false, either-none}
-use Rattle.merge_join.proofs.Seats.{seated}
-use Rattle.merge_laws.specs.Merge.{keysOf, noNormalLabel, labelByKey, value, side, zeroSystem, carried, joined, addInto, mergedOf, table}
-use Rattle.merge_laws.proofs.Tables.{length-table, plus-table, plus-map, plus-zeros, zeros-at, sum-zeros}
-use Rattle.merge_laws.proofs.Values.{Formed, map-at, label-key}
+use Rattle.norm_labels.specs.Seats.{ascending, seat}
+use Rattle.merge_join.specs.Join.{union}
+use Rattle.norm_labels.proofs.Ascending.{map-own, either-second}
+use Rattle.merge_join.proofs.Union.{union-ascends, has-union, either-false, either-none}
+use Rattle.norm_labels.proofs.Seats.{seated}
+use Rattle.norm_labels.specs.Labels.{keysOf, noNormalLabel, labelByKey, value, side, table}
+use Rattle.merge_laws.specs.Merge.{zeroSystem, carried, joined, addInto, mergedOf}
+use Rattle.norm_labels.proofs.Tables.{length-table, plus-table, plus-map, plus-zeros, zeros-at, sum-zeros}
+use Rattle.norm_labels.proofs.Values.{Formed, map-at, label-key, map-alike}
 use Rattle.merge_laws.proofs.Adding.{keys-add, add-formed, add-value, add-side}
-
--- ---- functions that agree on the numbers of a list
-pub map-alike : {A : Type 0} (f g : ℕ → A) (u : List ℕ) → ((k : ℕ) → has k u ≡ true → f k ≡ g k) → map f u ≡ map g u
-unfolding has
-map-alike f g [] e = refl
-map-alike f g (x ∷ u) e =
-    ap₂ (λ a l. a ∷ l) (e x (has-head x u)) (map-alike f g u (λ k h. e k (either-second (same x k) h)))
 
 map-over : {A B C : Type 0} (f : B → C) (g : A → B) (l : List A) → map f (map g l) ≡ map (λ a. f (g a)) l
 map-over f g [] = refl

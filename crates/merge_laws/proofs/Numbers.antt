@@ -15,13 +15,16 @@ use Rattle.refusal.proofs.Firsts.{when-true, when-false, unless-true, unless-fa
 use Rattle.norm_system.specs.System.{System, has, normalLabelOk}
 use Rattle.norm_system.proofs.Labels.{label-small}
 use Rattle.norm_system.proofs.Sound.{SoundSystem}
-use Rattle.merge_join.specs.Join.{union, seat, share}
+use Rattle.merge_join.specs.Join.{union, share}
+use Rattle.norm_labels.specs.Seats.{seat}
 use Rattle.merge_join.specs.Alike.{alike}
 use Rattle.merge_join.proofs.Alike.{alike-comm, one-label}
-use Rattle.merge_join.proofs.Union.{union-comm, has-union, either-second}
+use Rattle.merge_join.proofs.Union.{union-comm, has-union}
+use Rattle.norm_labels.proofs.Ascending.{either-second}
 use Rattle.merge_join.proofs.Shared.{share-comm}
-use Rattle.merge_laws.specs.Merge.{keysOf, noNormalLabel, labelByKey, agree, mergeNumber}
-use Rattle.merge_laws.proofs.Values.{keys-ascend, within, label-key, arcs-in-order}
+use Rattle.norm_labels.specs.Labels.{keysOf, noNormalLabel, labelByKey}
+use Rattle.merge_laws.specs.Merge.{agree, mergeNumber}
+use Rattle.norm_labels.proofs.Values.{keys-ascend, within, label-key, arcs-in-order}
 
 -- ---- the tests in their order
 module _ (x y : System) where

@@ -11,16 +11,14 @@ use Rattle.num_whole.proofs.Cases.{apart, at-last, by-cases}
 use Rattle.num_whole.proofs.Adding.{plus-comm}
 use Rattle.norm_system.specs.System.{System, has}
 use Rattle.norm_system.proofs.Sound.{SoundSystem}
-use Rattle.merge_join.specs.Join.{ascending, union}
+use Rattle.norm_labels.specs.Seats.{ascending}
+use Rattle.merge_join.specs.Join.{union}
 use Rattle.merge_join.proofs.Union.{union-comm, union-assoc, has-union, either-none}
-use Rattle.merge_laws.specs.Merge.{keysOf, value, side, zeroSystem, carried, joined, addInto, mergedOf, agree, table}
-use Rattle.merge_laws.proofs.Values.{Formed, keys-ascend, arcs-in-order}
-use Rattle.merge_laws.proofs.Merged.{map-alike, carried-first, carried-second, merged-keys, merged-labels, merged-arcs, merged-matrix, merged-rights, merged-value, merged-side, merged-accepted, merged-square, has-merged, in-merged-first, in-merged-second, label-first, label-second}
+use Rattle.norm_labels.specs.Labels.{keysOf, value, side, table}
+use Rattle.merge_laws.specs.Merge.{zeroSystem, carried, joined, addInto, mergedOf, agree}
+use Rattle.norm_labels.proofs.Values.{Formed, keys-ascend, arcs-in-order, map-alike, same-system}
+use Rattle.merge_laws.proofs.Merged.{carried-first, carried-second, merged-keys, merged-labels, merged-arcs, merged-matrix, merged-rights, merged-value, merged-side, merged-accepted, merged-square, has-merged, in-merged-first, in-merged-second, label-first, label-second}
 use Rattle.merge_laws.proofs.Numbers.{label-same}
-
-pub same-system : {x y : System} → x .arcs ≡ y .arcs → x .labels ≡ y .labels → x .matrix ≡ y .matrix → x .rights ≡ y .rights → x .accepted ≡ y .accepted
-    → x .square ≡ y .square → x ≡ y
-same-system a l m r n q = λ i. record { arcs = a i; labels = l i; matrix = m i; rights = r i; accepted = n i; square = q i }
 
 -- ---- order
 swap : (a b c : ℕ) → a + b + c ≡ a + c + b

@@ -12,14 +12,18 @@ use Rattle.num_whole.proofs.Cases.{apart, yes, no, holds, at-once, both-first, 
 use Rattle.norm_system.specs.System.{System, has, arcOk, arcListed, normalLabelOk, keyOf}
 use Rattle.norm_system.specs.declared.NormalLabel.{NormalLabel}
 use Rattle.norm_system.proofs.Sound.{SoundSystem}
-use Rattle.merge_join.specs.Join.{ascending, union}
-use Rattle.merge_join.proofs.Union.{by-order, asc-from, asc-is, union-ascends, has-union, has-head, either-second, either-none}
+use Rattle.norm_labels.specs.Seats.{ascending}
+use Rattle.merge_join.specs.Join.{union}
+use Rattle.merge_join.proofs.Union.{by-order, union-ascends, has-union, either-none}
+use Rattle.norm_labels.proofs.Ascending.{asc-from, asc-is, has-head, either-second}
 use Rattle.merge_join.proofs.Shared.{union-more, union-full}
-use Rattle.merge_laws.specs.Merge.{keysOf, carried, mergedOf, mergeNumber}
-use Rattle.merge_laws.proofs.Values.{formed, keys-long, arcs-in-order}
+use Rattle.norm_labels.specs.Labels.{keysOf}
+use Rattle.merge_laws.specs.Merge.{carried, mergedOf, mergeNumber}
+use Rattle.norm_labels.proofs.Values.{formed, keys-long, arcs-in-order}
 use Rattle.merge_laws.proofs.Merged.{carried-first, carried-second, merged-labels, merged-arcs, merged-formed}
 use Rattle.merge_laws.proofs.Numbers.{mergeable, label-ok}
-use Rattle.merge_laws.proofs.Soundness.{judged, judged-sound, merged-judged}
+use Rattle.norm_labels.proofs.Soundness.{judged, judged-sound}
+use Rattle.merge_laws.proofs.Soundness.{merged-judged}
 
 -- ---- tests of each
 all-union : (f : ℕ → Bool) (xs ys : List ℕ) → all f xs ≡ true → all f ys ≡ true → all f (union xs ys) ≡ true

@@ -23,24 +23,26 @@ use Rattle.byte_words.specs.Stands.{stands}
 use Rattle.norm_sum.specs.Sums.{sumsAt}
 use Rattle.byte_words.proofs.Stands.{length-stands, stands-at}
 use Rattle.norm_kinds.specs.Kinds.{normalLabelAt}
-use Rattle.merge_join.specs.Join.{union, seat, SeatedAt}
+use Rattle.merge_join.specs.Join.{union, SeatedAt}
+use Rattle.norm_labels.specs.Seats.{seat}
 use Rattle.merge_join.specs.Alike.{alike}
 use Rattle.merge_join.proofs.Union.{has-union, either-none}
-use Rattle.merge_join.proofs.Seats.{seated, unseated, seat-within, has-at}
-use Rattle.merge_sums.specs.Table.{rowsOf, columnsOf, sumAt}
+use Rattle.norm_labels.proofs.Seats.{seated, unseated, seat-within, has-at}
+use Rattle.norm_labels.specs.Table.{rowsOf, columnsOf, sumAt}
 use Rattle.merge_sums.specs.Columns.{heldAt, columnAt, bothAt, crossAt, SmallSums, SmallAll}
 use Rattle.merge_sums.specs.declared.Column.{Column}
-use Rattle.merge_sums.proofs.Tables.{rows-alike, rows-map, columns-alike}
+use Rattle.norm_labels.proofs.Tables.{rows-alike, rows-map, columns-alike}
 use Rattle.merge_sums.proofs.Held.{held-there, held-past, column-sum}
 use Rattle.merge_read.specs.Read.{keyAt, keysAt, agreeIn, agreeAt}
 use Rattle.merge_heads.specs.Heads.{labelOfTwo, labelOfUnion}
 use Rattle.merge_heads.proofs.Chosen.{label-first, label-second}
-use Rattle.merge_laws.specs.Merge.{keysOf, noNormalLabel, labelByKey, value, side, carried, mergedOf, agree, table}
-use Rattle.merge_laws.proofs.Values.{keys-long, within}
+use Rattle.norm_labels.specs.Labels.{keysOf, noNormalLabel, labelByKey, value, side, table}
+use Rattle.merge_laws.specs.Merge.{carried, mergedOf, agree}
+use Rattle.norm_labels.proofs.Values.{keys-long, within}
 use Rattle.merge_laws.proofs.Numbers.{all-has}
 use Rattle.merge_laws.proofs.Groups.{all-each}
 use Rattle.merge_laws.proofs.Merged.{carried-first, carried-second, merged-labels, merged-matrix, merged-rights}
-use Rattle.merge_laws.proofs.Soundness.{judged}
+use Rattle.norm_labels.proofs.Soundness.{judged}
 
 -- ---- a file's labels and sums, where they stand
 pub record StandsIn (s : List ℕ) (labels matrix rights : ℕ) (x : System) : Type 0 where

@@ -3,44 +3,19 @@
 use mathlib.Core.List.{List, [], _∷_, map}
 use mathlib.Core.Bool.{Bool, not}
 use Prim.Native.Nat.{ℕ, _+_}
-use lib.IntN.{ℤ, pos}
-use lib.ListN.{length, getD, replicate}
+use lib.IntN.{pos}
+use lib.ListN.{length, replicate}
 use Rattle.num_limits.specs.Capacities.{arcsMost, labelsMost}
 use Rattle.num_whole.specs.Tests.{less, pick, both, either}
 use Rattle.num_whole.specs.Lists.{all}
 use Rattle.num_whole.specs.Sums.{plus}
 use Rattle.refusal.specs.First.{when, unless, first}
 use Rattle.num_packed.specs.Triangle.{tri}
-use Rattle.norm_system.specs.System.{System, has, keyOf}
+use Rattle.norm_system.specs.System.{System, has}
 use Rattle.norm_system.specs.declared.NormalLabel.{NormalLabel}
-use Rattle.merge_join.specs.Join.{union, seat, share}
+use Rattle.norm_labels.specs.Labels.{keysOf, labelByKey, value, side, table}
+use Rattle.merge_join.specs.Join.{union, share}
 use Rattle.merge_join.specs.Alike.{alike}
-use Rattle.merge_sums.specs.Table.{columnsOf, sumAt}
-
--- ---- a system by its labels
--- the keys of its labels, in their order
-unfoldable pub keysOf : System → List ℕ
-keysOf x = map keyOf (x .labels)
-
--- what stands past the last label
-abbrev pub noNormalLabel : NormalLabel
-noNormalLabel = record { kind = 0; index = 0; arc = 0; weight = 0; estimate = pos 0 }
-
--- the label of a key
-unfoldable pub labelByKey : System → ℕ → NormalLabel
-labelByKey x k = getD (x .labels) (seat (keysOf x) k) noNormalLabel
-
--- the matrix sum of two labels' keys, the row's first: 0 where the system has none (the triangle has none where the row follows the column)
-unfoldable pub value : System → ℕ → ℕ → ℤ
-value x k l = sumAt (x .matrix) (length (x .labels)) (seat (keysOf x) k) (seat (keysOf x) l)
-
--- the right side of a label's key, 0 where the system has none
-unfoldable pub side : System → ℕ → ℤ
-side x k = getD (x .rights) (seat (keysOf x) k) (pos 0)
-
--- the packed triangle of a function of two labels, for the labels of these keys
-unfoldable pub table : (ℕ → ℕ → ℤ) → List ℕ → List ℤ
-table f keys = columnsOf (λ i j. f (getD keys i 0) (getD keys j 0)) 0 (length keys)
 
 -- ---- "unites labels and arcs, and carries priors over without adding them"
 -- arcs and labels with nothing summed

@@ -16,7 +16,7 @@ use Rattle.norm_read.specs.declared.NormalRead.{NormalRead}
 use Rattle.byte_section.specs.declared.ReadAnswer.the-variants.{Read}
 use Rattle.norm_read.proofs.Accepted.{accepted-sound, accepted-standing}
 use Rattle.merge_read.specs.Read.{keysAt}
-use Rattle.merge_laws.specs.Merge.{keysOf}
+use Rattle.norm_labels.specs.Labels.{keysOf}
 use Rattle.merge_laws.proofs.Files.{stands-in}
 use Rattle.merge_laws.proofs.Written.{StandsIn, keys-stand}
 use Rattle.merge_put.specs.Parts.{normalOr, normalIn, systemInFile, AsRead}

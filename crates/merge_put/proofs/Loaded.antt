@@ -21,12 +21,13 @@ use Rattle.norm_read.specs.declared.NormalRead.{NormalRead}
 use Rattle.merge_read.specs.Read.{keysAt}
 use Rattle.merge_heads.specs.Heads.{numberAt, Somewhere, Short}
 use Rattle.merge_heads.proofs.United.{united, somewhere}
-use Rattle.merge_sums.specs.Table.{rowsOf}
-use Rattle.merge_join.specs.Join.{ascending, union, SeatedAt, Joins}
+use Rattle.norm_labels.specs.Table.{rowsOf}
+use Rattle.norm_labels.specs.Seats.{ascending}
+use Rattle.merge_join.specs.Join.{union, SeatedAt, Joins}
 use Rattle.merge_join.proofs.Places.{left-placed, right-placed}
 use Rattle.merge_join.proofs.Shared.{union-long}
-use Rattle.merge_laws.specs.Merge.{keysOf}
-use Rattle.merge_laws.proofs.Values.{keys-ascend, keys-long, arcs-in-order}
+use Rattle.norm_labels.specs.Labels.{keysOf}
+use Rattle.norm_labels.proofs.Values.{keys-ascend, keys-long, arcs-in-order}
 use Rattle.merge_put.specs.Parts.{systemInFile, Joined}
 use Rattle.merge_put.proofs.Known.{Known}
 

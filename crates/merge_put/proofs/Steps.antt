@@ -17,12 +17,12 @@ use Rattle.norm_read.specs.declared.NormalRead.{NormalRead}
 use Rattle.norm_kinds.proofs.Long.{length-normal}
 use Rattle.norm_kinds.proofs.Records.{length-arc, length-label, length-sum}
 use Rattle.merge_join.specs.Join.{union}
-use Rattle.merge_sums.specs.Table.{rowsOf, columnsOf}
+use Rattle.norm_labels.specs.Table.{rowsOf, columnsOf}
 use Rattle.merge_sums.specs.Columns.{bothAt, crossAt}
 use Rattle.merge_heads.specs.Heads.{labelOfUnion}
 use Rattle.merge_laws.specs.Merge.{mergedOf}
 use Rattle.merge_laws.proofs.Merged.{merged-arcs, merged-accepted, merged-square}
-use Rattle.merge_laws.proofs.Soundness.{judged}
+use Rattle.norm_labels.proofs.Soundness.{judged}
 use Rattle.merge_put.specs.Parts.{systemInFile, Joined, ArcsFit, headBytes, middleBytes, lastBytes}
 use Rattle.merge_put.proofs.Known.{Known}
 use Rattle.merge_put.proofs.Laid.{two-laid, file-laid, last-laid}

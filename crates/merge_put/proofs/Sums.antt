@@ -10,13 +10,14 @@ use Rattle.num_whole.specs.Lists.{all}
 use Rattle.num_packed.specs.Triangle.{tri}
 use Rattle.norm_read.specs.declared.NormalRead.{NormalRead}
 use Rattle.merge_join.specs.Join.{union}
-use Rattle.merge_sums.specs.Table.{rowsOf, columnsOf}
+use Rattle.norm_labels.specs.Table.{rowsOf, columnsOf}
 use Rattle.merge_sums.specs.Columns.{bothAt, crossAt, SmallSums, SmallAll}
 use Rattle.merge_heads.specs.Heads.{labelOfUnion, Somewhere}
 use Rattle.merge_read.specs.Read.{agreeAt}
 use Rattle.merge_heads.proofs.United.{somewhere}
-use Rattle.merge_laws.specs.Merge.{keysOf, carried, mergedOf, agree, mergeNumber}
-use Rattle.merge_laws.proofs.Values.{formed, keys-long}
+use Rattle.norm_labels.specs.Labels.{keysOf}
+use Rattle.merge_laws.specs.Merge.{carried, mergedOf, agree, mergeNumber}
+use Rattle.norm_labels.proofs.Values.{formed, keys-long}
 use Rattle.merge_laws.proofs.Merged.{merged-formed, merged-labels}
 use Rattle.merge_laws.proofs.Numbers.{mergeable}
 use Rattle.merge_laws.proofs.Files.{first-fifteen, second-fifteen}

@@ -13,7 +13,7 @@ use Rattle.norm_kinds.specs.Bytes.{sectioned}
 use Rattle.norm_read.specs.Normal.{Normal, readNormal}
 use Rattle.norm_read.specs.declared.NormalRead.{NormalRead}
 use Rattle.merge_join.specs.Join.{union, share, SeatedAt}
-use Rattle.merge_laws.specs.Merge.{keysOf}
+use Rattle.norm_labels.specs.Labels.{keysOf}
 
 -- ---- a file that is accepted
 abbrev pub noNormal : Normal

@@ -17,7 +17,7 @@ use Rattle.num_packed.specs.Sound.{entry}
 use Rattle.num_packed.proofs.Places.{tri-within}
 use Rattle.norm_sum.specs.Sums.{sumsAt}
 use Rattle.byte_words.proofs.Stands.{stands-at}
-use Rattle.merge_sums.specs.Table.{sumAt}
+use Rattle.norm_labels.specs.Table.{sumAt}
 use Rattle.merge_sums.specs.Columns.{heldAt, columnAt, bothAt, SmallSums, SmallAll}
 use Rattle.merge_sums.specs.declared.Column.{Column}
 

@@ -12,8 +12,8 @@ use Rattle.byte_words.specs.Words.{lay, signedBytes}
 use Rattle.byte_words.proofs.Words.{length-bytesOf, lay-append}
 use Rattle.byte_section.specs.Section.{encoded}
 use Rattle.byte_section.proofs.Trips.{length-encoded}
-use Rattle.merge_sums.specs.Table.{rowsOf, columnsOf}
-use Rattle.merge_sums.proofs.Tables.{length-rows}
+use Rattle.norm_labels.specs.Table.{rowsOf, columnsOf}
+use Rattle.norm_labels.proofs.Tables.{length-rows}
 
 abbrev pub bytesIn : List ℤ → List ℕ
 bytesIn l = encoded (signedBytes w64) l

@@ -8,7 +8,7 @@ ghost use Rattle.num_limits.specs.Capacities.{labelsMost};
 ghost use Rattle.byte_words.specs.Words.{lay, signedBytes};
 ghost use Rattle.byte_section.specs.Section.{encoded};
 ghost use Rattle.num_packed.specs.Triangle.{tri};
-ghost use Rattle.merge_sums.specs.Table.{rowsOf, columnsOf};
+ghost use Rattle.norm_labels.specs.Table.{rowsOf, columnsOf};
 ghost use Rattle.merge_sums.specs.Columns.{heldAt, columnAt, bothAt, crossAt, SmallSums, SmallAll};
 
 // Sums that stand one after the other in a file's bytes: where the first begins, and how many there are.

@@ -11,7 +11,7 @@ use Rattle.byte_words.proofs.Words.{length-lay}
 use Rattle.byte_section.specs.Section.{encoded}
 use Rattle.norm_kinds.specs.Kinds.{normalLabelBytes}
 use Rattle.norm_kinds.proofs.Records.{length-label}
-use Rattle.merge_sums.specs.Table.{rowsOf}
+use Rattle.norm_labels.specs.Table.{rowsOf}
 use Rattle.merge_sums.proofs.Writing.{rows-end, rows-turn}
 use Rattle.merge_heads.specs.Heads.{labelOfUnion}
 use Rattle.merge_heads.proofs.put_labels.Statement.{statement}

@@ -5,7 +5,7 @@ use native.Mathlib.Nat.{le-trans}
 use native.Mathlib.Omega.{arith}
 use Prim.Native.Nat.{_≤_}
 use lib.ListN.{length, take}
-use Rattle.merge_laws.specs.Merge.{keysOf}
+use Rattle.norm_labels.specs.Labels.{keysOf}
 use Rattle.merge_put.specs.Parts.{systemInFile}
 use Rattle.merge_put.proofs.Known.{Known, known}
 use Rattle.merge_put.proofs.Loaded.{keys-part, part-long, keys-ascending, keys-room, labels-joined}

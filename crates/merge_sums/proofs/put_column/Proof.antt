@@ -6,7 +6,7 @@ use native.Mathlib.Omega.{arith}
 use mir.Syntax.{w64}
 use Rattle.byte_words.specs.Words.{lay, signedBytes}
 use Rattle.byte_section.specs.Section.{encoded}
-use Rattle.merge_sums.specs.Table.{rowsOf}
+use Rattle.norm_labels.specs.Table.{rowsOf}
 use Rattle.merge_sums.specs.Columns.{bothAt, crossAt}
 use Rattle.merge_sums.proofs.Held.{column-fits, column-keeps}
 use borrow.Author.Needs.{needs}

@@ -10,7 +10,7 @@ use Rattle.byte_words.specs.Words.{lay}
 use Rattle.byte_words.proofs.Words.{length-lay}
 use Rattle.num_packed.specs.Triangle.{tri}
 use Rattle.num_packed.proofs.Places.{tri-next, tri-within}
-use Rattle.merge_sums.specs.Table.{columnsOf}
+use Rattle.norm_labels.specs.Table.{columnsOf}
 use Rattle.merge_sums.specs.Columns.{crossAt}
 use Rattle.merge_sums.proofs.Writing.{bytesIn, columns-end, columns-turn}
 use Rattle.merge_sums.proofs.put_columns.Statement.{statement}

@@ -11,7 +11,7 @@ use mir.Val.{toZ, ofZ}
 use mir.ValLaws.{toZ-ofZ}
 use Rattle.byte_words.specs.Words.{lay, signedBytes}
 use Rattle.byte_words.proofs.Words.{length-lay}
-use Rattle.merge_sums.specs.Table.{rowsOf}
+use Rattle.norm_labels.specs.Table.{rowsOf}
 use Rattle.merge_sums.specs.Columns.{bothAt}
 use Rattle.merge_sums.proofs.Writing.{bytesIn, length-sum, rows-end, rows-turn}
 use Rattle.merge_sums.proofs.Held.{held-small, both-is}

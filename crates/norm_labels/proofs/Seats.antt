@@ -10,8 +10,8 @@ use lib.ListN.{length, getD}
 use Rattle.num_whole.specs.Tests.{less, same, pick, either}
 use Rattle.num_whole.proofs.Cases.{apart, is-less, not-less, is-same, not-same, same-true, same-false, by-cases}
 use Rattle.norm_system.specs.System.{has}
-use Rattle.merge_join.specs.Join.{ascending, seat}
-use Rattle.merge_join.proofs.Union.{Asc, asc-from, has-below, either-second}
+use Rattle.norm_labels.specs.Seats.{ascending, seat}
+use Rattle.norm_labels.proofs.Ascending.{Asc, asc-from, has-below, either-second}
 
 module _ (x k : ℕ) (l : List ℕ) where
   pub seat-first : x ≡ k → seat (x ∷ l) k ≡ 0

@@ -1,6 +1,6 @@
 -- What it says of one sum that it is not unsound: it keeps its bound, a diagonal is not negative, and beside a zero diagonal there is zero.
 -- Assumes nothing.
-use mathlib.Core.Path.{_≡_, refl, sym, ap, _∙_}
+use mathlib.Core.Path.{_≡_, sym, ap, _∙_}
 use mathlib.Core.List.{List}
 use mathlib.Core.Bool.{Bool, true, false, cond}
 use Prim.Native.Nat.{ℕ, _≤_}

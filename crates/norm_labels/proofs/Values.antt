@@ -1,6 +1,6 @@
 -- What a system has at a label and at two: where the label stands, and nothing where it does not.
 -- Assumes nothing.
-use mathlib.Core.Path.{_≡_, refl, sym, _∙_, subst}
+use mathlib.Core.Path.{_≡_, refl, sym, ap₂, _∙_, subst}
 use mathlib.Core.List.{List, [], _∷_, map}
 use mathlib.Core.Bool.{true, false}
 use Prim.Native.Nat.{ℕ, zero, suc, _≤_, _<_}
@@ -8,18 +8,23 @@ use native.Mathlib.Nat.{not-suc-le-zero, le-of-suc-le-suc}
 use native.Mathlib.Omega.{arith}
 use lib.IntN.{ℤ, pos}
 use lib.ListN.{length, getD, length-map, List·getD-map, List·getD-eq-default}
-use Rattle.num_whole.specs.Tests.{less}
+use Rattle.num_whole.specs.Tests.{less, same}
 use Rattle.num_whole.specs.Lists.{ascend}
 use Rattle.num_whole.proofs.Cases.{yes, no, is-less, not-less, is-upTo, not-upTo, less-true, less-false, by-cases}
 use Rattle.num_packed.specs.Triangle.{tri}
 use Rattle.num_packed.specs.Sound.{entry}
 use Rattle.norm_system.specs.System.{System, has, keyOf}
 use Rattle.norm_system.proofs.Sound.{SoundSystem}
-use Rattle.merge_join.specs.Join.{ascending, seat}
-use Rattle.merge_join.proofs.Union.{asc-of, asc-to}
-use Rattle.merge_join.proofs.Seats.{seated, unseated, seats-rise, seats-order}
-use Rattle.merge_sums.specs.Table.{sumAt}
-use Rattle.merge_laws.specs.Merge.{keysOf, noNormalLabel, labelByKey, value, side}
+use Rattle.norm_labels.specs.Seats.{ascending, seat}
+use Rattle.norm_labels.proofs.Ascending.{asc-of, asc-to, has-head, either-second}
+use Rattle.norm_labels.proofs.Seats.{seated, unseated, seats-rise, seats-order}
+use Rattle.norm_labels.specs.Table.{sumAt}
+use Rattle.norm_labels.specs.Labels.{keysOf, noNormalLabel, labelByKey, value, side}
+
+-- ---- two systems with the same parts
+pub same-system : {x y : System} → x .arcs ≡ y .arcs → x .labels ≡ y .labels → x .matrix ≡ y .matrix → x .rights ≡ y .rights → x .accepted ≡ y .accepted
+    → x .square ≡ y .square → x ≡ y
+same-system a l m r n q = λ i. record { arcs = a i; labels = l i; matrix = m i; rights = r i; accepted = n i; square = q i }
 
 -- ---- the shape of a system: its keys ascend, and it has as many sums as its labels ask for
 pub record Formed (x : System) : Type 0 where
@@ -47,6 +52,13 @@ pub map-at : {A : Type 0} (f : ℕ → A) (d : A) (u : List ℕ) (i : ℕ) → i
 map-at f d [] i h = absurd (not-suc-le-zero h)
 map-at f d (x ∷ u) zero h = refl
 map-at f d (x ∷ u) (suc i) h = map-at f d u i (le-of-suc-le-suc h)
+
+-- functions that agree on the numbers of a list
+pub map-alike : {A : Type 0} (f g : ℕ → A) (u : List ℕ) → ((k : ℕ) → has k u ≡ true → f k ≡ g k) → map f u ≡ map g u
+unfolding has
+map-alike f g [] e = refl
+map-alike f g (x ∷ u) e =
+    ap₂ (λ a l. a ∷ l) (e x (has-head x u)) (map-alike f g u (λ k h. e k (either-second (same x k) h)))
 
 -- ---- where a sum stands
 module _ (m : List ℤ) (n i j : ℕ) where

@@ -1,19 +1,24 @@
--- Packed triangles given by row and column: their length, what stands where, and their sums.
+-- Packed triangles given by row and column, or by labels: their length, what stands where, and their sums; and sums that are all 0.
 -- Assumes nothing.
 use mathlib.Core.Path.{_≡_, refl, sym, ap, ap₂, _∙_}
 use mathlib.Core.Logic.{⊎-elim}
 use mathlib.Core.List.{List, [], _∷_, _++_, map, append-assoc, append-nil}
+use mathlib.Core.Bool.{Bool, true, false}
 use Prim.Native.Nat.{ℕ, zero, suc, _+_, _≤_, _<_}
 use native.Mathlib.Nat.{not-suc-le-zero, le-of-suc-le-suc, add-zero, zero-add, eq-or-lt-of-le}
 use native.Mathlib.Omega.{arith}
-use lib.IntN.{ℤ, pos, _+ℤ_}
-use lib.ListN.{length, getD, length-append, List·getD-append}
+use lib.IntN.{ℤ, pos, _+ℤ_, +ℤ-idl}
+use lib.ListN.{length, getD, replicate, length-append, List·getD-append}
 use lib.Seq.{getD-append-add}
+use Rattle.num_whole.specs.Tests.{less, upTo, pick}
 use Rattle.num_whole.specs.Sums.{plus}
 use Rattle.num_packed.specs.Triangle.{tri}
 use Rattle.num_packed.specs.Sound.{entry}
 use Rattle.num_packed.proofs.Places.{tri-within}
-use Rattle.merge_sums.specs.Table.{rowsOf, columnsOf}
+use Rattle.norm_system.specs.System.{has}
+use Rattle.norm_labels.specs.Table.{rowsOf, columnsOf, sumAt}
+use Rattle.norm_labels.specs.Labels.{table}
+use Rattle.norm_labels.proofs.Seats.{has-at}
 
 -- column j
 abbrev down : (ℕ → ℕ → ℤ) → ℕ → List ℤ
@@ -147,3 +152,60 @@ plus-columns f g j (suc m) =
     plus-append (down f j) (columnsOf f (suc j) m) (down g j) (columnsOf g (suc j) m)
     (length-rows (λ i. f i j) 0 (suc j) ∙ sym (length-rows (λ i. g i j) 0 (suc j)))
     ∙ ap₂ (λ a b. a ++ b) (plus-rows (λ i. f i j) (λ i. g i j) 0 (suc j)) (plus-columns f g (suc j) m)
+
+-- ---- by labels
+pub length-table : (f : ℕ → ℕ → ℤ) (u : List ℕ) → length (table f u) ≡ tri (length u)
+unfolding table
+length-table f u = length-columns _ (length u)
+
+pub table-at : (f : ℕ → ℕ → ℤ) (u : List ℕ) (i j : ℕ) → i ≤ j → j < length u → entry (table f u) i j ≡ f (getD u i 0) (getD u j 0)
+unfolding table
+table-at f u i j p q = columns-at _ (length u) i j p q
+
+-- triangles of functions that agree on the labels that count
+pub table-alike : (f g : ℕ → ℕ → ℤ) (u : List ℕ) → ((k l : ℕ) → has k u ≡ true → has l u ≡ true → f k l ≡ g k l) → table f u ≡ table g u
+unfolding table
+table-alike f g u e =
+    columns-alike (λ i j. f (getD u i 0) (getD u j 0)) (λ i j. g (getD u i 0) (getD u j 0)) (length u) 0
+    (λ i j p q. let b : j < length u = omega arith in let a : i < length u = omega arith in
+    e (getD u i 0) (getD u j 0) (has-at u i a) (has-at u j b))
+
+pub plus-table : (f g : ℕ → ℕ → ℤ) (u : List ℕ) → plus (table f u) (table g u) ≡ table (λ k l. f k l +ℤ g k l) u
+unfolding table
+plus-table f g u = plus-columns _ _ 0 (length u)
+
+-- ---- other sums of lists, and sums that are all 0
+pub plus-map : {A : Type 0} (f g : A → ℤ) (u : List A) → plus (map f u) (map g u) ≡ map (λ k. f k +ℤ g k) u
+unfolding plus
+plus-map f g [] = refl
+plus-map f g (x ∷ u) = ap (λ l. (f x +ℤ g x) ∷ l) (plus-map f g u)
+
+pub plus-zeros : (n : ℕ) (l : List ℤ) → length l ≡ n → plus (replicate n (pos 0)) l ≡ l
+unfolding plus
+plus-zeros zero [] e = refl
+plus-zeros zero (x ∷ l) e = absurd (off e)
+  where
+    off : suc (length l) ≡ 0 → ⊥
+    off e = omega arith
+plus-zeros (suc n) [] e = absurd (off e)
+  where
+    off : 0 ≡ suc n → ⊥
+    off e = omega arith
+plus-zeros (suc n) (x ∷ l) e = ap₂ (λ a b. a ∷ b) (+ℤ-idl x) (plus-zeros n l (one-less e))
+  where
+    one-less : suc (length l) ≡ suc n → length l ≡ n
+    one-less e = omega arith
+
+pub zeros-at : (n i : ℕ) → getD (replicate n (pos 0)) i (pos 0) ≡ pos 0
+zeros-at zero i = refl
+zeros-at (suc n) zero = refl
+zeros-at (suc n) (suc i) = zeros-at n i
+
+nought : (t : Bool) {z : ℤ} → z ≡ pos 0 → pick t z (pos 0) ≡ pos 0
+unfolding pick
+nought true e = e
+nought false e = refl
+
+pub sum-zeros : (p n i j : ℕ) → sumAt (replicate p (pos 0)) n i j ≡ pos 0
+unfolding sumAt
+sum-zeros p n i j = nought (less j n) (nought (upTo i j) (zeros-at p (tri j + i)))

@@ -1,0 +1,7 @@
+pub mod Ascending
+pub mod Seats
+pub mod Tables
+pub mod Values
+pub mod Breaks
+pub mod Soundness
+pub mod On
