@@ -29,7 +29,7 @@ link() { # link PAD: the driver with so many bytes before the code
 
 instructions() { # instructions ARGS..: how many the driver executes, the loader's among them; a block is cleared by a loop, not by a string instruction whose every byte would count
     if [ "$qemu" ]; then
-        $qemu -one-insn-per-tb -d nochain,exec -D /dev/fd/2 $run $out/bench "$@" 2>&1 >/dev/null | grep -c '^Trace'
+        GLIBC_TUNABLES=glibc.cpu.x86_rep_stosb_threshold=100000000 $qemu -one-insn-per-tb -d nochain,exec -D /dev/fd/2 $run $out/bench "$@" 2>&1 >/dev/null | grep -c '^Trace'
     else
         GLIBC_TUNABLES=glibc.cpu.x86_rep_stosb_threshold=100000000 valgrind --tool=callgrind --callgrind-out-file=/dev/null $run $out/bench "$@" 2>&1 >/dev/null | sed -n 's/.*Collected : \([0-9]*\).*/\1/p'
     fi

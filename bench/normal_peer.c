@@ -152,6 +152,30 @@ static usize join(const u64 *xs, usize n, const u64 *ys, usize m, usize *left, u
     return k;
 }
 
+/* Which of n united labels a file of p has, where left has their places in it. */
+static usize locate(const usize *left, usize n, usize p, usize *t)
+{
+    usize m = 0;
+    for (usize i = 0; i < n; i++)
+        if (left[i] < p) t[m++] = i;
+    return m;
+}
+
+/* Adds sums that stand one after the other, each at its place. */
+static void add_column(i64 *col, const u8 *s, usize rows, const usize *t)
+{
+    for (usize i = 0; i < rows; i++) col[t[i]] += i64_at(s + 8 * i);
+}
+
+/* Adds to column j what a file of p labels has of it: its next column, the qth, where that one's place is j. How many are then done. */
+static usize add_next(i64 *col, const u8 *s, const usize *t, usize p, usize q, usize j)
+{
+    if (q == p || t[q] != j)
+        return q;
+    add_column(col, s + 8 * tri(q), q + 1, t);
+    return q + 1;
+}
+
 static u64 merge_pair(const u8 *s, const struct answer *x, const u8 *t, const struct answer *y, u8 *out, usize room, usize *length)
 {
     u64 xs[500], ys[500];
@@ -186,19 +210,19 @@ static u64 merge_pair(const u8 *s, const struct answer *x, const u8 *t, const st
     for (usize i = 0; i < n; i++, out += 24)
         __builtin_memcpy(out, left[i] < x->parameters ? ls + 24 * left[i] : lt + 24 * right[i], 24);
     put_u32(out, tri(n)); out += 4;
-    for (usize j = 0; j < n; j++) {
-        const u8 *a = left[j] < x->parameters ? s + x->matrix + 8 * tri(left[j]) : 0;
-        const u8 *b = right[j] < y->parameters ? t + y->matrix + 8 * tri(right[j]) : 0;
-        for (usize i = 0; i <= j; i++, out += 8) {
-            i64 sum = a && left[i] <= left[j] ? i64_at(a + 8 * left[i]) : 0;
-            put_i64(out, sum + (b && right[i] <= right[j] ? i64_at(b + 8 * right[i]) : 0));
-        }
+    i64 col[500];
+    usize ts[500], tt[500], p = locate(left, n, x->parameters, ts), q = locate(right, n, y->parameters, tt);
+    for (usize j = 0, d = 0, e = 0; j < n; j++) {
+        for (usize i = 0; i <= j; i++) col[i] = 0;
+        d = add_next(col, s + x->matrix, ts, p, d, j);
+        e = add_next(col, t + y->matrix, tt, q, e, j);
+        for (usize i = 0; i <= j; i++, out += 8) put_i64(out, col[i]);
     }
     put_u32(out, n); out += 4;
-    for (usize i = 0; i < n; i++, out += 8) {
-        i64 sum = left[i] < x->parameters ? i64_at(s + x->rights + 8 * left[i]) : 0;
-        put_i64(out, sum + (right[i] < y->parameters ? i64_at(t + y->rights + 8 * right[i]) : 0));
-    }
+    for (usize i = 0; i < n; i++) col[i] = 0;
+    add_column(col, s + x->rights, p, ts);
+    add_column(col, t + y->rights, q, tt);
+    for (usize i = 0; i < n; i++, out += 8) put_i64(out, col[i]);
     put_u32(out, 1);
     put_u64(out + 4, u64_at(s + x->totals) + u64_at(t + y->totals));
     put_u64(out + 12, u64_at(s + x->totals + 8) + u64_at(t + y->totals + 8));

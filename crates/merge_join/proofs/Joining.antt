@@ -149,7 +149,7 @@ pub walk-starts : (xs ys left right : List ℕ) → Walking xs ys left right lef
 unfolding ahead
 walk-starts xs ys left right = (zero-add _ ∙ length-map (union xs ys) (λ k. 0 + seat xs k), refl, refl)
 
-lay-one : (l : List ℕ) (n v : ℕ) (more : List ℕ) → lay l n (v ∷ more) ≡ lay (set l n v) (n + 1) more
+pub lay-one : (l : List ℕ) (n v : ℕ) (more : List ℕ) → lay l n (v ∷ more) ≡ lay (set l n v) (n + 1) more
 unfolding lay
 lay-one l n v more = rw add-one
 
@@ -163,7 +163,7 @@ walk-on xs ys left₀ right₀ left right i j n t s w =
       sym (lay-one right n (t .right) (ahead ys xs (t .j) (t .i))) ∙ ap (lay right n) (sym (s .takes-right)) ∙ w .2,
     )
 
-lay-none : (l : List ℕ) (n : ℕ) → lay l n [] ≡ l
+pub lay-none : (l : List ℕ) (n : ℕ) → lay l n [] ≡ l
 unfolding lay
 lay-none l n = refl
 

@@ -1,5 +1,5 @@
--- What reading accepts is what merging takes: the labels and sums of an accepted file stand where reading says. Of two that may be merged each
--- has at most fifteen arcs.
+-- What reading accepts is what merging takes: the labels and sums of an accepted file stand where reading says. Two that may be merged have
+-- at most sixteen arcs together.
 -- Assumes nothing.
 use mathlib.Core.Path.{sym, subst}
 use mathlib.Core.List.{List, [], _∷_, map}
@@ -53,9 +53,3 @@ module _ (x y : System) (p : SoundSystem x) (q : SoundSystem y) (m : Mergeable x
   arcs-together =
       let full = union-full (x .arcs) (y .arcs) (arcs-in-order p) (arcs-in-order q) (m .none-shared) in
       omega (arith, m .arcs-fit)
-
-  pub first-fifteen : length (x .arcs) ≤ 15
-  first-fifteen = omega (arith, arcs-together, q .some-arcs)
-
-  pub second-fifteen : length (y .arcs) ≤ 15
-  second-fifteen = omega (arith, arcs-together, p .some-arcs)

@@ -7,4 +7,5 @@ pub mod Whole
 pub mod Groups
 pub mod Laws
 pub mod Written
+pub mod Added
 pub mod Files

@@ -1,79 +1,44 @@
--- What the code writes by places is the merged system by labels: its labels, matrix sums and right sides, from those of two files where they
--- stand, at the places that a join gives; and the common labels that it compares are those of 24. The sums of a sound system are small
--- enough to be added.
+-- The labels that the code writes at the places that a join gives, from those of two files where they stand, are the merged system's; and the
+-- common labels that it compares are those of 24.
 -- Assumes nothing.
 use mathlib.Core.Path.{_≡_, refl, sym, ap, ap₂, _∙_, subst}
 use mathlib.Core.List.{List, _∷_, map}
 use mathlib.Core.Bool.{Bool, true, false, not}
-use Prim.Native.Nat.{ℕ, zero, suc, _+_, _*_, _^_, _≤_, _<_}
+use Prim.Native.Nat.{ℕ, zero, suc, _+_, _*_, _<_}
 use native.Mathlib.Omega.{arith}
-use lib.IntN.{pos, _+ℤ_, natAbs}
-use lib.ListN.{length, getD, List·getD-eq-default}
-use mir.Syntax.{w64}
+use lib.ListN.{length, getD}
 use Rattle.num_whole.specs.Tests.{less, both, either, below}
 use Rattle.num_whole.specs.Lists.{all}
-use Rattle.num_whole.proofs.Cases.{apart, fails, last-fails, at-once, less-true, less-false, by-cases}
+use Rattle.num_whole.proofs.Cases.{apart, fails, last-fails, at-once, by-cases}
 use Rattle.num_whole.proofs.Tables.{below-at, below-every}
-use Rattle.byte_words.specs.Words.{signedWord}
 use Rattle.num_packed.specs.Triangle.{tri}
-use Rattle.num_packed.specs.Sound.{entry}
-use Rattle.norm_system.specs.System.{System, has, keyOf, boundOf}
-use Rattle.norm_system.proofs.Sound.{bound-most, entry-of, SoundSystem}
+use Rattle.norm_system.specs.System.{System, has, keyOf}
 use Rattle.byte_words.specs.Stands.{stands}
 use Rattle.norm_sum.specs.Sums.{sumsAt}
-use Rattle.byte_words.proofs.Stands.{length-stands, stands-at}
+use Rattle.byte_words.proofs.Stands.{stands-at}
 use Rattle.norm_kinds.specs.Kinds.{normalLabelAt}
 use Rattle.merge_join.specs.Join.{union, SeatedAt}
 use Rattle.norm_labels.specs.Seats.{seat}
 use Rattle.merge_join.specs.Alike.{alike}
 use Rattle.merge_join.proofs.Union.{has-union, either-none}
 use Rattle.norm_labels.proofs.Seats.{seated, unseated, seat-within, has-at}
-use Rattle.norm_labels.specs.Table.{rowsOf, columnsOf, sumAt}
-use Rattle.merge_sums.specs.Columns.{heldAt, columnAt, bothAt, crossAt, SmallSums, SmallAll}
-use Rattle.merge_sums.specs.declared.Column.{Column}
-use Rattle.norm_labels.proofs.Tables.{rows-alike, rows-map, columns-alike}
-use Rattle.merge_sums.proofs.Held.{held-there, held-past, column-sum}
+use Rattle.norm_labels.specs.Table.{rowsOf}
+use Rattle.norm_labels.proofs.Tables.{rows-alike, rows-map}
 use Rattle.merge_read.specs.Read.{keyAt, keysAt, agreeIn, agreeAt}
 use Rattle.merge_heads.specs.Heads.{labelOfTwo, labelOfUnion}
 use Rattle.merge_heads.proofs.Chosen.{label-first, label-second}
-use Rattle.norm_labels.specs.Labels.{keysOf, noNormalLabel, labelByKey, value, side, table}
+use Rattle.norm_labels.specs.Labels.{keysOf, noNormalLabel, labelByKey}
 use Rattle.merge_laws.specs.Merge.{carried, mergedOf, agree}
 use Rattle.norm_labels.proofs.Values.{keys-long, within}
 use Rattle.merge_laws.proofs.Numbers.{all-has}
 use Rattle.merge_laws.proofs.Groups.{all-each}
-use Rattle.merge_laws.proofs.Merged.{carried-first, carried-second, merged-labels, merged-matrix, merged-rights}
-use Rattle.norm_labels.proofs.Soundness.{judged}
+use Rattle.merge_laws.proofs.Merged.{carried-first, carried-second, merged-labels}
 
 -- ---- a file's labels and sums, where they stand
 pub record StandsIn (s : List ℕ) (labels matrix rights : ℕ) (x : System) : Type 0 where
   pub labels-are : x .labels ≡ stands (normalLabelAt s) 24 (length (x .labels)) labels
   pub matrix-are : x .matrix ≡ sumsAt s matrix (tri (length (x .labels)))
   pub rights-are : x .rights ≡ sumsAt s rights (length (x .labels))
-
--- right sides as they stand one after the other
-abbrev pub sidesAt : ℕ → System → Column
-sidesAt rights x = record { base = rights; rows = length (x .labels) }
-
-held-sum : (s : List ℕ) (start n i : ℕ) → heldAt s (record { base = start; rows = n }) i ≡ getD (sumsAt s start n) i (pos 0)
-held-sum s start n i =
-    by-cases (less i n)
-    (λ t. sym (held-there s (record { base = start; rows = n }) i (less-true i n t) refl) ∙ sym (stands-at (signedWord w64 s) 8 n start i (pos 0) (less-true i n t)))
-    (λ t. let h : n ≤ i = less-false i n t in
-    let long : length (sumsAt s start n) ≡ n = length-stands (signedWord w64 s) 8 n start in
-    sym (held-past s (record { base = start; rows = n }) i h) ∙ sym (List·getD-eq-default (sumsAt s start n) (pos 0) (omega arith)))
-
-module _ (s : List ℕ) (labels matrix rights : ℕ) (x : System) (st : StandsIn s labels matrix rights x) (u places : List ℕ) (pl : SeatedAt (keysOf x) u places) where
-  matrix-held : (i j : ℕ) → i < length u → j < length u → heldAt s (columnAt matrix (length (x .labels)) (getD places j 0)) (getD places i 0) ≡ value x (getD u i 0) (getD u j 0)
-  unfolding value
-  matrix-held i j h g =
-      column-sum matrix (length (x .labels)) (getD places j 0) s (getD places i 0)
-      ∙ ap₂ (sumAt (sumsAt s matrix (tri (length (x .labels)))) (length (x .labels))) (pl i h) (pl j g)
-      ∙ ap (λ m. sumAt m (length (x .labels)) (seat (keysOf x) (getD u i 0)) (seat (keysOf x) (getD u j 0))) (sym (st .matrix-are))
-
-  rights-held : (i : ℕ) → i < length u → heldAt s (sidesAt rights x) (getD places i 0) ≡ side x (getD u i 0)
-  unfolding side
-  rights-held i h =
-      held-sum s rights (length (x .labels)) (getD places i 0) ∙ ap₂ (λ l n. getD l n (pos 0)) (sym (st .rights-are)) (pl i h)
 
 map-stands : {A B : Type 0} (g : A → B) (f : ℕ → A) (size n at : ℕ) → map g (stands f size n at) ≡ stands (λ p. g (f p)) size n at
 unfolding stands
@@ -97,30 +62,6 @@ module _ (a : List ℕ) (la ma ra : ℕ) (x : System) (sa : StandsIn a la ma ra 
     (pl : SeatedAt (keysOf x) (union (keysOf x) (keysOf y)) left) (pr : SeatedAt (keysOf y) (union (keysOf x) (keysOf y)) right) where
   abbrev u : List ℕ
   u = union (keysOf x) (keysOf y)
-
-  pub written-matrix : columnsOf (crossAt a ma (length (x .labels)) left b mb (length (y .labels)) right) 0 (length u) ≡ mergedOf x y .matrix
-  unfolding crossAt bothAt table
-  written-matrix =
-      columns-alike (crossAt a ma (length (x .labels)) left b mb (length (y .labels)) right)
-      (λ i j. value x (getD u i 0) (getD u j 0) +ℤ value y (getD u i 0) (getD u j 0)) (length u) 0
-      (λ i j h g. ap₂ (λ v w. v +ℤ w) (matrix-held a la ma ra x sa u left pl i j (below i j h g) (low j g)) (matrix-held b lb mb rb y sb u right pr i j (below i j h g) (low j g)))
-      ∙ sym (merged-matrix x y)
-    where
-      low : (j : ℕ) → j < 0 + length u → j < length u
-      low j g = omega arith
-
-      below : (i j : ℕ) → i ≤ j → j < 0 + length u → i < length u
-      below i j h g = omega arith
-
-  pub written-rights : rowsOf (bothAt a (sidesAt ra x) left b (sidesAt rb y) right) 0 (length u) ≡ mergedOf x y .rights
-  unfolding bothAt
-  written-rights =
-      rows-alike (bothAt a (sidesAt ra x) left b (sidesAt rb y) right) (λ i. side x (getD u i 0) +ℤ side y (getD u i 0)) (length u) 0
-      (λ i g. ap₂ (λ v w. v +ℤ w) (rights-held a la ma ra x sa u left pl i (low i g)) (rights-held b lb mb rb y sb u right pr i (low i g)))
-      ∙ rows-map (λ k. side x k +ℤ side y k) u ∙ sym (merged-rights x y)
-    where
-      low : (i : ℕ) → i < 0 + length u → i < length u
-      low i g = omega arith
 
   -- ---- labels
   label-held : (k : ℕ) → has k (keysOf x) ≡ true → normalLabelAt a (la + 24 * seat (keysOf x) k) ≡ labelByKey x k
@@ -180,21 +121,3 @@ module _ (a : List ℕ) (la ma ra : ℕ) (x : System) (sa : StandsIn a la ma ra 
 
       is : (i : ℕ) → i < length u → f i ≡ agree x y (getD u i 0)
       is i h = ap₂ (agreeIn a la (length (x .labels)) b lb (length (y .labels))) (pl i h) (pr i h) ∙ agreed-one (getD u i 0)
-
--- ---- no sum of up to fifteen arcs reaches 2^62
-module _ (s : List ℕ) (labels matrix rights : ℕ) (x : System) (p : SoundSystem x) (few : length (x .arcs) ≤ 15) (st : StandsIn s labels matrix rights x) where
-  pub small-matrix : SmallAll s matrix (length (x .labels))
-  small-matrix i h =
-      let e = entry-of (length (x .labels)) i h in
-      let k = judged x (p .sums) .sums .matrix (e .row) (e .column) (e .upper) (e .inside) .small in
-      let most : boundOf (length (x .arcs)) (x .accepted) (2 ^ 58) ≤ length (x .arcs) * 2 ^ 58 = bound-most (length (x .arcs)) (x .accepted) (2 ^ 58) in
-      let is : getD (x .matrix) i (pos 0) ≡ signedWord w64 s (matrix + 8 * i) = ap (λ l. getD l i (pos 0)) (st .matrix-are) ∙ stands-at (signedWord w64 s) 8 (tri (length (x .labels))) matrix i (pos 0) h in
-      let same : entry (x .matrix) (e .row) (e .column) ≡ signedWord w64 s (matrix + 8 * i) = ap (λ n. getD (x .matrix) n (pos 0)) (sym (e .place)) ∙ is in
-      subst (λ z. natAbs z < 2 ^ 62) same (omega arith)
-
-  pub small-rights : SmallSums s (sidesAt rights x)
-  small-rights i h =
-      let k = judged x (p .sums) .sums .rights i h .small in
-      let most : boundOf (length (x .arcs)) (x .accepted) (2 ^ 55) ≤ length (x .arcs) * 2 ^ 55 = bound-most (length (x .arcs)) (x .accepted) (2 ^ 55) in
-      let is : getD (x .rights) i (pos 0) ≡ signedWord w64 s (rights + 8 * i) = ap (λ l. getD l i (pos 0)) (st .rights-are) ∙ stands-at (signedWord w64 s) 8 (length (x .labels)) rights i (pos 0) h in
-      subst (λ z. natAbs z < 2 ^ 62) is (omega arith)

@@ -18,12 +18,12 @@ use Rattle.norm_kinds.proofs.Long.{length-normal}
 use Rattle.norm_kinds.proofs.Records.{length-arc, length-label, length-sum}
 use Rattle.merge_join.specs.Join.{union}
 use Rattle.norm_labels.specs.Table.{rowsOf, columnsOf}
-use Rattle.merge_sums.specs.Columns.{bothAt, crossAt}
+use Rattle.merge_sums.specs.Both.{bothPlaces, bothSides}
 use Rattle.merge_heads.specs.Heads.{labelOfUnion}
 use Rattle.merge_laws.specs.Merge.{mergedOf}
 use Rattle.merge_laws.proofs.Merged.{merged-arcs, merged-accepted, merged-square}
 use Rattle.norm_labels.proofs.Soundness.{judged}
-use Rattle.merge_put.specs.Parts.{systemInFile, Joined, ArcsFit, headBytes, middleBytes, lastBytes}
+use Rattle.merge_put.specs.Parts.{systemInFile, Joined, Located, ArcsFit, headBytes, middleBytes, lastBytes}
 use Rattle.merge_put.proofs.Known.{Known}
 use Rattle.merge_put.proofs.Laid.{two-laid, file-laid, last-laid}
 use Rattle.merge_put.proofs.Sums.{labels-written, matrix-written, rights-written, labels-count, matrix-count, rights-count}
@@ -45,7 +45,7 @@ module _ (a : List ℕ) (x : NormalRead) (ka : Known a x) (b : List ℕ) (y : No
         ∙ ap₂ (λ t l. lay t (4 + 4 * m + 4) (encoded normalLabelBytes l))
         (g ∙ ap₂ (λ t k. lay t (4 + 4 * m) (bytesOf 4 k))
         (f ∙ ap₂ (λ t l. lay t 4 (encoded arcNumberBytes l)) (e ∙ ap (λ k. lay out 0 (bytesOf 4 k)) (sym c)) (sym (merged-arcs (systemInFile a) (systemInFile b))))
-        (sym (labels-count a x ka b y kb left right n j)))
+        (sym (labels-count a x ka b y kb n (j .count))))
         (labels-written a x ka b y kb left right n j)
         ∙ two-laid arcNumberBytes 4 length-arc normalLabelBytes 24 length-label (z .arcs) (z .labels) out 0 (4 + 4 * m) (4 + 4 * m + 4) (omega arith) refl
 
@@ -53,9 +53,9 @@ module _ (a : List ℕ) (x : NormalRead) (ka : Known a x) (b : List ℕ) (y : No
     bytes-long =
         let z = mergedOf (systemInFile a) (systemInFile b) in
         let c : length (z .arcs) ≡ m = arcs-count in
-        let d : length (z .labels) ≡ n = labels-count a x ka b y kb left right n j in
-        let s : length (z .matrix) ≡ tri n = matrix-count a x ka b y kb left right n j in
-        let r : length (z .rights) ≡ n = rights-count a x ka b y kb left right n j in
+        let d : length (z .labels) ≡ n = labels-count a x ka b y kb n (j .count) in
+        let s : length (z .matrix) ≡ tri n = matrix-count a x ka b y kb n (j .count) in
+        let r : length (z .rights) ≡ n = rights-count a x ka b y kb n (j .count) in
         length-normal z ∙ omega arith
 
     pub file-put : (out one two three : List ℕ) (middle last : ℕ) → middle ≡ 8 + 4 * m + 24 * n → last ≡ middle + 8 + 8 * tri n + 8 * n
@@ -64,26 +64,28 @@ module _ (a : List ℕ) (x : NormalRead) (ka : Known a x) (b : List ℕ) (y : No
     file-put out one two three middle last p q e f g =
         let z = mergedOf (systemInFile a) (systemInFile b) in
         let c : length (z .arcs) ≡ m = arcs-count in
-        let d : length (z .labels) ≡ n = labels-count a x ka b y kb left right n j in
-        let s : length (z .matrix) ≡ tri n = matrix-count a x ka b y kb left right n j in
-        let r : length (z .rights) ≡ n = rights-count a x ka b y kb left right n j in
+        let d : length (z .labels) ≡ n = labels-count a x ka b y kb n (j .count) in
+        let s : length (z .matrix) ≡ tri n = matrix-count a x ka b y kb n (j .count) in
+        let r : length (z .rights) ≡ n = rights-count a x ka b y kb n (j .count) in
         g ∙ ap (λ t. lay t last (lastBytes z)) (f ∙ ap (λ t. lay t middle (middleBytes z)) e) ∙ file-laid z out middle last (omega arith) (omega arith)
 
+-- ---- the sums
+module _ (a : List ℕ) (x : NormalRead) (ka : Known a x) (b : List ℕ) (y : NormalRead) (kb : Known b y) (n : ℕ) (ta tb : List ℕ) (j : Located a b n ta tb) where
   pub middle-put : (out one two three four : List ℕ) (at sums next : ℕ) → sums ≡ tri n → next ≡ at + 4 + 8 * sums → one ≡ lay out at (bytesOf 4 sums)
-      → two ≡ lay one (at + 4) (encoded (signedBytes w64) (columnsOf (crossAt a (x .matrix) (x .parameters) left b (y .matrix) (y .parameters) right) 0 n))
+      → two ≡ lay one (at + 4) (encoded (signedBytes w64) (columnsOf (bothPlaces a (x .matrix) ta b (y .matrix) tb) 0 n))
       → three ≡ lay two next (bytesOf 4 n)
-      → four ≡ lay three (next + 4) (encoded (signedBytes w64) (rowsOf (bothAt a (record { base = x .rights; rows = x .parameters }) left b (record { base = y .rights; rows = y .parameters }) right) 0 n))
+      → four ≡ lay three (next + 4) (encoded (signedBytes w64) (rowsOf (bothSides a (record { base = x .rights; rows = x .parameters }) ta b (record { base = y .rights; rows = y .parameters }) tb) 0 n))
       → four ≡ lay out at (middleBytes (mergedOf (systemInFile a) (systemInFile b)))
   unfolding middleBytes sumBytes
   middle-put out one two three four at sums next p q e f g h =
       let z = mergedOf (systemInFile a) (systemInFile b) in
-      let s : length (z .matrix) ≡ tri n = matrix-count a x ka b y kb left right n j in
+      let s : length (z .matrix) ≡ tri n = matrix-count a x ka b y kb n (j .count) in
       h
       ∙ ap₂ (λ t l. lay t (next + 4) (encoded (signedBytes w64) l))
       (g ∙ ap₂ (λ t k. lay t next (bytesOf 4 k))
-      (f ∙ ap₂ (λ t l. lay t (at + 4) (encoded (signedBytes w64) l)) (e ∙ ap (λ k. lay out at (bytesOf 4 k)) (p ∙ sym s)) (matrix-written a x ka b y kb left right n j))
-      (sym (rights-count a x ka b y kb left right n j)))
-      (rights-written a x ka b y kb left right n j)
+      (f ∙ ap₂ (λ t l. lay t (at + 4) (encoded (signedBytes w64) l)) (e ∙ ap (λ k. lay out at (bytesOf 4 k)) (p ∙ sym s)) (matrix-written a x ka b y kb n ta tb j))
+      (sym (rights-count a x ka b y kb n (j .count))))
+      (rights-written a x ka b y kb n ta tb j)
       ∙ two-laid sumBytes 8 length-sum sumBytes 8 length-sum (z .matrix) (z .rights) out at next (next + 4) (omega arith) refl
 
 -- ---- the totals

@@ -3,66 +3,42 @@
 -- Assumes nothing.
 use mathlib.Core.Path.{_≡_, sym, ap, ap₂, _∙_, subst}
 use mathlib.Core.List.{List}
-use Prim.Native.Nat.{ℕ, _+_, _*_}
-use lib.ListN.{length, length-map}
+use mathlib.Core.Bool.{true}
+use Prim.Native.Nat.{ℕ, _+_, _*_, _≤_}
+use lib.ListN.{length, take, length-map}
 use Rattle.num_whole.specs.Tests.{below}
 use Rattle.num_whole.specs.Lists.{all}
 use Rattle.num_packed.specs.Triangle.{tri}
+use Rattle.byte_words.specs.Words.{lay}
+use Rattle.norm_system.specs.System.{has}
 use Rattle.norm_read.specs.declared.NormalRead.{NormalRead}
 use Rattle.merge_join.specs.Join.{union}
 use Rattle.norm_labels.specs.Table.{rowsOf, columnsOf}
-use Rattle.merge_sums.specs.Columns.{bothAt, crossAt, SmallSums, SmallAll}
+use Rattle.merge_sums.specs.Both.{bothPlaces, bothSides, AddableBoth}
+use Rattle.merge_locate.specs.Locate.{listedAt, numbersWhere}
 use Rattle.merge_heads.specs.Heads.{labelOfUnion, Somewhere}
 use Rattle.merge_read.specs.Read.{agreeAt}
 use Rattle.merge_heads.proofs.United.{somewhere}
 use Rattle.norm_labels.specs.Labels.{keysOf}
+use Rattle.norm_labels.specs.Seats.{ascending, seats}
 use Rattle.merge_laws.specs.Merge.{carried, mergedOf, agree, mergeNumber}
 use Rattle.norm_labels.proofs.Values.{formed, keys-long}
 use Rattle.merge_laws.proofs.Merged.{merged-formed, merged-labels}
 use Rattle.merge_laws.proofs.Numbers.{mergeable}
-use Rattle.merge_laws.proofs.Files.{first-fifteen, second-fifteen}
-use Rattle.merge_laws.proofs.Written.{written-labels, written-matrix, written-rights, agreed-all, small-matrix, small-rights}
-use Rattle.merge_put.specs.Parts.{systemInFile, Joined}
+use Rattle.merge_laws.proofs.Files.{arcs-together}
+use Rattle.merge_laws.proofs.Written.{written-labels, agreed-all}
+use Rattle.merge_laws.proofs.Added.{u-ascends, first-in, second-in, written-matrix, written-rights, matrix-addable, rights-addable}
+use Rattle.merge_put.specs.Parts.{systemInFile, Joined, Located}
 use Rattle.merge_put.proofs.Known.{Known}
+use Rattle.merge_put.proofs.Placed.{Places, placed, found}
 
 module _ (a : List ℕ) (x : NormalRead) (ka : Known a x) (b : List ℕ) (y : NormalRead) (kb : Known b y) where
-  -- ---- small enough to be added
-  module _ (accepted : mergeNumber (systemInFile a) (systemInFile b) ≡ 0) where
-    pub matrix-small : SmallAll a (x .matrix) (x .parameters) × SmallAll b (y .matrix) (y .parameters)
-    matrix-small =
-        let m = mergeable (systemInFile a) (systemInFile b) accepted in (
-          subst (SmallAll a (x .matrix)) (sym (ka .labels-many))
-              (small-matrix a (8 + 4 * x .arcs) (x .matrix) (x .rights) (systemInFile a) (ka .whole) (first-fifteen (systemInFile a) (systemInFile b) (ka .whole) (kb .whole) m) (ka .stands)),
-          subst (SmallAll b (y .matrix)) (sym (kb .labels-many))
-              (small-matrix b (8 + 4 * y .arcs) (y .matrix) (y .rights) (systemInFile b) (kb .whole) (second-fifteen (systemInFile a) (systemInFile b) (ka .whole) (kb .whole) m) (kb .stands)),
-        )
-
-    pub rights-small : SmallSums a (record { base = x .rights; rows = x .parameters }) × SmallSums b (record { base = y .rights; rows = y .parameters })
-    rights-small =
-        let m = mergeable (systemInFile a) (systemInFile b) accepted in (
-          subst (λ n. SmallSums a (record { base = x .rights; rows = n })) (sym (ka .labels-many))
-              (small-rights a (8 + 4 * x .arcs) (x .matrix) (x .rights) (systemInFile a) (ka .whole) (first-fifteen (systemInFile a) (systemInFile b) (ka .whole) (kb .whole) m) (ka .stands)),
-          subst (λ n. SmallSums b (record { base = y .rights; rows = n })) (sym (kb .labels-many))
-              (small-rights b (8 + 4 * y .arcs) (y .matrix) (y .rights) (systemInFile b) (kb .whole) (second-fifteen (systemInFile a) (systemInFile b) (ka .whole) (kb .whole) m) (kb .stands)),
-        )
-
   module _ (left right : List ℕ) (n : ℕ) (j : Joined a b n left right) where
     -- ---- what is written
     pub labels-written : rowsOf (labelOfUnion a (8 + 4 * x .arcs) (x .parameters) left b (8 + 4 * y .arcs) right) 0 n ≡ mergedOf (systemInFile a) (systemInFile b) .labels
     labels-written =
         ap₂ (λ p m. rowsOf (labelOfUnion a (8 + 4 * x .arcs) p left b (8 + 4 * y .arcs) right) 0 m) (ka .labels-many) (j .count)
         ∙ written-labels a _ _ _ (systemInFile a) (ka .stands) b _ _ _ (systemInFile b) (kb .stands) left right (j .left-placed) (j .right-placed)
-
-    pub matrix-written : columnsOf (crossAt a (x .matrix) (x .parameters) left b (y .matrix) (y .parameters) right) 0 n ≡ mergedOf (systemInFile a) (systemInFile b) .matrix
-    matrix-written =
-        (λ i. columnsOf (crossAt a (x .matrix) (ka .labels-many i) left b (y .matrix) (kb .labels-many i) right) 0 (j .count i))
-        ∙ written-matrix a _ _ _ (systemInFile a) (ka .stands) b _ _ _ (systemInFile b) (kb .stands) left right (j .left-placed) (j .right-placed)
-
-    pub rights-written : rowsOf (bothAt a (record { base = x .rights; rows = x .parameters }) left b (record { base = y .rights; rows = y .parameters }) right) 0 n
-        ≡ mergedOf (systemInFile a) (systemInFile b) .rights
-    rights-written =
-        (λ i. rowsOf (bothAt a (record { base = x .rights; rows = ka .labels-many i }) left b (record { base = y .rights; rows = kb .labels-many i }) right) 0 (j .count i))
-        ∙ written-rights a _ _ _ (systemInFile a) (ka .stands) b _ _ _ (systemInFile b) (kb .stands) left right (j .left-placed) (j .right-placed)
 
     -- ---- what is compared
     pub labels-agree : below (agreeAt a (8 + 4 * x .arcs) (x .parameters) left b (8 + 4 * y .arcs) (y .parameters) right) n
@@ -78,11 +54,12 @@ module _ (a : List ℕ) (x : NormalRead) (ka : Known a x) (b : List ℕ) (y : No
         (subst (Somewhere (length (keysOf (systemInFile a))) left (length (keysOf (systemInFile b))) right) (sym (j .count))
         (somewhere (keysOf (systemInFile a)) (keysOf (systemInFile b)) left right (j .left-placed) (j .right-placed))))
 
-    -- ---- how many
+  -- ---- how many
+  module _ (n : ℕ) (count : n ≡ length (union (keysOf (systemInFile a)) (keysOf (systemInFile b)))) where
     pub labels-count : length (mergedOf (systemInFile a) (systemInFile b) .labels) ≡ n
     labels-count =
         ap length (merged-labels (systemInFile a) (systemInFile b))
-        ∙ length-map (union (keysOf (systemInFile a)) (keysOf (systemInFile b))) (carried (systemInFile a) (systemInFile b)) ∙ sym (j .count)
+        ∙ length-map (union (keysOf (systemInFile a)) (keysOf (systemInFile b))) (carried (systemInFile a) (systemInFile b)) ∙ sym count
 
     pub matrix-count : length (mergedOf (systemInFile a) (systemInFile b) .matrix) ≡ tri n
     matrix-count =
@@ -91,3 +68,62 @@ module _ (a : List ℕ) (x : NormalRead) (ka : Known a x) (b : List ℕ) (y : No
     pub rights-count : length (mergedOf (systemInFile a) (systemInFile b) .rights) ≡ n
     rights-count =
         merged-formed (systemInFile a) (systemInFile b) (formed (systemInFile a) (ka .whole)) (formed (systemInFile b) (kb .whole)) .rights-long ∙ labels-count
+
+  -- ---- the union
+  abbrev u : List ℕ
+  u = union (keysOf (systemInFile a)) (keysOf (systemInFile b))
+
+  up : ascending u ≡ true
+  up = u-ascends a _ _ _ (systemInFile a) (ka .whole) (ka .stands) b _ _ _ (systemInFile b) (kb .whole) (kb .stands)
+
+  in-left : (k : ℕ) → has k (keysOf (systemInFile a)) ≡ true → has k u ≡ true
+  in-left = first-in a _ _ _ (systemInFile a) (ka .whole) (ka .stands) b _ _ _ (systemInFile b) (kb .whole) (kb .stands)
+
+  in-right : (k : ℕ) → has k (keysOf (systemInFile b)) ≡ true → has k u ≡ true
+  in-right = second-in a _ _ _ (systemInFile a) (ka .whole) (ka .stands) b _ _ _ (systemInFile b) (kb .whole) (kb .stands)
+
+  -- ---- sums at the places of the labels
+  module _ (n : ℕ) (ta tb : List ℕ) (l : Located a b n ta tb) where
+    pub left-places : Places n (x .parameters) ta
+    left-places = placed a x ka u up in-left n (l .count) ta (l .left-are)
+
+    pub right-places : Places n (y .parameters) tb
+    right-places = placed b y kb u up in-right n (l .count) tb (l .right-are)
+
+    pub matrix-written : columnsOf (bothPlaces a (x .matrix) ta b (y .matrix) tb) 0 n ≡ mergedOf (systemInFile a) (systemInFile b) .matrix
+    matrix-written =
+        (λ i. columnsOf (bothPlaces a (x .matrix) (l .left-are i) b (y .matrix) (l .right-are i)) 0 (l .count i))
+        ∙ written-matrix a _ _ _ (systemInFile a) (ka .whole) (ka .stands) b _ _ _ (systemInFile b) (kb .whole) (kb .stands)
+
+    pub rights-written : rowsOf (bothSides a (record { base = x .rights; rows = x .parameters }) ta b (record { base = y .rights; rows = y .parameters }) tb) 0 n
+        ≡ mergedOf (systemInFile a) (systemInFile b) .rights
+    rights-written =
+        (λ i. rowsOf (bothSides a (record { base = x .rights; rows = ka .labels-many i }) (l .left-are i) b (record { base = y .rights; rows = kb .labels-many i }) (l .right-are i)) 0 (l .count i))
+        ∙ written-rights a _ _ _ (systemInFile a) (ka .whole) (ka .stands) b _ _ _ (systemInFile b) (kb .whole) (kb .stands)
+
+    -- ---- that may be added
+    module _ (accepted : mergeNumber (systemInFile a) (systemInFile b) ≡ 0) where
+      few : length (systemInFile a .arcs) + length (systemInFile b .arcs) ≤ 16
+      few = arcs-together (systemInFile a) (systemInFile b) (ka .whole) (kb .whole) (mergeable (systemInFile a) (systemInFile b) accepted)
+
+      pub matrix-adds : AddableBoth a (x .matrix) (tri (length ta)) b (y .matrix) (tri (length tb))
+      matrix-adds =
+          subst (λ r. AddableBoth a (x .matrix) (tri (length r)) b (y .matrix) (tri (length tb))) (sym (l .left-are))
+          (subst (λ r. AddableBoth a (x .matrix) (tri (length (seats u (keysOf (systemInFile a))))) b (y .matrix) (tri (length r))) (sym (l .right-are))
+          (matrix-addable a _ _ _ (systemInFile a) (ka .whole) (ka .stands) b _ _ _ (systemInFile b) (kb .whole) (kb .stands) few))
+
+      pub rights-add : AddableBoth a (x .rights) (x .parameters) b (y .rights) (y .parameters)
+      rights-add =
+          subst (λ m. AddableBoth a (x .rights) m b (y .rights) (y .parameters)) (sym (ka .labels-many))
+          (subst (λ m. AddableBoth a (x .rights) (length (systemInFile a .labels)) b (y .rights) m) (sym (kb .labels-many))
+          (rights-addable a _ _ _ (systemInFile a) (ka .whole) (ka .stands) b _ _ _ (systemInFile b) (kb .whole) (kb .stands) few))
+
+  -- ---- the places that are found: the front of each room
+  module _ (left right : List ℕ) (n : ℕ) (j : Joined a b n left right) (room₀ room : List ℕ) (h : n ≤ length room₀) (m : ℕ) where
+    pub left-found : m ≡ length (numbersWhere (listedAt left (x .parameters)) 0 n) → room ≡ lay room₀ 0 (numbersWhere (listedAt left (x .parameters)) 0 n)
+        → (m ≤ length room) × (take m room ≡ seats u (keysOf (systemInFile a)))
+    left-found = found a x ka u up in-left n (j .count) left (j .left-placed) m room₀ room h
+
+    pub right-found : m ≡ length (numbersWhere (listedAt right (y .parameters)) 0 n) → room ≡ lay room₀ 0 (numbersWhere (listedAt right (y .parameters)) 0 n)
+        → (m ≤ length room) × (take m room ≡ seats u (keysOf (systemInFile b)))
+    right-found = found b y kb u up in-right n (j .count) right (j .right-placed) m room₀ room h

@@ -14,6 +14,7 @@ use Rattle.norm_read.specs.Normal.{Normal, readNormal}
 use Rattle.norm_read.specs.declared.NormalRead.{NormalRead}
 use Rattle.merge_join.specs.Join.{union, share, SeatedAt}
 use Rattle.norm_labels.specs.Labels.{keysOf}
+use Rattle.norm_labels.specs.Seats.{seats}
 
 -- ---- a file that is accepted
 abbrev pub noNormal : Normal
@@ -52,6 +53,12 @@ pub record Joined (a b : List ℕ) (n : ℕ) (left right : List ℕ) : Type 0 wh
   pub right-placed : SeatedAt (keysOf (systemInFile b)) (union (keysOf (systemInFile a)) (keysOf (systemInFile b))) right
   pub left-long : n ≤ length left
   pub right-long : n ≤ length right
+
+-- the place of each label of the two files among those joined
+pub record Located (a b : List ℕ) (n : ℕ) (ta tb : List ℕ) : Type 0 where
+  pub count : n ≡ length (union (keysOf (systemInFile a)) (keysOf (systemInFile b)))
+  pub left-are : ta ≡ seats (union (keysOf (systemInFile a)) (keysOf (systemInFile b))) (keysOf (systemInFile a))
+  pub right-are : tb ≡ seats (union (keysOf (systemInFile a)) (keysOf (systemInFile b))) (keysOf (systemInFile b))
 
 -- two files whose arcs may be united to m
 pub record ArcsFit (a b : List ℕ) (m : ℕ) : Type 0 where

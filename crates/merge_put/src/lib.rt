@@ -1,5 +1,5 @@
 // Inner to `merge`: the arcs and labels of two normal files that were read, joined, and the merged file written into lent bytes.
-use merge_sums::Column;
+use norm_add::Column;
 use norm_read::NormalRead;
 use num_limits::ARCS_MOST;
 use num_limits::LABELS_MOST;
@@ -14,7 +14,7 @@ ghost use Rattle.norm_kinds.specs.Kinds.{arcNumberBytes};
 ghost use Rattle.norm_kinds.specs.Bytes.{normalBytes};
 ghost use Rattle.merge_join.specs.Join.{union};
 ghost use Rattle.merge_laws.specs.Merge.{mergedOf, mergeNumber};
-ghost use Rattle.merge_put.specs.Parts.{systemInFile, AsRead, Joined, ArcsFit, headBytes, middleBytes, lastBytes};
+ghost use Rattle.merge_put.specs.Parts.{systemInFile, AsRead, Joined, Located, ArcsFit, headBytes, middleBytes, lastBytes};
 
 // ---- arcs and labels joined
 
@@ -112,7 +112,41 @@ fn put_heads(
     );
 }
 
-// Matrix sums and right sides, each after their count, from a place of the room on.
+// Matrix sums and right sides, each after their count, from a place of the room on; each file's are added at the places of its labels.
+fn put_added(
+    out: &mut [u8],
+    at: usize,
+    a: &[u8],
+    x: NormalRead,
+    ta: &[usize],
+    b: &[u8],
+    y: NormalRead,
+    tb: &[usize],
+    n: usize,
+)
+    requires { ⌜ AsRead (now a) x × AsRead (now b) y ⌝ }
+    requires { ⌜ (mergeNumber (systemInFile (now a)) (systemInFile (now b)) ≡ 0) × Located (now a) (now b) n (now ta) (now tb) ⌝ }
+    requires { ⌜ at + 8 + 8 * tri n + 8 * n ≤ length (now out) ⌝ }
+    ensures { λ _. ⌜ now (out .exit) ≡ lay (now (out .entry)) at (middleBytes (mergedOf (systemInFile (now (a .entry))) (systemInFile (now (b .entry))))) ⌝ }
+{
+    let mut room: [i64; LABELS_MOST] = [0; LABELS_MOST];
+    let sums = num_packed::triangle(n);
+    byte_write::write_u32(out, at, sums as u32);
+    merge_sums::put_columns(out, at + 4, n, a, x.matrix, ta, b, y.matrix, tb, &mut room);
+    let next = at + 4 + 8 * sums;
+    byte_write::write_u32(out, next, n as u32);
+    let c = Column {
+        base: x.rights,
+        rows: x.parameters,
+    };
+    let d = Column {
+        base: y.rights,
+        rows: y.parameters,
+    };
+    merge_sums::put_sides(out, next + 4, a, c, ta, b, d, tb, &mut room[..n]);
+}
+
+// The places of each file's labels among those joined, found once; then its sums.
 fn put_middle(
     out: &mut [u8],
     at: usize,
@@ -129,32 +163,11 @@ fn put_middle(
     requires { ⌜ at + 8 + 8 * tri n + 8 * n ≤ length (now out) ⌝ }
     ensures { λ _. ⌜ now (out .exit) ≡ lay (now (out .entry)) at (middleBytes (mergedOf (systemInFile (now (a .entry))) (systemInFile (now (b .entry))))) ⌝ }
 {
-    let sums = num_packed::triangle(n);
-    byte_write::write_u32(out, at, sums as u32);
-    merge_sums::put_columns(
-        out,
-        at + 4,
-        n,
-        a,
-        x.matrix,
-        x.parameters,
-        left,
-        b,
-        y.matrix,
-        y.parameters,
-        right,
-    );
-    let next = at + 4 + 8 * sums;
-    byte_write::write_u32(out, next, n as u32);
-    let c = Column {
-        base: x.rights,
-        rows: x.parameters,
-    };
-    let d = Column {
-        base: y.rights,
-        rows: y.parameters,
-    };
-    merge_sums::put_sums(out, next + 4, n, a, c, left, b, d, right);
+    let mut ta: [usize; LABELS_MOST] = [0; LABELS_MOST];
+    let mut tb: [usize; LABELS_MOST] = [0; LABELS_MOST];
+    let p = merge_locate::locate(left, n, x.parameters, &mut ta);
+    let q = merge_locate::locate(right, n, y.parameters, &mut tb);
+    put_added(out, at, a, x, &ta[..p], b, y, &tb[..q], n);
 }
 
 // The totals after their count, from a place of the room on.

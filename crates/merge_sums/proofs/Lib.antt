@@ -1,2 +1,2 @@
 pub mod Writing
-pub mod Held
+pub mod Both

@@ -1,56 +1,66 @@
-// Inner to `merge_put`: the sums of two normal files, added at the places of their united labels and written into lent bytes.
+// Inner to `merge_put`: the sums of two normal files, added column by column in lent room and written into lent bytes.
+use norm_add::Column;
 ghost use mathlib.Core.Path.{_≡_};
-ghost use Prim.Native.Nat.{_+_, _*_, _^_, _≤_, _<_};
-ghost use lib.IntN.{_+ℤ_, natAbs};
-ghost use lib.ListN.{length};
+ghost use mathlib.Core.Bool.{true};
+ghost use Prim.Native.Nat.{ℕ, _+_, _*_, _≤_, _<_};
+ghost use lib.ListN.{length, getD};
 ghost use mir.Syntax.{w64};
 ghost use Rattle.num_limits.specs.Capacities.{labelsMost};
 ghost use Rattle.byte_words.specs.Words.{lay, signedBytes};
 ghost use Rattle.byte_section.specs.Section.{encoded};
 ghost use Rattle.num_packed.specs.Triangle.{tri};
+ghost use Rattle.norm_labels.specs.Seats.{ascending};
 ghost use Rattle.norm_labels.specs.Table.{rowsOf, columnsOf};
-ghost use Rattle.merge_sums.specs.Columns.{heldAt, columnAt, bothAt, crossAt, SmallSums, SmallAll};
+ghost use Rattle.norm_add.specs.Add.{Passed};
+ghost use Rattle.merge_sums.specs.Both.{bothPlaces, bothSides, AddableBoth};
 
-// Sums that stand one after the other in a file's bytes: where the first begins, and how many there are.
-pub struct Column {
-    pub base: usize,
-    pub rows: usize,
+// ---- both files together
+
+// How many columns of each file are done.
+pub struct ColumnsDone {
+    pub left: usize,
+    pub right: usize,
 }
 
-// The ith sum, 0 past them.
-fn sum_at(s: &[u8], c: Column, i: usize) -> i64
-    requires { ⌜ c .base + 8 * c .rows ≤ length (now s) ⌝ }
-    ensures { λ r. ⌜ r ≡ heldAt (now (s .entry)) c i ⌝ }
+// Column j of both files together, in room of just its length.
+fn join_column(
+    col: &mut [i64],
+    j: usize,
+    a: &[u8],
+    start: usize,
+    ta: &[usize],
+    b: &[u8],
+    begin: usize,
+    tb: &[usize],
+    d: ColumnsDone,
+) -> ColumnsDone
+    requires { ⌜ (j + 1 ≡ length (now col)) × Passed (now ta) j (d .left) × Passed (now tb) j (d .right) ⌝ }
+    requires { ⌜ (ascending (now ta) ≡ true) × (length (now ta) ≤ labelsMost) × (start + 8 * tri (length (now ta)) ≤ length (now a)) ⌝ }
+    requires { ⌜ (ascending (now tb) ≡ true) × (length (now tb) ≤ labelsMost) × (begin + 8 * tri (length (now tb)) ≤ length (now b)) ⌝ }
+    requires { ⌜ AddableBoth (now a) start (tri (length (now ta))) (now b) begin (tri (length (now tb))) ⌝ }
+    ensures { λ r. ⌜ (now (col .exit) ≡ rowsOf (λ i. bothPlaces (now (a .entry)) start (now (ta .entry)) (now (b .entry)) begin (now (tb .entry)) i j) 0 (j + 1)) × Passed (now (ta .entry)) (j + 1) (r .left) × Passed (now (tb .entry)) (j + 1) (r .right) ⌝ }
 {
-    if i < c.rows {
-        return norm_sum::sum_from(s, c.base + 8 * i);
-    }
-    0
+    let n = col.len();
+    take_room::clear(col, n);
+    let p = norm_add::add_next(col, a, start, ta, d.left, j);
+    let q = norm_add::add_next(col, b, begin, tb, d.right, j);
+    ColumnsDone { left: p, right: q }
 }
 
-// Column j of the n that begin at a place.
-fn column_at(start: usize, n: usize, j: usize) -> Column
-    requires { ⌜ (n ≤ labelsMost) × (start + 8 * tri n < 2 ^ 63) ⌝ }
-    ensures { λ r. ⌜ r ≡ columnAt start n j ⌝ }
+// The right sides of both files together, in room of just their number.
+fn join_sides(col: &mut [i64], a: &[u8], c: Column, ta: &[usize], b: &[u8], d: Column, tb: &[usize])
+    requires { ⌜ (c .base + 8 * c .rows ≤ length (now a)) × (c .rows ≤ length (now ta)) × (ascending (now ta) ≡ true) × ((i : ℕ) → i < c .rows → getD (now ta) i 0 < length (now col)) ⌝ }
+    requires { ⌜ (d .base + 8 * d .rows ≤ length (now b)) × (d .rows ≤ length (now tb)) × (ascending (now tb) ≡ true) × ((i : ℕ) → i < d .rows → getD (now tb) i 0 < length (now col)) ⌝ }
+    requires { ⌜ AddableBoth (now a) (c .base) (c .rows) (now b) (d .base) (d .rows) ⌝ }
+    ensures { λ _. ⌜ now (col .exit) ≡ rowsOf (bothSides (now (a .entry)) c (now (ta .entry)) (now (b .entry)) d (now (tb .entry))) 0 (length (now (col .entry))) ⌝ }
 {
-    if j < n {
-        return Column {
-            base: start + 8 * num_packed::triangle(j),
-            rows: j + 1,
-        };
-    }
-    Column {
-        base: start,
-        rows: 0,
-    }
+    let n = col.len();
+    take_room::clear(col, n);
+    norm_add::add_column(col, a, c, ta);
+    norm_add::add_column(col, b, d, tb);
 }
 
-fn plus(x: i64, y: i64) -> i64
-    requires { ⌜ (natAbs x < 2 ^ 62) × (natAbs y < 2 ^ 62) ⌝ }
-    ensures { λ r. ⌜ r ≡ x +ℤ y ⌝ }
-{
-    x + y
-}
+// ---- written
 
 // A sum put where its bytes have room, into a part of just them, so that nothing is tested.
 fn put_sum(out: &mut [u8], at: usize, x: i64)
@@ -61,82 +71,70 @@ fn put_sum(out: &mut [u8], at: usize, x: i64)
     byte_signed::write_i64(&mut out[at..e], 0, x);
 }
 
-// The sums of both at the first `count` united labels.
-pub fn put_sums(
-    out: &mut [u8],
-    at: usize,
-    count: usize,
-    a: &[u8],
-    c: Column,
-    left: &[usize],
-    b: &[u8],
-    d: Column,
-    right: &[usize],
-)
-    requires { ⌜ (c .base + 8 * c .rows ≤ length (now a)) × (d .base + 8 * d .rows ≤ length (now b)) ⌝ }
-    requires { ⌜ SmallSums (now a) c × SmallSums (now b) d ⌝ }
-    requires { ⌜ (count ≤ length (now left)) × (count ≤ length (now right)) × (at + 8 * count ≤ length (now out)) ⌝ }
-    ensures { λ _. ⌜ now (out .exit) ≡ lay (now (out .entry)) at (encoded (signedBytes w64) (rowsOf (bothAt (now (a .entry)) c (now (left .entry)) (now (b .entry)) d (now (right .entry))) 0 count)) ⌝ }
+// Sums one after the other.
+fn put_column(out: &mut [u8], at: usize, col: &[i64])
+    requires { ⌜ at + 8 * length (now col) ≤ length (now out) ⌝ }
+    ensures { λ _. ⌜ now (out .exit) ≡ lay (now (out .entry)) at (encoded (signedBytes w64) (now (col .entry))) ⌝ }
 {
     let mut k = at;
     let mut i: usize = 0;
-    while i < count {
-        let x = sum_at(a, c, left[i]);
-        let y = sum_at(b, d, right[i]);
-        put_sum(out, k, plus(x, y));
+    while i < col.len() {
+        let x = col[i];
+        put_sum(out, k, x);
         k += 8;
         i += 1;
     }
 }
 
-// Column j of the united triangle.
-fn put_column(
-    out: &mut [u8],
-    at: usize,
-    j: usize,
-    a: &[u8],
-    start: usize,
-    n: usize,
-    left: &[usize],
-    b: &[u8],
-    begin: usize,
-    m: usize,
-    right: &[usize],
-)
-    requires { ⌜ (n ≤ labelsMost) × (start + 8 * tri n ≤ length (now a)) × SmallAll (now a) start n ⌝ }
-    requires { ⌜ (m ≤ labelsMost) × (begin + 8 * tri m ≤ length (now b)) × SmallAll (now b) begin m ⌝ }
-    requires { ⌜ (j < length (now left)) × (j < length (now right)) × (at + 8 * (j + 1) ≤ length (now out)) ⌝ }
-    ensures { λ _. ⌜ now (out .exit) ≡ lay (now (out .entry)) at (encoded (signedBytes w64) (rowsOf (λ i. crossAt (now (a .entry)) start n (now (left .entry)) (now (b .entry)) begin m (now (right .entry)) i j) 0 (j + 1))) ⌝ }
-{
-    let c = column_at(start, n, left[j]);
-    let d = column_at(begin, m, right[j]);
-    put_sums(out, at, j + 1, a, c, left, b, d, right);
-}
-
-// The united triangle, column by column.
+// The triangle of both files together, column by column; the room is left with the last column.
 pub fn put_columns(
     out: &mut [u8],
     at: usize,
     count: usize,
     a: &[u8],
     start: usize,
-    n: usize,
-    left: &[usize],
+    ta: &[usize],
     b: &[u8],
     begin: usize,
-    m: usize,
-    right: &[usize],
+    tb: &[usize],
+    room: &mut [i64],
 )
-    requires { ⌜ (n ≤ labelsMost) × (start + 8 * tri n ≤ length (now a)) × SmallAll (now a) start n ⌝ }
-    requires { ⌜ (m ≤ labelsMost) × (begin + 8 * tri m ≤ length (now b)) × SmallAll (now b) begin m ⌝ }
-    requires { ⌜ (count ≤ length (now left)) × (count ≤ length (now right)) × (at + 8 * tri count ≤ length (now out)) ⌝ }
-    ensures { λ _. ⌜ now (out .exit) ≡ lay (now (out .entry)) at (encoded (signedBytes w64) (columnsOf (crossAt (now (a .entry)) start n (now (left .entry)) (now (b .entry)) begin m (now (right .entry))) 0 count)) ⌝ }
+    requires { ⌜ (count ≤ labelsMost) × (count ≤ length (now room)) × (at + 8 * tri count ≤ length (now out)) ⌝ }
+    requires { ⌜ (ascending (now ta) ≡ true) × (length (now ta) ≤ labelsMost) × (start + 8 * tri (length (now ta)) ≤ length (now a)) ⌝ }
+    requires { ⌜ (ascending (now tb) ≡ true) × (length (now tb) ≤ labelsMost) × (begin + 8 * tri (length (now tb)) ≤ length (now b)) ⌝ }
+    requires { ⌜ AddableBoth (now a) start (tri (length (now ta))) (now b) begin (tri (length (now tb))) ⌝ }
+    ensures { λ _. ⌜ now (out .exit) ≡ lay (now (out .entry)) at (encoded (signedBytes w64) (columnsOf (bothPlaces (now (a .entry)) start (now (ta .entry)) (now (b .entry)) begin (now (tb .entry))) 0 count)) ⌝ }
 {
+    let mut d = ColumnsDone { left: 0, right: 0 };
     let mut k = at;
     let mut j: usize = 0;
     while j < count {
-        put_column(out, k, j, a, start, n, left, b, begin, m, right);
-        k += 8 * (j + 1);
-        j += 1;
+        let e = j + 1;
+        d = join_column(&mut room[..e], j, a, start, ta, b, begin, tb, d);
+        put_column(out, k, &room[..e]);
+        k += 8 * e;
+        j = e;
     }
+}
+
+// The right sides of both files together, which the room is left with.
+pub fn put_sides(
+    out: &mut [u8],
+    at: usize,
+    a: &[u8],
+    c: Column,
+    ta: &[usize],
+    b: &[u8],
+    d: Column,
+    tb: &[usize],
+    room: &mut [i64],
+)
+    requires { ⌜ at + 8 * length (now room) ≤ length (now out) ⌝ }
+    requires { ⌜ (c .base + 8 * c .rows ≤ length (now a)) × (c .rows ≤ length (now ta)) × (ascending (now ta) ≡ true) × ((i : ℕ) → i < c .rows → getD (now ta) i 0 < length (now room)) ⌝ }
+    requires { ⌜ (d .base + 8 * d .rows ≤ length (now b)) × (d .rows ≤ length (now tb)) × (ascending (now tb) ≡ true) × ((i : ℕ) → i < d .rows → getD (now tb) i 0 < length (now room)) ⌝ }
+    requires { ⌜ AddableBoth (now a) (c .base) (c .rows) (now b) (d .base) (d .rows) ⌝ }
+    ensures { λ _. ⌜ now (out .exit) ≡ lay (now (out .entry)) at (encoded (signedBytes w64) (rowsOf (bothSides (now (a .entry)) c (now (ta .entry)) (now (b .entry)) d (now (tb .entry))) 0 (length (now (room .entry))))) ⌝ }
+{
+    join_sides(room, a, c, ta, b, d, tb);
+    put_column(out, at, room);
 }

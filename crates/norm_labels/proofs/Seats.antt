@@ -26,7 +26,7 @@ module _ (x k : ℕ) (l : List ℕ) where
   unfolding has either
   has-first e = rw (is-same x k e)
 
-  has-later : (x ≡ k → ⊥) → has k (x ∷ l) ≡ has k l
+  pub has-later : (x ≡ k → ⊥) → has k (x ∷ l) ≡ has k l
   unfolding has either
   has-later e = rw (not-same x k e)
 

@@ -140,7 +140,7 @@ plus-append (x ∷ a) b (z ∷ c) d e = ap (λ l. (x +ℤ z) ∷ l) (plus-append
     one-less : suc (length a) ≡ suc (length c) → length a ≡ length c
     one-less e = omega arith
 
-plus-rows : (f g : ℕ → ℤ) (i m : ℕ) → plus (rowsOf f i m) (rowsOf g i m) ≡ rowsOf (λ a. f a +ℤ g a) i m
+pub plus-rows : (f g : ℕ → ℤ) (i m : ℕ) → plus (rowsOf f i m) (rowsOf g i m) ≡ rowsOf (λ a. f a +ℤ g a) i m
 unfolding plus rowsOf
 plus-rows f g i zero = refl
 plus-rows f g i (suc m) = ap (λ l. (f i +ℤ g i) ∷ l) (plus-rows f g (suc i) m)

@@ -1,37 +1,30 @@
--- `merge_put::put_middle` meets its contract: two sections, one after the other.
+-- `merge_put::put_middle` meets its contract: the fronts of two rooms are the places of the labels.
 -- Assumes nothing.
-use mathlib.Core.Path.{refl}
+use mathlib.Core.Path.{_≡_}
 use Prim.Native.Nat.{_≤_}
 use native.Mathlib.Omega.{arith}
+use lib.ListN.{length, take}
+use Rattle.norm_labels.specs.Labels.{keysOf}
+use Rattle.norm_labels.specs.Seats.{seats}
+use Rattle.merge_join.specs.Join.{union}
 use Rattle.merge_laws.proofs.Numbers.{mergeable}
+use Rattle.merge_put.specs.Parts.{systemInFile}
 use Rattle.merge_put.proofs.Known.{Known, known}
-use Rattle.merge_put.proofs.Sums.{matrix-small, rights-small}
-use Rattle.merge_put.proofs.Steps.{middle-put}
+use Rattle.merge_put.proofs.Loaded.{part-long}
+use Rattle.merge_put.proofs.Sums.{left-found, right-found}
 use borrow.Author.Needs.{needs}
 use Rattle.merge_put.proofs.put_middle.Statement.{statement}
 use Rattle.merge_put.proofs.put_middle.Tie as tie
 
 -- Views: from one place of the code to an earlier one. A statement put between two of them changes one line here.
-abbrev start-of-sums : tie.After-triangle → tie.Start
-start-of-sums c = c .before .before .before .before .before .before
+abbrev start-of-left : tie.After-locate → tie.Start
+start-of-left c = c .before .before .before .before .before .before .before
 
-abbrev sums-of-sum-count : tie.After-write-u32 → tie.After-triangle
-sums-of-sum-count c = c .before .before
+abbrev left-of-right : tie.After-locate2 → tie.After-locate
+left-of-right c = c .before .before .before
 
-abbrev sum-count-of-columns : tie.After-put-columns → tie.After-write-u32
-sum-count-of-columns c = c .before .before .before .before
-
-abbrev columns-of-right-count : tie.After-write-u322 → tie.After-put-columns
-columns-of-right-count c = c .before .before .before .before
-
-abbrev sums-of-right-count : tie.After-write-u322 → tie.After-triangle
-sums-of-right-count c = sums-of-sum-count (sum-count-of-columns (columns-of-right-count c))
-
-abbrev start-of-right-count : tie.After-write-u322 → tie.Start
-start-of-right-count c = start-of-sums (sums-of-right-count c)
-
-abbrev right-count-of-rights : tie.After-put-sums → tie.After-write-u322
-right-count-of-rights c = c .before .before .before .before
+abbrev start-of-right : tie.After-locate2 → tie.Start
+start-of-right c = start-of-left (left-of-right c)
 
 kx : (c : tie.Start) → Known (c .args .a .now) (c .args .x)
 kx c = known _ _ (c .pre .0 .0)
@@ -42,81 +35,70 @@ ky c = known _ _ (c .pre .0 .1)
 few : (c : tie.Start) → c .args .n ≤ 500
 few c = omega (arith, c .pre .1 .0 .1 .count, mergeable _ _ (c .pre .1 .0 .0) .labels-fit)
 
-triangle-requires : tie.Need-triangle-requires
-triangle-requires c κs = few (c .before .before .before .before .before)
+-- the front of each room is the places of the file's labels
+left-part : (c : tie.After-locate) → let s = start-of-left c in let room = c .locate .last .1 .1 .1 .0 in let m = c .locate .result in (m ≤ length room) × (take m room ≡ seats (union (keysOf (systemInFile (s .args .a .now))) (keysOf (systemInFile (s .args .b .now)))) (keysOf (systemInFile (s .args .a .now))))
+left-part c =
+    let s = start-of-left c in
+    left-found _ _ (kx s) _ _ (ky s) _ _ _ (s .pre .1 .0 .1) _ _ (few s) _ (c .locate .ensures .0) (c .locate .ensures .1)
 
-cast-write-u32 : tie.Need-cast-write-u32
-cast-write-u32 c = search needs
+right-part : (c : tie.After-locate2) → let s = start-of-right c in let room = c .locate2 .last .1 .1 .1 .0 in let m = c .locate2 .result in (m ≤ length room) × (take m room ≡ seats (union (keysOf (systemInFile (s .args .a .now))) (keysOf (systemInFile (s .args .b .now)))) (keysOf (systemInFile (s .args .b .now))))
+right-part c =
+    let s = start-of-right c in
+    right-found _ _ (kx s) _ _ (ky s) _ _ _ (s .pre .1 .0 .1) _ _ (few s) _ (c .locate2 .ensures .0) (c .locate2 .ensures .1)
 
-write-u32-requires : tie.Need-write-u32-requires
-write-u32-requires c κs = search needs
+slice-aggregate-locate : tie.Need-slice-aggregate-locate
+slice-aggregate-locate c = search needs
 
-add-put-columns : tie.Need-add-put-columns
-add-put-columns c = search needs
+locate-requires : tie.Need-locate-requires
+locate-requires c κs = let s = c .before .before .before .before .before .before in (s .pre .1 .0 .1 .left-long, few s)
 
-put-columns-requires : tie.Need-put-columns-requires
-put-columns-requires c κs =
-    let s = start-of-sums (sums-of-sum-count (c .before .before .before)) in
-    let k = kx s in
-    let l = ky s in
-    let j = s .pre .1 .0 .1 in
-    let small = matrix-small _ _ k _ _ l (s .pre .1 .0 .0) in (
-      (k .few-labels, k .matrix-end, small .0),
-      ((l .few-labels, l .matrix-end, small .1), (j .left-long, j .right-long, omega arith)),
-    )
+slice-aggregate-locate-2 : tie.Need-slice-aggregate-locate-2
+slice-aggregate-locate-2 c = search needs
 
-add-next : tie.Need-add-next
-add-next c = search needs
+locate-requires-2 : tie.Need-locate-requires-2
+locate-requires-2 c κs = let s = start-of-left (c .before .before) in (s .pre .1 .0 .1 .right-long, few s)
 
-mul-next : tie.Need-mul-next
-mul-next c = search needs
+array-share-prefix-ta : tie.Need-array-share-prefix-ta
+array-share-prefix-ta c = left-part (left-of-right (c .before .before)) .0
 
-add-next-2 : tie.Need-add-next-2
-add-next-2 c = search needs
+slice-aggregate-put-added : tie.Need-slice-aggregate-put-added
+slice-aggregate-put-added c = part-long _ _ (left-part (left-of-right (c .before .before .before)) .0)
 
-cast-write-u32-2 : tie.Need-cast-write-u32-2
-cast-write-u32-2 c = omega (arith, few (start-of-sums (sums-of-sum-count (sum-count-of-columns (c .before .before .before)))))
+array-share-prefix-tb : tie.Need-array-share-prefix-tb
+array-share-prefix-tb c = right-part (c .before .before .before) .0
 
-write-u32-requires-2 : tie.Need-write-u32-requires-2
-write-u32-requires-2 c κs = search needs
+slice-aggregate-put-added-2 : tie.Need-slice-aggregate-put-added-2
+slice-aggregate-put-added-2 c = part-long _ _ (right-part (c .before .before .before .before) .0)
 
-add-put-sums : tie.Need-add-put-sums
-add-put-sums c = search needs
-
-put-sums-requires : tie.Need-put-sums-requires
-put-sums-requires c κs =
-    let k = kx (start-of-right-count (c .before .before .before)) in
-    let l = ky (start-of-right-count (c .before .before .before)) in
-    let j = start-of-right-count (c .before .before .before) .pre .1 .0 .1 in
-    let small = rights-small _ _ k _ _ l (start-of-right-count (c .before .before .before) .pre .1 .0 .0) in (
-      (k .rights-end, l .rights-end),
-      (small, (j .left-long, j .right-long, omega (arith, sums-of-right-count (c .before .before .before) .triangle .ensures .0))),
+put-added-requires : tie.Need-put-added-requires
+put-added-requires c κs =
+    let right = c .before .before .before .before in
+    let s = start-of-right right in (
+      s .pre .0,
+      (
+        (s .pre .1 .0 .0, record { count = s .pre .1 .0 .1 .count; left-are = left-part (left-of-right right) .1; right-are = right-part right .1 }),
+        s .pre .1 .1,
+      ),
     )
 
 same-length : tie.Need-same-length
 same-length c = search needs
 
 returns : tie.Need-returns
-returns c =
-    let rights = c .before .before in let right-count = right-count-of-rights rights in let columns = columns-of-right-count right-count in let sum-count = sum-count-of-columns columns in let sums = sums-of-sum-count sum-count in let s = start-of-sums sums in
-    middle-put _ _ (kx s) _ _ (ky s) _ _ _ (s .pre .1 .0 .1) _ _ _ _ _ _ _ _ (sums .triangle .ensures .0) refl
-    (sum-count .write-u32 .ensures) (columns .put-columns .ensures) (right-count .write-u322 .ensures) (rights .put-sums .ensures)
+returns c = search needs
 
 pub put-middle-spec : {M : Type 1} → statement M
 put-middle-spec =
     tie.close
     (tie.spec
-    triangle-requires
-    cast-write-u32
-    write-u32-requires
-    add-put-columns
-    put-columns-requires
-    add-next
-    mul-next
-    add-next-2
-    cast-write-u32-2
-    write-u32-requires-2
-    add-put-sums
-    put-sums-requires
+    slice-aggregate-locate
+    locate-requires
+    slice-aggregate-locate-2
+    locate-requires-2
+    array-share-prefix-ta
+    slice-aggregate-put-added
+    array-share-prefix-tb
+    slice-aggregate-put-added-2
+    put-added-requires
     same-length
     returns)

@@ -1,77 +1,83 @@
--- `merge_sums::put_column` meets its contract: the two columns are those of the files' triangles.
+-- `merge_sums::put_column` meets its contract. The loop's invariant: the bytes of the sums left, laid at the place, make the whole.
 -- Assumes nothing.
-use mathlib.Core.Path.{_∙_}
-use Prim.Native.Nat.{_+_}
+use mathlib.Core.Path.{_≡_, refl, sym, ap, _∙_}
+use Prim.Native.Nat.{_≤_, _+_, _-_, _*_}
 use native.Mathlib.Omega.{arith}
-use mir.Syntax.{w64}
-use Rattle.byte_words.specs.Words.{lay, signedBytes}
-use Rattle.byte_section.specs.Section.{encoded}
-use Rattle.norm_labels.specs.Table.{rowsOf}
-use Rattle.merge_sums.specs.Columns.{bothAt, crossAt}
-use Rattle.merge_sums.proofs.Held.{column-fits, column-keeps}
 use borrow.Author.Needs.{needs}
+use lib.IntN.{pos}
+use lib.ListN.{length, getD, drop}
+use mir.Syntax.{w64}
+use mir.ValLaws.{toZ-ofZ}
+use Rattle.byte_words.specs.Words.{lay, signedBytes}
+use Rattle.byte_words.proofs.Words.{length-lay}
+use Rattle.merge_sums.proofs.Writing.{bytesIn}
+use Rattle.merge_sums.proofs.Both.{bytes-end, bytes-turn}
 use Rattle.merge_sums.proofs.put_column.Statement.{statement}
 use Rattle.merge_sums.proofs.put_column.Tie as tie
 
--- Views: from one place of the code to an earlier one. A statement put between two of them changes one line here.
-abbrev start-of-column : tie.After-column-at → tie.Start
-start-of-column c = c .before .before .before .before .before .before .before
+abbrev Inv-loop : tie.InvT-loop
+Inv-loop out₀ at col k₀ i₀ out k i =
+    (i ≤ length col) × (k ≡ at + 8 * i) × (length out ≡ length out₀) × (lay out₀ at (bytesIn col) ≡ lay out k (bytesIn (drop i col)))
 
-mul-column-at : tie.Need-mul-column-at
-mul-column-at c = search needs
+abbrev μ-loop : tie.MeasureT-loop
+μ-loop out₀ at col k₀ i₀ out k i = length col - i
 
-shared-slice-read-column-at : tie.Need-shared-slice-read-column-at
-shared-slice-read-column-at c = search needs
+loop-holds : tie.Need-loop-holds Inv-loop μ-loop
+loop-holds c = (omega arith, omega arith, refl, refl)
 
-column-at-requires : tie.Need-column-at-requires
-column-at-requires c κs = search needs
+mul-x : tie.Need-mul-x Inv-loop μ-loop
+mul-x c = search needs
 
-mul-column-at-2 : tie.Need-mul-column-at-2
-mul-column-at-2 c = search needs
+shared-slice-copy-out-x : tie.Need-shared-slice-copy-out-x Inv-loop μ-loop
+shared-slice-copy-out-x c = search needs
 
-shared-slice-read-column-at-2 : tie.Need-shared-slice-read-column-at-2
-shared-slice-read-column-at-2 c = search needs
+put-sum-requires : tie.Need-put-sum-requires Inv-loop μ-loop
+put-sum-requires c κs = search needs
 
-column-at-requires-2 : tie.Need-column-at-requires-2
-column-at-requires-2 c κs = search needs
+add-k : tie.Need-add-k Inv-loop μ-loop
+add-k c = search needs
 
-add-put-sums : tie.Need-add-put-sums
-add-put-sums c = search needs
+add-i : tie.Need-add-i Inv-loop μ-loop
+add-i c = search needs
 
-put-sums-requires : tie.Need-put-sums-requires
-put-sums-requires c κs =
-    let p = start-of-column (c .before .before .before) .pre in
-    let x = c .before .before .before .column-at in
-    let y = c .before .column-at2 in (
-      (column-fits _ _ _ (x .result) _ (x .ensures) (p .0 .1), column-fits _ _ _ (y .result) _ (y .ensures) (p .1 .0 .1)),
-      (
-        (column-keeps _ _ _ (x .result) _ (x .ensures) (p .0 .2), column-keeps _ _ _ (y .result) _ (y .ensures) (p .1 .0 .2)),
-        (omega arith, omega arith, omega arith),
-      ),
+loop-less : tie.Need-loop-less Inv-loop μ-loop
+loop-less c = search needs
+
+loop-again : tie.Need-loop-again Inv-loop μ-loop
+loop-again c =
+    let l = c .before .before .before .before .before .before .loop in
+    let s = c .before .before .before .before .before .before .before .before in
+    let x = getD (s .args .col .now) (l .i) (pos 0) in
+    let e : c .before .before .put-sum .last .0 ≡ lay (l .out) (l .k) (signedBytes w64 x) =
+    c .before .before .put-sum .ensures ∙ ap (λ z. lay (l .out) (l .k) (signedBytes w64 z)) (toZ-ofZ w64 x (search needs)) in (
+      omega arith,
+      omega (arith, l .inv .1),
+      ap length e ∙ length-lay _ _ _ ∙ l .inv .2,
+      l .inv .3 ∙ bytes-turn (l .out) (l .k) (s .args .col .now) (l .i) (omega arith) ∙ ap (λ o. lay o (l .k + 8) (bytesIn (drop (l .i + 1) (s .args .col .now)))) (sym e),
     )
 
-same-length : tie.Need-same-length
+same-length : tie.Need-same-length Inv-loop μ-loop
 same-length c = search needs
 
-returns : tie.Need-returns
-unfolding crossAt
+returns : tie.Need-returns Inv-loop μ-loop
 returns c =
-    let s = start-of-column (c .before .before .before .before .before .before) .args in
-    c .before .before .put-sums .ensures
-    ∙ (λ t. lay (s .out .now) (s .at) (encoded (signedBytes w64)
-    (rowsOf (bothAt (s .a .now) (c .before .before .before .before .before .before .column-at .ensures t) (s .left .now) (s .b .now) (c .before .before .before .before .column-at2 .ensures t) (s .right .now)) 0 (s .j + 1))))
+    let l = c .before .loop in
+    let s = c .before .before .before in
+    sym (l .inv .3 ∙ bytes-end (l .out) (l .k) (s .args .col .now) (l .i) (omega arith))
 
 pub put-column-spec : {M : Type 1} → statement M
 put-column-spec =
     tie.close
     (tie.spec
-    mul-column-at
-    shared-slice-read-column-at
-    column-at-requires
-    mul-column-at-2
-    shared-slice-read-column-at-2
-    column-at-requires-2
-    add-put-sums
-    put-sums-requires
+    Inv-loop
+    μ-loop
+    loop-holds
+    mul-x
+    shared-slice-copy-out-x
+    put-sum-requires
+    add-k
+    add-i
+    loop-less
+    loop-again
     same-length
     returns)

@@ -1,25 +1,25 @@
--- One sum where it stands in a file's bytes: the tests of the code, its size, and the sums of two.
+-- Sums where they stand in a file's bytes: the tests of the code, their size, and a column of a triangle.
 -- Assumes nothing.
-use mathlib.Core.Path.{_≡_, refl, sym, ap, ap₂, _∙_, subst}
+use mathlib.Core.Path.{_≡_, refl, sym, ap, _∙_, subst}
 use mathlib.Core.List.{List}
 use mathlib.Core.Bool.{true}
-use Prim.Native.Nat.{ℕ, suc, _+_, _*_, _^_, _≤_, _<_}
+use Prim.Native.Nat.{ℕ, suc, _+_, _*_, _≤_, _<_, zero-le}
 use native.Mathlib.Numerals.{add-one}
 use native.Mathlib.Omega.{arith}
-use lib.IntN.{ℤ, pos, _+ℤ_, natAbs}
-use lib.ListN.{getD}
+use lib.IntN.{ℤ, pos, natAbs}
+use lib.ListN.{length, getD, List·getD-eq-default}
 use mir.Syntax.{w64}
 use Rattle.num_whole.specs.Tests.{less, upTo}
 use Rattle.num_whole.proofs.Cases.{yes, no, is-less, not-less, less-true, less-false, upTo-true, upTo-false, by-cases}
 use Rattle.byte_words.specs.Words.{signedWord}
+use Rattle.byte_words.proofs.Stands.{length-stands, stands-at}
 use Rattle.num_packed.specs.Triangle.{tri}
 use Rattle.num_packed.specs.Sound.{entry}
 use Rattle.num_packed.proofs.Places.{tri-within}
-use Rattle.norm_sum.specs.Sums.{sumsAt}
-use Rattle.byte_words.proofs.Stands.{stands-at}
 use Rattle.norm_labels.specs.Table.{sumAt}
-use Rattle.merge_sums.specs.Columns.{heldAt, columnAt, bothAt, SmallSums, SmallAll}
-use Rattle.merge_sums.specs.declared.Column.{Column}
+use Rattle.norm_sum.specs.Sums.{sumsAt}
+use Rattle.norm_add.specs.Add.{heldAt, columnAt, SmallSums}
+use Rattle.norm_add.specs.declared.Column.{Column}
 
 module _ (s : List ℕ) (c : Column) (i : ℕ) where
   pub held-there : {z : ℤ} → i < c .rows → z ≡ signedWord w64 s (c .base + 8 * i) → z ≡ heldAt s c i
@@ -30,11 +30,20 @@ module _ (s : List ℕ) (c : Column) (i : ℕ) where
   unfolding heldAt
   held-past h = no _ _ _ (not-less i (c .rows) h) refl
 
-  pub held-small : SmallSums s c → natAbs (heldAt s c i) < 2 ^ 62
-  held-small f =
+  pub held-small : (m : ℕ) → SmallSums s (c .base) (c .rows) m → natAbs (heldAt s c i) ≤ m
+  held-small m f =
       by-cases (less i (c .rows))
-      (λ t. subst (λ z. natAbs z < 2 ^ 62) (held-there (less-true i (c .rows) t) refl) (f i (less-true i (c .rows) t)))
-      (λ t. subst (λ z. natAbs z < 2 ^ 62) (held-past (less-false i (c .rows) t)) (omega arith))
+      (λ t. subst (λ z. natAbs z ≤ m) (held-there (less-true i (c .rows) t) refl) (f i (less-true i (c .rows) t)))
+      (λ t. subst (λ z. natAbs z ≤ m) (held-past (less-false i (c .rows) t)) zero-le)
+
+-- sums as they stand
+pub held-sum : (s : List ℕ) (start n i : ℕ) → heldAt s (record { base = start; rows = n }) i ≡ getD (sumsAt s start n) i (pos 0)
+held-sum s start n i =
+    by-cases (less i n)
+    (λ t. sym (held-there s (record { base = start; rows = n }) i (less-true i n t) refl) ∙ sym (stands-at (signedWord w64 s) 8 n start i (pos 0) (less-true i n t)))
+    (λ t. let h : n ≤ i = less-false i n t in
+    let long : length (sumsAt s start n) ≡ n = length-stands (signedWord w64 s) 8 n start in
+    sym (held-past s (record { base = start; rows = n }) i h) ∙ sym (List·getD-eq-default (sumsAt s start n) (pos 0) (omega arith)))
 
 -- ---- a column
 module _ (start n j : ℕ) where
@@ -61,19 +70,16 @@ module _ (start n j : ℕ) where
   pub column-fits : (c : Column) (long : ℕ) → c ≡ columnAt start n j → start + 8 * tri n ≤ long → c .base + 8 * c .rows ≤ long
   column-fits c long e h = subst (λ d. d .base + 8 * d .rows ≤ long) (sym e) (column-within long h)
 
-  column-small : (s : List ℕ) → SmallAll s start n → SmallSums s (columnAt start n j)
-  column-small s f =
+  pub column-small : (s : List ℕ) (m : ℕ) → SmallSums s start (tri n) m → SmallSums s (columnAt start n j .base) (columnAt start n j .rows) m
+  column-small s m f =
       by-cases (less j n)
-      (λ t. let l : j < n = less-true j n t in subst (SmallSums s) (sym (column-there l)) (λ i h. within l i h))
-      (λ t. subst (SmallSums s) (sym (column-none (less-false j n t))) (λ i h. absurd (omega arith)))
+      (λ t. let l : j < n = less-true j n t in subst (λ c. SmallSums s (c .base) (c .rows) m) (sym (column-there l)) (λ i h. within l i h))
+      (λ t. subst (λ c. SmallSums s (c .base) (c .rows) m) (sym (column-none (less-false j n t))) (λ i h. absurd (omega arith)))
     where
-      within : j < n → (i : ℕ) → i < suc j → natAbs (signedWord w64 s (start + 8 * tri j + 8 * i)) < 2 ^ 62
+      within : j < n → (i : ℕ) → i < suc j → natAbs (signedWord w64 s (start + 8 * tri j + 8 * i)) ≤ m
       within l i h =
           let e : start + 8 * (tri j + i) ≡ start + 8 * tri j + 8 * i = omega arith in
-          subst (λ p. natAbs (signedWord w64 s p) < 2 ^ 62) e (f (tri j + i) (omega (arith, tri-within j n l)))
-
-  pub column-keeps : (c : Column) (s : List ℕ) → c ≡ columnAt start n j → SmallAll s start n → SmallSums s c
-  column-keeps c s e f = subst (SmallSums s) (sym e) (column-small s f)
+          subst (λ p. natAbs (signedWord w64 s p) ≤ m) e (f (tri j + i) (omega (arith, tri-within j n l)))
 
   -- its sums are those of the triangle
   pub column-sum : (s : List ℕ) (i : ℕ) → heldAt s (columnAt start n j) i ≡ sumAt (sumsAt s start (tri n)) n i j
@@ -92,9 +98,3 @@ module _ (start n j : ℕ) where
           let e : start + 8 * tri j + 8 * i ≡ start + 8 * (tri j + i) = omega arith in
           let h : i ≤ j = upTo-true i j u in
           ap (signedWord w64 s) e ∙ sym (stands-at (signedWord w64 s) 8 (tri n) start (tri j + i) (pos 0) (omega (arith, tri-within j n l)))
-
--- ---- the sum of two, as the machine puts it together
-pub both-is : (a : List ℕ) (c : Column) (left b : List ℕ) (d : Column) (right : List ℕ) (i : ℕ) {x y z : ℤ} → z ≡ x +ℤ y → x ≡ heldAt a c (getD left i 0)
-    → y ≡ heldAt b d (getD right i 0) → z ≡ bothAt a c left b d right i
-unfolding bothAt
-both-is a c left b d right i e p q = e ∙ ap₂ (λ u v. u +ℤ v) p q
