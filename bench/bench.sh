@@ -1,6 +1,6 @@
 #!/bin/sh
-# bench.sh [time | count] [taking | normal], bench.sh count parts: the proved code beside the plain C peer, taking records or reading and merging normal
-# files; and an arc file in parts beside one run;
+# bench.sh [time | count] [taking | normal], bench.sh count small, bench.sh count parts: the proved code beside the plain C peer, taking records or reading and merging normal
+# files, `small` those of the small form; and an arc file in parts beside one run;
 # docs/BENCH.md tells what the numbers are.
 #   time   (or nothing) builds the driver at eight placements of the code; each compares all results, then measures times; their ratios
 #   count  prints the executed instructions a record or a sum, exactly: under the kit's emulator where it has one (not on x86-64), and slow,
@@ -11,8 +11,9 @@ cd "$(dirname "$0")/.."
 kit=$(dirname "$(dirname "$(readlink -f "$(command -v rt)")")"); own=$kit/on/$(uname -m); tools=$own/toolchain; out=target/bench
 case ${2:-taking} in
 taking | parts) peer=peer; drive=drive; names='take_run take' ;;
-normal) peer=normal_peer; drive=normal_drive; names='read merge' ;;
-*) echo "usage: bench.sh [time | count] [taking | normal], bench.sh count parts" >&2; exit 2 ;;
+normal) peer=normal_peer; drive=normal_drive; names='read merge'; of=0 ;;
+small) peer=normal_peer; drive=normal_drive; names='read merge'; of=4 ;;
+*) echo "usage: bench.sh [time | count] [taking | normal], bench.sh count small, bench.sh count parts" >&2; exit 2 ;;
 esac
 rt staticlib bench >/dev/null
 mkdir -p $out
@@ -71,8 +72,12 @@ count)
     if [ $drive = drive ]; then
         for p in 1 6 20 50; do echo "$p $(each 4000 0 $p @ 4000) $(each 4000 1 $p @ 4000) $(each 400 2 $p @ 400) $(each 400 3 $p @ 400)"; done
     else
-        for p in 50 200 500; do s=$((p * (p + 3) / 2)); echo "$p $(each $s 0 $p @) $(each $s 1 $p @) $(each $s 2 $p @) $(each $s 3 $p @)"; done
+        # a small file has the sums of all parameters but one in nine
+        for p in 50 200 500; do
+            s=$((p * (p + 3) / 2)); n=$p; [ $of = 0 ] || n=$((p - (p + 4) / 9)); r=$((n * (n + 3) / 2))
+            echo "$p $(each $r $of $p @) $(each $r $((of + 1)) $p @) $(each $s $((of + 2)) $p @) $(each $s $((of + 3)) $p @)"
+        done
     fi | awk -v names="$names" '{ split(names, n); printf "P %d: %s %.1f, c %.1f, ratio %.3f; %s %.1f, c %.1f, ratio %.3f\n", $1, n[1], $3, $2, $3 / $2, n[2], $5, $4, $5 / $4 }'
     ;;
-*) echo "usage: bench.sh [time | count] [taking | normal], bench.sh count parts" >&2; exit 2 ;;
+*) echo "usage: bench.sh [time | count] [taking | normal], bench.sh count small, bench.sh count parts" >&2; exit 2 ;;
 esac

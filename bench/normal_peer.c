@@ -10,7 +10,7 @@ static void put_u32(u8 *p, u32 x) { __builtin_memcpy(p, &x, 4); }
 static void put_u64(u8 *p, u64 x) { __builtin_memcpy(p, &x, 8); }
 static void put_i64(u8 *p, i64 x) { __builtin_memcpy(p, &x, 8); }
 
-struct answer { u64 number, place, arcs, parameters, matrix, rights, totals; };
+struct answer { u64 number, place, arcs, parameters, matrix, rights, totals, stored, small; };
 
 static int refuse(struct answer *r, u64 number, u64 place)
 {
@@ -44,10 +44,11 @@ static int index_ok(u16 kind, u16 index)
 
 static u64 key_at(const u8 *l) { return (u64)u16_at(l) << 48 | (u64)u32_at(l + 4) << 16 | u16_at(l + 2); }
 
-static int label_ok(const u8 *l, const u8 *arcs, usize n)
+/* In the old form the field is 0, in the small one 1 or 2. */
+static int label_ok(const u8 *l, const u8 *arcs, usize n, int small)
 {
-    u32 arc = u32_at(l + 4);
-    if (u32_at(l + 12) != 0 || u32_at(l + 8) > 1073741824 || !index_ok(u16_at(l), u16_at(l + 2)))
+    u32 arc = u32_at(l + 4), field = u32_at(l + 12);
+    if ((small ? field - 1 > 1 : field != 0) || u32_at(l + 8) > 1073741824 || !index_ok(u16_at(l), u16_at(l + 2)))
         return 0;
     if (u16_at(l) <= 2)
         return arc == 0;
@@ -61,7 +62,8 @@ static int label_ok(const u8 *l, const u8 *arcs, usize n)
 static usize unsound(const u8 *s, const struct answer *r)
 {
     const u8 *m = s + r->matrix;
-    usize p = r->parameters;
+    usize p = r->stored;
+    i64 least = (i64)r->small;
     u64 accepted = u64_at(s + r->totals), square = u64_at(s + r->totals + 8), arcs = accepted ? r->arcs : 0;
     i64 bound = (i64)arcs << 58, side = (i64)arcs << 55;
     for (usize j = 0, k = 0; j < p; j++)
@@ -69,7 +71,7 @@ static usize unsound(const u8 *s, const struct answer *r)
             i64 x = i64_at(m + 8 * k);
             if (x > bound || x < -bound)
                 return r->matrix + 8 * k;
-            if (i == j ? x < 0 : x != 0 && (i64_at(m + 8 * (tri(i) + i)) == 0 || i64_at(m + 8 * (tri(j) + j)) == 0))
+            if (i == j ? x < least : x != 0 && (i64_at(m + 8 * (tri(i) + i)) == 0 || i64_at(m + 8 * (tri(j) + j)) == 0))
                 return r->matrix + 8 * k;
         }
     for (usize i = 0; i < p; i++) {
@@ -84,8 +86,9 @@ static usize unsound(const u8 *s, const struct answer *r)
 
 static int read_file(struct answer *r, const u8 *s, usize length)
 {
-    usize arcs, p, n, at = 4, place;
+    usize arcs, p, n, at = 4, place, stored = 0;
     u64 floor = 0;
+    int small = 0;
     if (!count_at(r, s, length, 0, 1, 16, &arcs))
         return 0;
     for (usize i = 0; i < arcs; i++, at += 4) {
@@ -105,16 +108,19 @@ static int read_file(struct answer *r, const u8 *s, usize length)
     for (usize i = 0; i < p; i++, at += 24) {
         if (length - at < 24)
             return refuse(r, 1, length);
-        if (!label_ok(s + at, s + 4, arcs))
+        if (i == 0)
+            small = u32_at(s + at + 12) != 0;
+        if (!label_ok(s + at, s + 4, arcs, small))
             return refuse(r, 4, at);
+        stored += u32_at(s + at + 12) != 2;
         u64 key = key_at(s + at);
         if (key < floor)
             return refuse(r, 5, at);
         floor = key + 1;
     }
-    *r = (struct answer){ 0, 0, arcs, p };
+    *r = (struct answer){ 0, 0, arcs, p, 0, 0, 0, stored, small };
     static const u32 sizes[3] = { 8, 8, 16 };
-    usize counts[3] = { tri(p), p, 1 }, places[3];
+    usize counts[3] = { tri(stored), stored, 1 }, places[3];
     for (int i = 0; i < 3; i++) {
         if (!count_at(r, s, length, at, counts[i], counts[i], &n))
             return 0;
@@ -152,12 +158,12 @@ static usize join(const u64 *xs, usize n, const u64 *ys, usize m, usize *left, u
     return k;
 }
 
-/* Which of n united labels a file of p has, where left has their places in it. */
-static usize locate(const usize *left, usize n, usize p, usize *t)
+/* Which of n united labels a file of p has with their sums, where left has their places in it. */
+static usize locate(const usize *left, usize n, const u8 *labels, usize p, usize *t)
 {
     usize m = 0;
     for (usize i = 0; i < n; i++)
-        if (left[i] < p) t[m++] = i;
+        if (left[i] < p && u32_at(labels + 24 * left[i] + 12) != 2) t[m++] = i;
     return m;
 }
 
@@ -207,11 +213,13 @@ static u64 merge_pair(const u8 *s, const struct answer *x, const u8 *t, const st
     put_u32(out, arcs); out += 4;
     for (usize i = 0; i < arcs; i++, out += 4) put_u32(out, united[i]);
     put_u32(out, n); out += 4;
-    for (usize i = 0; i < n; i++, out += 24)
+    for (usize i = 0; i < n; i++, out += 24) {
         __builtin_memcpy(out, left[i] < x->parameters ? ls + 24 * left[i] : lt + 24 * right[i], 24);
+        put_u32(out + 12, 0);
+    }
     put_u32(out, tri(n)); out += 4;
     i64 col[500];
-    usize ts[500], tt[500], p = locate(left, n, x->parameters, ts), q = locate(right, n, y->parameters, tt);
+    usize ts[500], tt[500], p = locate(left, n, ls, x->parameters, ts), q = locate(right, n, lt, y->parameters, tt);
     for (usize j = 0, d = 0, e = 0; j < n; j++) {
         for (usize i = 0; i <= j; i++) col[i] = 0;
         d = add_next(col, s + x->matrix, ts, p, d, j);

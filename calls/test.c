@@ -350,7 +350,7 @@ static void rooms(void)
 static void cuts(void)
 {
     size_t length = make(3, 2, 4);
-    uint64_t found[2], out[5];
+    uint64_t found[2], out[7];
     for (size_t n = 0; n < length; n++)
         CHECK(whl_read(file, n, heading, sizeof heading, found, 2) == 1 && whl_read_place(file, n) == n);
     file[length] = 0;
@@ -362,13 +362,13 @@ static void cuts(void)
     at = put(put(put(put(put(put(put(at, 1, 4), 147456, 8), 1, 4), 50331648, 8), 1, 4), 1, 8), 17179869184, 8);
     CHECK(at == 80);
     for (size_t n = 0; n < at; n++)
-        CHECK(whl_normal_read(file, n, out, 5) == 1 && whl_normal_place(file, n) == n);
+        CHECK(whl_normal_read(file, n, out, 7) == 1 && whl_normal_place(file, n) == n);
     out[0] = 77;
-    CHECK(whl_normal_read(file, at, out, 4) == 20 && out[0] == 77);
-    CHECK(whl_normal_read(file, at, out, 5) == 0 && whl_normal_place(file, at) == 0);
-    CHECK(out[0] == 1 && out[1] == 1 && out[2] == 40 && out[3] == 52 && out[4] == 64);
+    CHECK(whl_normal_read(file, at, out, 6) == 20 && out[0] == 77);
+    CHECK(whl_normal_read(file, at, out, 7) == 0 && whl_normal_place(file, at) == 0);
+    CHECK(out[0] == 1 && out[1] == 1 && out[2] == 40 && out[3] == 52 && out[4] == 64 && out[5] == 1 && out[6] == 0);
     file[47] = 0x80; /* the diagonal sum below zero */
-    CHECK(whl_normal_read(file, at, out, 5) == 6 && whl_normal_place(file, at) == 40);
+    CHECK(whl_normal_read(file, at, out, 7) == 6 && whl_normal_place(file, at) == 40);
     told("files");
 }
 
@@ -635,7 +635,7 @@ static int64_t sums[WHL_MATRIX_SUMS(100)], sides[100];
 static size_t one_arc(int k, int p, u32 arc)
 {
     size_t length = make(p, 5, 6);
-    uint64_t found[2], size = 77, out[5];
+    uint64_t found[2], size = 77, out[7];
     put(4, arc, 4);
     CHECK(whl_read(file, length, heading, sizeof heading, found, 2) == 0 && whl_start(heading, sizeof heading, STATE) == 0);
     CHECK(whl_take_run(heading, sizeof heading, STATE, file + found[1], length - found[1], answers, 6) == 0);
@@ -644,18 +644,40 @@ static size_t one_arc(int k, int p, u32 arc)
     CHECK(whl_of_state(heading, sizeof heading, STATE, files[k], needed - 1, &size, 1) == 20 && whl_of_state(heading, sizeof heading, STATE, files[k], needed, &size, 0) == 20);
     CHECK(size == 77 && files[k][0] == 7);
     CHECK(whl_of_state(heading, sizeof heading, STATE, files[k], sizeof files[k], &size, 1) == 0 && size == needed && files[k][needed] == 7);
-    CHECK(whl_normal_read(files[k], needed, out, 5) == 0 && out[0] == 1 && out[1] == (u64)p);
+    CHECK(whl_normal_read(files[k], needed, out, 7) == 0 && out[0] == 1 && out[1] == (u64)p);
     CHECK(!memcmp(files[k] + out[2], matrix, 8 * WHL_MATRIX_SUMS(p)) && !memcmp(files[k] + out[3], rights, 8 * (size_t)p));
     CHECK(u64_at(files[k] + out[4]) == 6 && u64_at(files[k] + out[4] + 8) == u64_at(tally));
     return needed;
 }
 
+/* A file of the old form moved to the small one and back, and a merging of either form: the same bytes. */
+static void moves(const uint8_t *bytes, size_t length, size_t p)
+{
+    static uint8_t small[sizeof files[0]], old[sizeof files[0]];
+    uint64_t out[7], size = 77, other = 77;
+    size_t seen = 0;
+    CHECK(whl_normal_read(bytes, length, out, 7) == 0 && out[1] == p && out[5] == p && out[6] == 0);
+    size_t a = out[0];
+    for (size_t i = 0; i < p; i++) seen += u64_at(bytes + out[2] + 8 * (i * (i + 3) / 2)) != 0;
+    size_t needed = 36 + 4 * a + 24 * p + 4 * seen * (seen + 1) + 8 * seen;
+    memset(small, 7, sizeof small);
+    CHECK(whl_normal_small(bytes, length, small, needed - 1, &size, 1) == 20 && whl_normal_small(bytes, length, small, needed, &size, 0) == 20);
+    CHECK(size == 77 && small[0] == 7);
+    CHECK(whl_normal_small(bytes, length, small, sizeof small, &size, 1) == 0 && size == needed && small[needed] == 7);
+    CHECK(whl_normal_read(small, needed, out, 7) == 0 && out[0] == a && out[1] == p && out[5] == seen && out[6] == 1);
+    CHECK(whl_normal_old(small, needed, old, length - 1, &other, 1) == 20 && other == 77);
+    CHECK(whl_normal_old(small, needed, old, sizeof old, &other, 1) == 0 && other == length && !memcmp(old, bytes, length));
+    CHECK(whl_normal_small(small, needed, old, sizeof old, &other, 1) == 0 && other == needed && !memcmp(old, small, needed));
+    CHECK(whl_normal_old(bytes, length, old, sizeof old, &other, 1) == 0 && other == length && !memcmp(old, bytes, length));
+    CHECK(whl_normal_small(bytes, length - 1, old, sizeof old, &other, 1) == 1 && whl_normal_place(bytes, length - 1) == length - 1);
+}
+
 /* What a file holds, written again, is the file. */
 static void again(const uint8_t *bytes, size_t length)
 {
-    uint64_t out[5], size = 77;
+    uint64_t out[7], size = 77;
     static uint8_t copy[sizeof files[0]];
-    CHECK(whl_normal_read(bytes, length, out, 5) == 0);
+    CHECK(whl_normal_read(bytes, length, out, 7) == 0);
     size_t a = out[0], p = out[1], h = WHL_HEADS(a, p), m = WHL_MATRIX_SUMS(p);
     heads[0] = 77;
     CHECK(whl_normal_unpack(bytes, length, heads, h - 1, sums, m, sides, p) == 20 && whl_normal_unpack(bytes, length, heads, h, sums, m - 1, sides, p) == 20);
@@ -696,6 +718,8 @@ static void normals(void)
         CHECK(whl_merge(files[0], a, files[1], b, files[2], sizeof files[2], &size, 1) == 0 && size == needed);
         CHECK(whl_merge(files[1], b, files[0], a, twice, sizeof twice, &other, 1) == 0 && other == needed && !memcmp(files[2], twice, needed));
         again(files[2], needed);
+        moves(files[0], a, (size_t)p);
+        moves(files[2], needed, most);
         CHECK(whl_merge(files[0], a, files[0], a, files[2], sizeof files[2], &size, 1) == 21);
         CHECK(whl_merge(files[0], a - 1, files[1], b, files[2], sizeof files[2], &size, 1) == 101);
         CHECK(whl_merge(files[0], a, files[1], b - 1, files[2], sizeof files[2], &size, 1) == 201);

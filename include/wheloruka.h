@@ -151,8 +151,8 @@ uint32_t whl_position_heading(const uint8_t *position, size_t position_length, u
 
 /* ---- normal files */
 
-/* In out[0] to out[4]: the numbers of arcs and of parameters, and the places of the first matrix sum, the first right side and the totals.
-   1, 2, 3, 4, 5, 6; 20: out_length < 5. */
+/* A file of either form. In out[0] to out[6]: the numbers of arcs and of parameters, the places of the first matrix sum, the first right side
+   and the totals, how many parameters have their sums stored, and the form: 0 the old one, 1 the small one. 1, 2, 3, 4, 5, 6; 20: out_length < 7. */
 uint32_t whl_normal_read(const uint8_t *file, size_t file_length, uint64_t *out, size_t out_length);
 /* The same for a normal file; not of the 20 of whl_normal_read and whl_normal_unpack. */
 uint64_t whl_normal_place(const uint8_t *file, size_t file_length);
@@ -172,6 +172,10 @@ uint32_t whl_normal_write(size_t arcs, size_t parameters, const uint64_t *heads,
 uint32_t whl_of_state(const uint8_t *heading, size_t heading_length, const uint8_t *tally, size_t tally_length, const int64_t *matrix,
                       size_t matrix_length, const int64_t *rights, size_t rights_length, uint8_t *out, size_t out_length, uint64_t *size,
                       size_t size_length);
+/* A normal file moved to the small form, or to the old one; a file of that form gives its bytes. 1, 2, 3, 4, 5, 6, with the place of
+   whl_normal_place; then 20. */
+uint32_t whl_normal_small(const uint8_t *file, size_t file_length, uint8_t *out, size_t out_length, uint64_t *size, size_t size_length);
+uint32_t whl_normal_old(const uint8_t *file, size_t file_length, uint8_t *out, size_t out_length, uint64_t *size, size_t size_length);
 /* Two normal files merged; in either order the same bytes. A file's own refusal plus 100 for the first, plus 200 for the second (its place is
    whl_normal_place's of that file); then 21, 22, 23, 24, 20. */
 uint32_t whl_merge(const uint8_t *first, size_t first_length, const uint8_t *second, size_t second_length, uint8_t *out, size_t out_length,

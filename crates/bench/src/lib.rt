@@ -237,7 +237,7 @@ fn put_answer(a: ReadAnswer, told: &mut [u64]) -> u8 {
     }
 }
 
-// A normal file read: the answer, the numbers of arcs and parameters, and the three places.
+// A normal file read: the answer, the numbers of arcs and parameters, the three places, how many parameters have their sums stored, and the form.
 #[no_mangle]
 pub extern "C" fn bench_read(file: &[u8], told: &mut [u64]) -> u8 {
     let r = norm_read::read(file);
@@ -246,6 +246,8 @@ pub extern "C" fn bench_read(file: &[u8], told: &mut [u64]) -> u8 {
     put(told, 4, r.matrix as u64);
     put(told, 5, r.rights as u64);
     put(told, 6, r.totals as u64);
+    put(told, 7, r.stored as u64);
+    put(told, 8, if r.is_small { 1 } else { 0 });
     let answer = r.answer;
     put_answer(answer, told)
 }

@@ -3,6 +3,7 @@ use arc_read::ArcRead;
 use byte_section::ReadAnswer;
 use byte_section::WriteAnswer;
 use merge::MergeAnswer;
+use norm_move::MoveAnswer;
 use refusal::Refusal;
 use take_one::TakeAnswer;
 use take_one::Taken;
@@ -20,9 +21,10 @@ ghost use Rattle.arc_read.specs.Arc.{toldArcRead};
 ghost use Rattle.call_tally.specs.Tally.{tallyBytes};
 ghost use Rattle.take_state.specs.State.{toldSight, toldCarriers};
 ghost use Rattle.take_one.specs.Told.{toldTake};
+ghost use Rattle.norm_move.specs.Move.{toldMove};
 ghost use Rattle.merge.specs.Files.{toldMerge};
 ghost use Rattle.call_files.specs.Reading.{arcOf, refusalPlace, judgedNumber, readRoomy, readNumber, headingLeft, placesLeft};
-ghost use Rattle.call_files.specs.Writing.{mergeCallNumber};
+ghost use Rattle.call_files.specs.Writing.{moveCallNumber, mergeCallNumber};
 ghost use Rattle.call_files.specs.Arcs.{arcFile, arcLeft};
 ghost use Rattle.call_files.specs.Taking.{seenNumbers};
 
@@ -92,6 +94,17 @@ pub fn give_written(size: &mut [u64], answer: WriteAnswer) -> u32
     match answer {
         WriteAnswer::Is(n) => call_rooms::give_place(size, n as u64),
         WriteAnswer::Refused(e) => refusal::number(e),
+    }
+}
+
+// The same of a file that was moved to a form.
+pub fn give_moved(size: &mut [u64], answer: MoveAnswer) -> u32
+    ensures { λ r. ⌜ r ≡ resultNumber (toldValues one (moveCallNumber (toldMove answer))) (length (now (size .entry))) ⌝ }
+    ensures left { λ _. ⌜ now (size .exit) ≡ resultLeft (toldValues one (moveCallNumber (toldMove answer))) (now (size .entry)) ⌝ }
+{
+    match answer {
+        MoveAnswer::Is(n) => call_rooms::give_place(size, n as u64),
+        MoveAnswer::Refused(e, _) => refusal::number(e),
     }
 }
 

@@ -81,12 +81,12 @@ pub fn give_two(out: &mut [u64], a: u64, b: u64) -> u32
     0
 }
 
-// Five lengths or places.
-pub fn give_five(out: &mut [u64], a: u64, b: u64, c: u64, d: u64, e: u64) -> u32
-    ensures { λ r. ⌜ r ≡ resultNumber (given (a ∷ b ∷ c ∷ d ∷ e ∷ [])) (length (now (out .entry))) ⌝ }
-    ensures left { λ _. ⌜ now (out .exit) ≡ resultLeft (given (a ∷ b ∷ c ∷ d ∷ e ∷ [])) (now (out .entry)) ⌝ }
+// Seven numbers: lengths, places.
+pub fn give_seven(out: &mut [u64], a: u64, b: u64, c: u64, d: u64, e: u64, f: u64, g: u64) -> u32
+    ensures { λ r. ⌜ r ≡ resultNumber (given (a ∷ b ∷ c ∷ d ∷ e ∷ f ∷ g ∷ [])) (length (now (out .entry))) ⌝ }
+    ensures left { λ _. ⌜ now (out .exit) ≡ resultLeft (given (a ∷ b ∷ c ∷ d ∷ e ∷ f ∷ g ∷ [])) (now (out .entry)) ⌝ }
 {
-    if out.len() < 5 {
+    if out.len() < 7 {
         return 20;
     }
     out[0] = a;
@@ -94,6 +94,8 @@ pub fn give_five(out: &mut [u64], a: u64, b: u64, c: u64, d: u64, e: u64) -> u32
     out[2] = c;
     out[3] = d;
     out[4] = e;
+    out[5] = f;
+    out[6] = g;
     0
 }
 

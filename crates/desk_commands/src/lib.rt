@@ -9,6 +9,7 @@ use desk_arc::Followed;
 use list_run::Course;
 use list_tallies::ANSWERS;
 use merge::MergeAnswer;
+use norm_move::MoveAnswer;
 use norm_read::NormalRead;
 use num_limits::PARAMETERS_MOST;
 use part_laws::PartAnswer;
@@ -207,11 +208,39 @@ fn with_arc(path: &[u8], to: &[u8], asked: Asked) {
 
 // ---- normal files
 
+// What is done with a normal file.
+enum Wanted {
+    Check,
+    Merge,
+    Small,
+    Old,
+}
+
+fn tell_form(stored: usize, is_small: bool) {
+    if is_small {
+        desk_lines::put(b"small form with sums of ");
+        desk_lines::put_number(stored as u64, b" parameters, arcs ");
+    } else {
+        desk_lines::put(b"old form, arcs ");
+    }
+}
+
 fn tell_normal(path: &[u8], file: &[u8], r: NormalRead) {
-    desk_tell::begin(path, b"accepted: arcs ");
+    desk_tell::begin(path, b"accepted: ");
+    tell_form(r.stored, r.is_small);
     desk_lines::put_number(r.arcs as u64, b", parameters ");
     desk_lines::put_number(r.parameters as u64, b", records accepted ");
     desk_lines::put_number(byte_read::read_u64(file, r.totals), b"\n");
+}
+
+// The bytes that a move gave, as a new file, or why there are none.
+fn store_moved(path: &[u8], to: &[u8], answer: MoveAnswer, out: &[u8]) {
+    match answer {
+        MoveAnswer::Is(n) => {
+            store(to, out, n);
+        }
+        MoveAnswer::Refused(why, place) => desk_tell::tell_place(path, why, place),
+    }
 }
 
 // Two files and the name of the third.
@@ -262,9 +291,33 @@ fn judge_first(
     }
 }
 
+// What is wanted of a file that is here.
+fn use_first(
+    first: &[u8],
+    a: &[u8],
+    wanted: Wanted,
+    second: &[u8],
+    to: &[u8],
+    room: &mut [u8],
+    out: &mut [u8],
+) {
+    match wanted {
+        Wanted::Check => judge_first(first, a, false, second, to, room, out),
+        Wanted::Merge => judge_first(first, a, true, second, to, room, out),
+        Wanted::Small => {
+            let moved = norm_move::small(a, out);
+            store_moved(first, to, moved, out);
+        }
+        Wanted::Old => {
+            let moved = norm_move::old(a, out);
+            store_moved(first, to, moved, out);
+        }
+    }
+}
+
 fn fetch_first(
     first: &[u8],
-    is_merge: bool,
+    wanted: Wanted,
     second: &[u8],
     to: &[u8],
     one: &mut [u8],
@@ -274,16 +327,16 @@ fn fetch_first(
     let got = fetch(first, one);
     if got.is_here {
         let n = desk_files::within(got.length, one);
-        judge_first(first, &one[..n], is_merge, second, to, two, out);
+        use_first(first, &one[..n], wanted, second, to, two, out);
     }
 }
 
-// A normal file is read and judged, and told with its counts or merged with a second one into OUT.
-fn with_normals(first: &[u8], is_merge: bool, second: &[u8], to: &[u8]) {
+// A normal file is read and judged, and told with its counts, moved to a form as OUT, or merged with a second one into OUT.
+fn with_normals(first: &[u8], wanted: Wanted, second: &[u8], to: &[u8]) {
     let mut one = desk_files::normal_room();
     let mut two = desk_files::normal_room();
     let mut out = desk_files::normal_room();
-    fetch_first(first, is_merge, second, to, &mut one, &mut two, &mut out);
+    fetch_first(first, wanted, second, to, &mut one, &mut two, &mut out);
 }
 
 // ---- the lines of help
@@ -308,6 +361,15 @@ fn help_merge() {
     desk_lines::put(b"desk merge A B OUT         two normal files merged, as a new file OUT\n");
 }
 
+fn help_moves() {
+    desk_lines::put(
+        b"desk small FILE OUT        a normal file without the sums of unseen parameters, as a new file OUT\n",
+    );
+    desk_lines::put(
+        b"desk old FILE OUT          a normal file with the sums of all parameters, as a new file OUT\n",
+    );
+}
+
 fn help_check() {
     desk_lines::put(
         b"desk check arc FILE        an arc file accepted with its counts, or refused with number and place\n",
@@ -324,6 +386,7 @@ fn help() {
     help_stations();
     help_normal();
     help_merge();
+    help_moves();
     help_check();
     help_help();
     desk_lines::put(
@@ -445,8 +508,26 @@ fn words_merge(at: usize, count: usize) {
     if p > 0 {
         if q > 0 {
             if r > 0 {
-                with_normals(&one[..p], true, &two[..q], &to[..r]);
+                with_normals(&one[..p], Wanted::Merge, &two[..q], &to[..r]);
             }
+        }
+    }
+}
+
+// `small FILE OUT`, `old FILE OUT`
+fn words_moves(at: usize, count: usize, wanted: Wanted) {
+    if count != 3 {
+        usage();
+        help_moves();
+        return;
+    }
+    let mut path = io::buffer();
+    let mut to = io::buffer();
+    let n = word(at, 1, &mut path);
+    let m = word(at, 2, &mut to);
+    if n > 0 {
+        if m > 0 {
+            with_normals(&path[..n], wanted, b"", &to[..m]);
         }
     }
 }
@@ -455,7 +536,7 @@ fn run_check(what: &[u8], path: &[u8]) {
     if check::same(what, b"arc") {
         with_arc(path, b"", Asked::Check);
     } else if check::same(what, b"normal") {
-        with_normals(path, false, b"", b"");
+        with_normals(path, Wanted::Check, b"", b"");
     } else {
         usage();
         help_check();
@@ -500,6 +581,10 @@ fn run_verb(verb: &[u8], at: usize, count: usize) {
         words_normal(at, count);
     } else if check::same(verb, b"merge") {
         words_merge(at, count);
+    } else if check::same(verb, b"small") {
+        words_moves(at, count, Wanted::Small);
+    } else if check::same(verb, b"old") {
+        words_moves(at, count, Wanted::Old);
     } else if check::same(verb, b"check") {
         words_check(at, count);
     } else if check::same(verb, b"help") {

@@ -1,5 +1,6 @@
 -- Document 01, 'Normal file' and 'Refusal numbers': "Merging: first file, second file (the answer names which), 21 to 24, 20." Two normal files
--- as bytes: what merging answers, and what it leaves in the lent room. "A longer buffer keeps its rest. A refusal changes nothing lent."
+-- as bytes: what merging answers, and what it leaves in the lent room. "A longer buffer keeps its rest. A refusal changes nothing lent." Document
+-- 02, #106: "Merging .. takes either form; what they write is the old one": a file counts by the system that it holds.
 use mathlib.Core.List.{List}
 use Prim.Native.Nat.{ℕ}
 use lib.ListN.{length}

@@ -1,4 +1,4 @@
-// Two normal files merged: the merged file's bytes into lent room, or the first refusal, which changes nothing.
+// Two normal files of either form merged: the bytes of the merged file, in the old form, into lent room, or the first refusal, which changes nothing.
 use byte_section::ReadAnswer;
 use norm_read::NormalRead;
 use num_limits::ARCS_MOST;

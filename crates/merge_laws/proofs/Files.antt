@@ -1,5 +1,4 @@
--- What reading accepts is what merging takes: the labels and sums of an accepted file stand where reading says. Two that may be merged have
--- at most sixteen arcs together.
+-- What each label of two systems is, each label of the merged system is. Two that may be merged have at most sixteen arcs together.
 -- Assumes nothing.
 use mathlib.Core.Path.{sym, subst}
 use mathlib.Core.List.{List, [], _∷_, map}
@@ -12,15 +11,12 @@ use Rattle.num_whole.specs.Lists.{Each}
 use Rattle.norm_system.specs.System.{System, has}
 use Rattle.norm_system.specs.declared.NormalLabel.{NormalLabel}
 use Rattle.norm_system.proofs.Sound.{SoundSystem}
-use Rattle.norm_read.specs.Normal.{Normal}
-use Rattle.norm_read.proofs.Accepted.{Standing}
 use Rattle.merge_join.specs.Join.{union}
 use Rattle.merge_join.proofs.Shared.{union-full}
 use Rattle.norm_labels.specs.Labels.{keysOf, noNormalLabel, labelByKey}
 use Rattle.merge_laws.specs.Merge.{carried, mergedOf}
 use Rattle.merge_laws.proofs.Merged.{merged-labels}
 use Rattle.merge_laws.proofs.Numbers.{Mergeable}
-use Rattle.merge_laws.proofs.Written.{StandsIn}
 use Rattle.norm_labels.proofs.Values.{arcs-in-order}
 
 -- ---- what each label of both systems is, and what stands past them, each label of the merged system is
@@ -43,10 +39,6 @@ unfolding carried labelByKey
 merged-each P h x y p q =
     subst (Each P) (sym (merged-labels x y))
     (each-map P (carried x y) (λ k. either-way P (has k (keysOf x)) (each-get P noNormalLabel h (x .labels) p _) (each-get P noNormalLabel h (y .labels) q _)) (union (keysOf x) (keysOf y)))
-
-pub stands-in : (s : List ℕ) (x : Normal) → Standing s x (length (x .holds .arcs)) (length (x .holds .labels))
-    → StandsIn s (8 + 4 * length (x .holds .arcs)) (x .matrix) (x .rights) (x .holds)
-stands-in s x t = record { labels-are = t .labels; matrix-are = t .matrix; rights-are = t .rights }
 
 module _ (x y : System) (p : SoundSystem x) (q : SoundSystem y) (m : Mergeable x y) where
   pub arcs-together : length (x .arcs) + length (y .arcs) ≤ 16

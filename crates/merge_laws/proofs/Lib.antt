@@ -7,5 +7,6 @@ pub mod Whole
 pub mod Groups
 pub mod Laws
 pub mod Written
+pub mod Stored
 pub mod Added
 pub mod Files

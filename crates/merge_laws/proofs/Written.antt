@@ -11,10 +11,8 @@ use Rattle.num_whole.specs.Tests.{less, both, either, below}
 use Rattle.num_whole.specs.Lists.{all}
 use Rattle.num_whole.proofs.Cases.{apart, fails, last-fails, at-once, by-cases}
 use Rattle.num_whole.proofs.Tables.{below-at, below-every}
-use Rattle.num_packed.specs.Triangle.{tri}
 use Rattle.norm_system.specs.System.{System, has, keyOf}
 use Rattle.byte_words.specs.Stands.{stands}
-use Rattle.norm_sum.specs.Sums.{sumsAt}
 use Rattle.byte_words.proofs.Stands.{stands-at}
 use Rattle.norm_kinds.specs.Kinds.{normalLabelAt}
 use Rattle.merge_join.specs.Join.{union, SeatedAt}
@@ -34,11 +32,9 @@ use Rattle.merge_laws.proofs.Numbers.{all-has}
 use Rattle.merge_laws.proofs.Groups.{all-each}
 use Rattle.merge_laws.proofs.Merged.{carried-first, carried-second, merged-labels}
 
--- ---- a file's labels and sums, where they stand
-pub record StandsIn (s : List ℕ) (labels matrix rights : ℕ) (x : System) : Type 0 where
-  pub labels-are : x .labels ≡ stands (normalLabelAt s) 24 (length (x .labels)) labels
-  pub matrix-are : x .matrix ≡ sumsAt s matrix (tri (length (x .labels)))
-  pub rights-are : x .rights ≡ sumsAt s rights (length (x .labels))
+-- ---- a file's labels, where they stand
+abbrev pub LabelsStand : List ℕ → ℕ → System → Type 0
+LabelsStand s labels x = x .labels ≡ stands (normalLabelAt s) 24 (length (x .labels)) labels
 
 map-stands : {A B : Type 0} (g : A → B) (f : ℕ → A) (size n at : ℕ) → map g (stands f size n at) ≡ stands (λ p. g (f p)) size n at
 unfolding stands
@@ -46,26 +42,26 @@ map-stands g f size zero at = refl
 map-stands g f size (suc n) at = ap (λ t. g (f at) ∷ t) (map-stands g f size n (at + size))
 
 -- the keys as the code loads them
-pub keys-stand : (s : List ℕ) (labels matrix rights : ℕ) (x : System) → StandsIn s labels matrix rights x → keysOf x ≡ keysAt s labels (length (x .labels))
+pub keys-stand : (s : List ℕ) (labels : ℕ) (x : System) → LabelsStand s labels x → keysOf x ≡ keysAt s labels (length (x .labels))
 unfolding keysOf keysAt keyAt
-keys-stand s labels matrix rights x st =
-    ap (map keyOf) (st .labels-are) ∙ map-stands keyOf (normalLabelAt s) 24 (length (x .labels)) labels
+keys-stand s labels x st =
+    ap (map keyOf) st ∙ map-stands keyOf (normalLabelAt s) 24 (length (x .labels)) labels
 
-label-stands : (s : List ℕ) (labels matrix rights : ℕ) (x : System) → StandsIn s labels matrix rights x → (k : ℕ) → has k (keysOf x) ≡ true
+label-stands : (s : List ℕ) (labels : ℕ) (x : System) → LabelsStand s labels x → (k : ℕ) → has k (keysOf x) ≡ true
     → normalLabelAt s (labels + 24 * seat (keysOf x) k) ≡ labelByKey x k
 unfolding labelByKey
-label-stands s labels matrix rights x st k h =
-    sym (ap (λ l. getD l (seat (keysOf x) k) noNormalLabel) (st .labels-are)
+label-stands s labels x st k h =
+    sym (ap (λ l. getD l (seat (keysOf x) k) noNormalLabel) st
     ∙ stands-at (normalLabelAt s) 24 (length (x .labels)) labels (seat (keysOf x) k) noNormalLabel (within x k h))
 
-module _ (a : List ℕ) (la ma ra : ℕ) (x : System) (sa : StandsIn a la ma ra x) (b : List ℕ) (lb mb rb : ℕ) (y : System) (sb : StandsIn b lb mb rb y) (left right : List ℕ)
+module _ (a : List ℕ) (la : ℕ) (x : System) (sa : LabelsStand a la x) (b : List ℕ) (lb : ℕ) (y : System) (sb : LabelsStand b lb y) (left right : List ℕ)
     (pl : SeatedAt (keysOf x) (union (keysOf x) (keysOf y)) left) (pr : SeatedAt (keysOf y) (union (keysOf x) (keysOf y)) right) where
   abbrev u : List ℕ
   u = union (keysOf x) (keysOf y)
 
   -- ---- labels
   label-held : (k : ℕ) → has k (keysOf x) ≡ true → normalLabelAt a (la + 24 * seat (keysOf x) k) ≡ labelByKey x k
-  label-held = label-stands a la ma ra x sa
+  label-held = label-stands a la x sa
 
   pub written-labels : rowsOf (labelOfUnion a la (length (x .labels)) left b lb right) 0 (length u) ≡ mergedOf x y .labels
   unfolding labelOfUnion
@@ -84,7 +80,7 @@ module _ (a : List ℕ) (la ma ra : ℕ) (x : System) (sa : StandsIn a la ma ra 
           (λ t. by-cases (has k (keysOf y))
           (λ v. let e : seat (keysOf x) k ≡ length (keysOf x) = unseated (keysOf x) k t in
           let f : length (keysOf x) ≡ length (x .labels) = keys-long x in
-          sym (label-second a la (length (x .labels)) b lb (seat (keysOf x) k) (seat (keysOf y) k) (omega arith) (sym (label-stands b lb mb rb y sb k v))) ∙ sym (carried-second x y k t))
+          sym (label-second a la (length (x .labels)) b lb (seat (keysOf x) k) (seat (keysOf y) k) (omega arith) (sym (label-stands b lb y sb k v))) ∙ sym (carried-second x y k t))
           (λ v. absurd (apart (sym h ∙ has-union k (keysOf x) (keysOf y) ∙ either-none t v))))
 
   -- ---- the labels that both have
@@ -94,7 +90,7 @@ module _ (a : List ℕ) (la ma ra : ℕ) (x : System) (sa : StandsIn a la ma ra 
       (λ i. either (not (both (one i) (two i))) (alike (normalLabelAt a (la + 24 * seat (keysOf x) k)) (normalLabelAt b (lb + 24 * seat (keysOf y) k))))
       ∙ by-cases (has k (keysOf x))
       (λ t. by-cases (has k (keysOf y))
-      (λ v. (λ i. either (not (both (has k (keysOf x)) (has k (keysOf y)))) (alike (label-held k t i) (label-stands b lb mb rb y sb k v i))))
+      (λ v. (λ i. either (not (both (has k (keysOf x)) (has k (keysOf y)))) (alike (label-held k t i) (label-stands b lb y sb k v i))))
       (λ v. sym (at-once _ _ (off (last-fails (has k (keysOf x)) v))) ∙ at-once _ _ (off (last-fails (has k (keysOf x)) v))))
       (λ t. sym (at-once _ _ (off (sym (fails _ _ t)))) ∙ at-once _ _ (off (sym (fails _ _ t))))
     where

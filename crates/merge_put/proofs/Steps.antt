@@ -74,7 +74,7 @@ module _ (a : List ℕ) (x : NormalRead) (ka : Known a x) (b : List ℕ) (y : No
   pub middle-put : (out one two three four : List ℕ) (at sums next : ℕ) → sums ≡ tri n → next ≡ at + 4 + 8 * sums → one ≡ lay out at (bytesOf 4 sums)
       → two ≡ lay one (at + 4) (encoded (signedBytes w64) (columnsOf (bothPlaces a (x .matrix) ta b (y .matrix) tb) 0 n))
       → three ≡ lay two next (bytesOf 4 n)
-      → four ≡ lay three (next + 4) (encoded (signedBytes w64) (rowsOf (bothSides a (record { base = x .rights; rows = x .parameters }) ta b (record { base = y .rights; rows = y .parameters }) tb) 0 n))
+      → four ≡ lay three (next + 4) (encoded (signedBytes w64) (rowsOf (bothSides a (record { base = x .rights; rows = x .stored }) ta b (record { base = y .rights; rows = y .stored }) tb) 0 n))
       → four ≡ lay out at (middleBytes (mergedOf (systemInFile a) (systemInFile b)))
   unfolding middleBytes sumBytes
   middle-put out one two three four at sums next p q e f g h =

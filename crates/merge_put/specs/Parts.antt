@@ -17,10 +17,16 @@ use Rattle.norm_labels.specs.Labels.{keysOf}
 use Rattle.norm_labels.specs.Seats.{seats}
 
 -- ---- a file that is accepted
+abbrev pub noSystem : System
+noSystem = record { arcs = []; labels = []; matrix = []; rights = []; accepted = 0; square = 0 }
+
 abbrev pub noNormal : Normal
 noNormal =
     record {
-      holds = record { arcs = []; labels = []; matrix = []; rights = []; accepted = 0; square = 0 };
+      small = false;
+      fielded = [];
+      stored = noSystem;
+      holds = noSystem;
       matrix = 0;
       rights = 0;
       totals = 0;
@@ -37,11 +43,16 @@ normalIn s = normalOr (readNormal s)
 unfoldable pub systemInFile : List ℕ → System
 systemInFile s = normalIn s .holds
 
+-- the system that it stores, of the labels whose sums are there
+unfoldable pub storedInFile : List ℕ → System
+storedInFile s = normalIn s .stored
+
 -- bytes that are accepted, with the numbers that reading gave
 pub record AsRead (s : List ℕ) (r : NormalRead) : Type 0 where
   pub is : readNormal s ≡ good (normalIn s)
   pub arcs : r .arcs ≡ length (systemInFile s .arcs)
   pub parameters : r .parameters ≡ length (systemInFile s .labels)
+  pub stored : r .stored ≡ length (storedInFile s .labels)
   pub matrix : r .matrix ≡ normalIn s .matrix
   pub rights : r .rights ≡ normalIn s .rights
   pub totals : r .totals ≡ normalIn s .totals
@@ -54,11 +65,11 @@ pub record Joined (a b : List ℕ) (n : ℕ) (left right : List ℕ) : Type 0 wh
   pub left-long : n ≤ length left
   pub right-long : n ≤ length right
 
--- the place of each label of the two files among those joined
+-- the place among those joined of each label whose sums one of the two files stores
 pub record Located (a b : List ℕ) (n : ℕ) (ta tb : List ℕ) : Type 0 where
   pub count : n ≡ length (union (keysOf (systemInFile a)) (keysOf (systemInFile b)))
-  pub left-are : ta ≡ seats (union (keysOf (systemInFile a)) (keysOf (systemInFile b))) (keysOf (systemInFile a))
-  pub right-are : tb ≡ seats (union (keysOf (systemInFile a)) (keysOf (systemInFile b))) (keysOf (systemInFile b))
+  pub left-are : ta ≡ seats (union (keysOf (systemInFile a)) (keysOf (systemInFile b))) (keysOf (storedInFile a))
+  pub right-are : tb ≡ seats (union (keysOf (systemInFile a)) (keysOf (systemInFile b))) (keysOf (storedInFile b))
 
 -- two files whose arcs may be united to m
 pub record ArcsFit (a b : List ℕ) (m : ℕ) : Type 0 where

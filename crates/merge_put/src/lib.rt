@@ -112,7 +112,8 @@ fn put_heads(
     );
 }
 
-// Matrix sums and right sides, each after their count, from a place of the room on; each file's are added at the places of its labels.
+// Matrix sums and right sides, each after their count, from a place of the room on; those that a file stores are added at the places of their
+// labels.
 fn put_added(
     out: &mut [u8],
     at: usize,
@@ -137,16 +138,16 @@ fn put_added(
     byte_write::write_u32(out, next, n as u32);
     let c = Column {
         base: x.rights,
-        rows: x.parameters,
+        rows: x.stored,
     };
     let d = Column {
         base: y.rights,
-        rows: y.parameters,
+        rows: y.stored,
     };
     merge_sums::put_sides(out, next + 4, a, c, ta, b, d, tb, &mut room[..n]);
 }
 
-// The places of each file's labels among those joined, found once; then its sums.
+// The places of the labels whose sums a file stores, among those joined, found once; then the sums.
 fn put_middle(
     out: &mut [u8],
     at: usize,
@@ -165,8 +166,8 @@ fn put_middle(
 {
     let mut ta: [usize; LABELS_MOST] = [0; LABELS_MOST];
     let mut tb: [usize; LABELS_MOST] = [0; LABELS_MOST];
-    let p = merge_locate::locate(left, n, x.parameters, &mut ta);
-    let q = merge_locate::locate(right, n, y.parameters, &mut tb);
+    let p = merge_locate::locate(a, 8 + 4 * x.arcs, x.parameters, left, n, &mut ta);
+    let q = merge_locate::locate(b, 8 + 4 * y.arcs, y.parameters, right, n, &mut tb);
     put_added(out, at, a, x, &ta[..p], b, y, &tb[..q], n);
 }
 

@@ -1,4 +1,5 @@
-// The arcs and the labels of a normal file, read and judged where they stand: how many of each and the place after them, or the first refusal and its place.
+// The arcs and the labels of a normal file of either form, read and judged where they stand: how many of each, the form, how many labels have
+// their sums stored, and the place after them; or the first refusal and its place.
 use byte_section::CountAnswer;
 use byte_section::SectionAnswer;
 use norm_kinds::FloorAnswer;
@@ -10,15 +11,18 @@ ghost use mathlib.Core.Path.{_≡_};
 ghost use Prim.Native.Nat.{_+_, _*_, _≤_};
 ghost use lib.ListN.{length, take};
 ghost use Rattle.num_limits.specs.Capacities.{arcsMost, labelsMost};
+ghost use Rattle.num_whole.specs.Tests.{pick};
 ghost use Rattle.byte_words.specs.Words.{lay};
+ghost use Rattle.byte_words.specs.Stands.{stands};
 ghost use Rattle.byte_section.specs.Section.{records, sectionAt};
-ghost use Rattle.norm_kinds.specs.Kinds.{arcKind, normalLabelKind};
+ghost use Rattle.norm_kinds.specs.Kinds.{arcKind, fieldedAt, fieldedKind, isSmallForm, storedOf};
 ghost use Rattle.byte_section.specs.Told.{spanOf, toldSection};
 ghost use Rattle.norm_heads.specs.Heads.{countsPart, arcsAt, toldHeads};
 
-// What reading the arcs and the labels finds: how many of each, and the place after them.
+// What reading the arcs and the labels finds: how many of each, how many labels have their sums stored, whether the form is the small one, and
+// the place after them.
 pub enum HeadsAnswer {
-    Read(usize, usize, usize),
+    Read(usize, usize, usize, bool, usize),
     Refused(Refusal, usize),
 }
 
@@ -84,16 +88,16 @@ pub fn load_arcs(s: &[u8], n: usize, arcs: &mut [u64])
     }
 }
 
-// The `count` records of the parameters section, from `start` on.
-fn walk_labels(s: &[u8], start: usize, count: usize, arcs: &[u32]) -> SectionAnswer
+// The `count` records of the parameters section of a file of a form, from `start` on.
+fn walk_labels(s: &[u8], start: usize, count: usize, arcs: &[u32], is_small: bool) -> SectionAnswer
     requires { ⌜ (start ≤ length (now s)) × (count ≤ labelsMost) ⌝ }
-    ensures { λ r. ⌜ toldSection r ≡ spanOf (records (normalLabelKind (now (arcs .entry))) (now (s .entry)) count start 0) ⌝ }
+    ensures { λ r. ⌜ toldSection r ≡ spanOf (records (fieldedKind «is_small» (now (arcs .entry))) (now (s .entry)) count start 0) ⌝ }
 {
     let mut at = start;
     let mut floor: u64 = 0;
     let mut i: usize = 0;
     while i < count {
-        match norm_kinds::read_label(s, at, floor, arcs) {
+        match norm_kinds::read_label(s, at, floor, arcs, is_small) {
             FloorAnswer::Next(next) => {
                 floor = next;
                 at += 24;
@@ -107,12 +111,12 @@ fn walk_labels(s: &[u8], start: usize, count: usize, arcs: &[u32]) -> SectionAns
     SectionAnswer::Read(count, at)
 }
 
-// The parameters section: its count, from 1 to 500, then its records.
+// The parameters section: its count, from 1 to 500, then its records, all of the first one's form.
 fn read_labels(s: &[u8], at: usize, arcs: &[u32]) -> SectionAnswer
-    ensures { λ r. ⌜ toldSection r ≡ spanOf (sectionAt (normalLabelKind (now (arcs .entry))) (now (s .entry)) 1 labelsMost at) ⌝ }
+    ensures { λ r. ⌜ toldSection r ≡ spanOf (sectionAt (fieldedKind (isSmallForm (now (s .entry)) at) (now (arcs .entry))) (now (s .entry)) 1 labelsMost at) ⌝ }
 {
     match byte_section::read_count(s, at, 1, LABELS_U32) {
-        CountAnswer::Is(n) => walk_labels(s, at + 4, n, arcs),
+        CountAnswer::Is(n) => walk_labels(s, at + 4, n, arcs, norm_kinds::is_small_form(s, at)),
         CountAnswer::Refused(r, place) => SectionAnswer::Refused(r, place),
     }
 }
@@ -120,10 +124,21 @@ fn read_labels(s: &[u8], at: usize, arcs: &[u32]) -> SectionAnswer
 // The parameters section of a file of n arcs.
 fn read_parameters(s: &[u8], at: usize, n: usize) -> SectionAnswer
     requires { ⌜ n ≤ arcsMost ⌝ }
-    ensures { λ r. ⌜ toldSection r ≡ spanOf (sectionAt (normalLabelKind (arcsAt (now (s .entry)) n)) (now (s .entry)) 1 labelsMost at) ⌝ }
+    ensures { λ r. ⌜ toldSection r ≡ spanOf (sectionAt (fieldedKind (isSmallForm (now (s .entry)) at) (arcsAt (now (s .entry)) n)) (now (s .entry)) 1 labelsMost at) ⌝ }
 {
     let arcs = arcs_of(s, n);
     read_labels(s, at, &arcs[..n])
+}
+
+// How many of the p labels that stand at a place have their sums stored: only those of the small form are counted.
+fn stored_in(s: &[u8], labels: usize, p: usize, is_small: bool) -> usize
+    requires { ⌜ labels + 24 * p ≤ length (now s) ⌝ }
+    ensures { λ r. ⌜ r ≡ pick «is_small» (length (storedOf (stands (fieldedAt (now (s .entry))) 24 p labels))) p ⌝ }
+{
+    if is_small {
+        return norm_kinds::count_stored(s, labels, p);
+    }
+    p
 }
 
 // The arcs and the labels, one after the other.
@@ -132,7 +147,11 @@ pub fn read_heads(s: &[u8]) -> HeadsAnswer
 {
     match read_arcs(s) {
         SectionAnswer::Read(arcs, next) => match read_parameters(s, next, arcs) {
-            SectionAnswer::Read(parameters, end) => HeadsAnswer::Read(arcs, parameters, end),
+            SectionAnswer::Read(parameters, end) => {
+                let is_small = norm_kinds::is_small_form(s, next);
+                let stored = stored_in(s, next + 4, parameters, is_small);
+                HeadsAnswer::Read(arcs, parameters, stored, is_small, end)
+            }
             SectionAnswer::Refused(r, place) => HeadsAnswer::Refused(r, place),
         },
         SectionAnswer::Refused(r, place) => HeadsAnswer::Refused(r, place),

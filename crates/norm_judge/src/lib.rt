@@ -4,7 +4,7 @@ use num_packed::Walked;
 use refusal::Refusal;
 use refusal::Verdict;
 ghost use mathlib.Core.Path.{_≡_};
-ghost use mathlib.Core.Bool.{true};
+ghost use mathlib.Core.Bool.{true, false};
 ghost use Prim.Native.Nat.{_+_, _*_, _≤_, _^_};
 ghost use lib.IntN.{pos};
 ghost use lib.ListN.{length};
@@ -67,7 +67,7 @@ fn sums_sound(
     square: u64,
 ) -> bool
     requires { ⌜ (arcs ≤ arcsMost) × (p ≤ labelsMost) × (tri p ≤ length (now matrix)) × (p ≤ length (now rights)) ⌝ }
-    ensures { λ r. ⌜ r ≡ isNowhere (sumsWhere arcs p (now (matrix .entry)) (now (rights .entry)) accepted square) ⌝ }
+    ensures { λ r. ⌜ r ≡ isNowhere (sumsWhere false arcs p (now (matrix .entry)) (now (rights .entry)) accepted square) ⌝ }
 {
     let bound = bound_of(arcs, accepted, norm_totals::FILE_MATRIX_UNIT);
     match num_packed::first_unsound(matrix, p, bound) {

@@ -1,4 +1,5 @@
 pub mod Floors
 pub mod Records
+pub mod Stored
 pub mod Labels
 pub mod Long

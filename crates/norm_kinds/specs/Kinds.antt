@@ -1,10 +1,11 @@
--- Document 01, 'Normal file': the four kinds of record of a normal file, as kinds of the generic section. Each has its bytes beside it.
+-- Document 01, 'Normal file': the four kinds of record of a normal file, as kinds of the generic section. Each has its bytes beside it. Document
+-- 02, #106, gives the labels a second form.
 use Prim.Native.Nat.{ℕ, _+_}
-use mathlib.Core.List.{List, _++_}
-use mathlib.Core.Bool.{Bool, true}
+use mathlib.Core.List.{List, [], _∷_, _++_, map}
+use mathlib.Core.Bool.{Bool, true, not}
 use lib.IntN.{ℤ}
 use mir.Syntax.{w64}
-use Rattle.num_whole.specs.Tests.{same, both}
+use Rattle.num_whole.specs.Tests.{same, pick, both, between}
 use Rattle.byte_words.specs.Words.{word, bytesOf, signedWord, signedBytes}
 use Rattle.byte_section.specs.Section.{Kind}
 use Rattle.norm_system.specs.System.{arcOk, normalLabelOk, keyOf}
@@ -29,21 +30,52 @@ normalLabelAt s at =
       estimate = signedWord w64 s (at + 16);
     }
 
--- "zero u32"
-unfoldable pub zeroFieldOk : List ℕ → ℕ → Bool
-zeroFieldOk s at = same (word 4 s (at + 12)) 0
-
-unfoldable pub normalLabelAtOk : List ℕ → List ℕ → ℕ → Bool
-normalLabelAtOk arcs s at = both (zeroFieldOk s at) (normalLabelOk arcs (normalLabelAt s at))
-
 unfoldable pub normalLabelBytes : NormalLabel → List ℕ
 normalLabelBytes l =
     bytesOf 2 (l .kind)
     ++ (bytesOf 2 (l .index) ++ (bytesOf 4 (l .arc) ++ (bytesOf 4 (l .weight) ++ (bytesOf 4 0 ++ signedBytes w64 (l .estimate)))))
 
-abbrev pub normalLabelKind : List ℕ → Kind NormalLabel
-normalLabelKind arcs =
-    record { size = 24; decode = normalLabelAt; fieldsOk = normalLabelAtOk arcs; key = keyOf; after = λ l. keyOf l + 1 }
+-- ---- "zero u32" is a field in 02, #106: "A new form sets the zero field of a parameter to 1 if seen and 2 if not, and stores matrix sums and
+-- right sides only for seen ones, in the old order; the counts follow. The old form has 0 there throughout."
+-- a label with its field
+pub record Fielded : Type 0 where
+  pub label : NormalLabel
+  pub field : ℕ
+
+abbrev pub labelsIn : List Fielded → List NormalLabel
+labelsIn l = map (λ m. m .label) l
+
+abbrev pub fieldedKey : Fielded → ℕ
+fieldedKey m = keyOf (m .label)
+
+unfoldable pub fieldedAt : List ℕ → ℕ → Fielded
+fieldedAt s at = record { label = normalLabelAt s at; field = word 4 s (at + 12) }
+
+-- "a file mixing 0 with 1 or 2, or a field above 2: 4": the field in a file of either form
+unfoldable pub fieldOk : Bool → ℕ → Bool
+fieldOk small field = pick small (between 1 field 2) (same field 0)
+
+unfoldable pub fieldedAtOk : Bool → List ℕ → List ℕ → ℕ → Bool
+fieldedAtOk small arcs s at = both (fieldOk small (word 4 s (at + 12))) (normalLabelOk arcs (normalLabelAt s at))
+
+unfoldable pub fieldedBytes : Fielded → List ℕ
+fieldedBytes m =
+    bytesOf 2 (m .label .kind)
+    ++ (bytesOf 2 (m .label .index)
+    ++ (bytesOf 4 (m .label .arc) ++ (bytesOf 4 (m .label .weight) ++ (bytesOf 4 (m .field) ++ signedBytes w64 (m .label .estimate)))))
+
+abbrev pub fieldedKind : Bool → List ℕ → Kind Fielded
+fieldedKind small arcs =
+    record { size = 24; decode = fieldedAt; fieldsOk = fieldedAtOk small arcs; key = fieldedKey; after = λ m. fieldedKey m + 1 }
+
+-- the first parameter's field fixes the form: 0 is the old one (the section begins at a place with its count of four bytes)
+unfoldable pub isSmallForm : List ℕ → ℕ → Bool
+isSmallForm s at = not (same (word 4 s (at + 16)) 0)
+
+-- the labels whose sums are stored: all in the old form, "only .. seen ones" in the small one
+unfoldable pub storedOf : List Fielded → List NormalLabel
+storedOf [] = []
+storedOf (m ∷ l) = pick (same (m .field) 2) (storedOf l) (m .label ∷ storedOf l)
 
 -- "matrix sums (P(P+1)/2, i64); right sides (P, i64)"
 unfoldable pub sumBytes : ℤ → List ℕ

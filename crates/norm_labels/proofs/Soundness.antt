@@ -10,7 +10,7 @@ use lib.ListN.{length, getD}
 use Rattle.num_whole.specs.Tests.{less, same}
 use Rattle.num_whole.proofs.Cases.{less-true, less-false, by-cases}
 use Rattle.num_packed.specs.Sound.{entry}
-use Rattle.norm_system.specs.System.{System, has, fileSquareUnit, boundOf, unsoundIn, nowhere}
+use Rattle.norm_system.specs.System.{System, has, fileSquareUnit, boundOf, unsoundStored, unsoundIn, nowhere}
 use Rattle.norm_system.proofs.Sound.{where-sound, sound-where}
 use Rattle.norm_labels.specs.Seats.{seat}
 use Rattle.norm_labels.proofs.Seats.{seat-at, rise, seats-order, has-at}
@@ -110,7 +110,7 @@ pub record Judged (x : System) : Type 0 where
   pub square : x .square ≤ boundOf (length (x .arcs)) (x .accepted) fileSquareUnit
 
 pub judged : (x : System) → unsoundIn x ≡ nowhere → Judged x
-unfolding unsoundIn
+unfolding unsoundIn unsoundStored
 judged x e =
     let s = where-sound (length (x .arcs)) (length (x .labels)) (x .matrix) (x .rights) (x .accepted) (x .square) e in
     record {
@@ -123,7 +123,7 @@ judged x e =
     }
 
 pub judged-sound : (x : System) → Judged x → unsoundIn x ≡ nowhere
-unfolding unsoundIn
+unfolding unsoundIn unsoundStored
 judged-sound x s =
     sound-where (length (x .arcs)) (length (x .labels)) (x .matrix) (x .rights) (x .accepted) (x .square)
     (record {

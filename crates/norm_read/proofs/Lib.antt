@@ -1,5 +1,9 @@
 pub mod Plain
 pub mod Parts
-pub mod Accepted
+pub mod Stored
+pub mod Sections
 pub mod Forth
+pub mod Held
+pub mod Accepted
+pub mod Whole
 pub mod Back

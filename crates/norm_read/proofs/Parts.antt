@@ -5,7 +5,7 @@ use mathlib.Core.Path.{_≡_, refl, sym, ap, _∙_}
 use mathlib.Core.List.{List}
 use native.Mathlib.Omega.{arith}
 use lib.IntN.{ℤ}
-use lib.ListN.{length, getD}
+use lib.ListN.{length, getD, length-map}
 use Rattle.num_whole.specs.Tests.{less}
 use Rattle.num_whole.specs.Answer.{Judged, good, bad}
 use Rattle.num_whole.proofs.Cases.{yes, no, by-cases}
@@ -14,11 +14,12 @@ use Rattle.byte_section.proofs.Walk.{good-same, pick-read, then-good, then-bad,
 use Rattle.byte_section.proofs.Read.{section-read}
 use Rattle.byte_section.proofs.Chains.{then-then, then-made, then-same}
 use Rattle.num_packed.specs.Triangle.{tri}
-use Rattle.norm_system.specs.System.{Where, nowhere, inMatrix, inRights, inAccepted, inSquare, unsoundIn}
+use Rattle.norm_system.specs.System.{Where, nowhere, inMatrix, inRights, inAccepted, inSquare, unsoundStored}
+use Rattle.norm_labels.specs.Labels.{onLabels}
 use Rattle.byte_words.specs.Stands.{stands}
 use Rattle.norm_walk.specs.Walk.{unsoundAt}
-use Rattle.norm_kinds.specs.Kinds.{sumKind, Totals, noTotals, totalsAt, totalsKind}
-use Rattle.norm_read.specs.Normal.{Normal, systemFrom, exactly, atWhere, soundly, readNormal, shownNormal}
+use Rattle.norm_kinds.specs.Kinds.{storedOf, sumKind, Totals, noTotals, totalsAt, totalsKind}
+use Rattle.norm_read.specs.Normal.{Normal, systemFrom, normalFrom, exactly, atWhere, soundly, readNormal, shownNormal}
 use Rattle.norm_heads.specs.Heads.{Heads, headsPart, Counts, countsPart}
 use Rattle.norm_heads.proofs.Heads.{section-items}
 use Rattle.norm_sections.specs.Sums.{plainPart, Places, totalsPart, sumsPart}
@@ -44,12 +45,9 @@ placesOf at x = record { matrix = at + 4; rights = x .matrix .next + 4; totals =
 
 abbrev normalOf : Heads → Runs → Normal
 normalOf h x =
-    record {
-      holds = systemFrom (h .arcs .items) (h .labels .items) (x .matrix .items) (x .rights .items) (getD (x .totals .items) 0 noTotals);
-      matrix = h .labels .next + 4;
-      rights = x .matrix .next + 4;
-      totals = x .rights .next + 4;
-    }
+    normalFrom (h .small) (h .labels .items)
+    (systemFrom (h .arcs .items) (storedOf (h .labels .items)) (x .matrix .items) (x .rights .items) (getD (x .totals .items) 0 noTotals))
+    (h .labels .next + 4) (x .matrix .next + 4) (x .rights .next + 4)
 
 -- after the last section, whatever was read
 closed-then : {A B C : Type 0} (s : List ℕ) (at : ℕ) (a : A) (b : B) (f : A → Judged C) (g : B → Judged C) → f a ≡ g b → andThen (closed s at a) f ≡ andThen (closed s at b) g
@@ -78,7 +76,7 @@ sums-places s p at =
     (λ sides. andThen (plainPart s sides p 8) (λ last. andThen (plainPart s last 1 16) (λ end. closed s end (record { matrix = at + 4; rights = sides + 4; totals = last + 4 })))) (tri p) at
 
 -- ---- the reading, in runs
-read-runs : (s : List ℕ) → readNormal s ≡ andThen (headsPart s) (λ h. andThen (runsPart s (length (h .labels .items)) (h .labels .next)) (λ x. soundly (normalOf h x)))
+read-runs : (s : List ℕ) → readNormal s ≡ andThen (headsPart s) (λ h. andThen (runsPart s (length (storedOf (h .labels .items))) (h .labels .next)) (λ x. soundly (normalOf h x)))
 unfolding readNormal headsPart runsPart
 read-runs s =
     sym
@@ -115,7 +113,7 @@ exactly-items K s n at r e =
 -- ---- the reading, in numbers
 shown-where : (x : Normal) (w : Where)
     → shownNormal (atWhere x w)
-    ≡ shownWhere (length (x .holds .arcs)) (length (x .holds .labels)) (record { matrix = x .matrix; rights = x .rights; totals = x .totals }) w
+    ≡ shownWhere (length (x .holds .arcs)) (length (x .holds .labels)) (length (x .stored .labels)) (x .small) (record { matrix = x .matrix; rights = x .rights; totals = x .totals }) w
 unfolding atWhere shownWhere
 shown-where x nowhere = refl
 shown-where x (inMatrix k) = refl
@@ -124,29 +122,34 @@ shown-where x inAccepted = refl
 shown-where x inSquare = refl
 
 module _ (s : List ℕ) (h : Heads) where
+  -- how many labels there are, and how many have their sums stored
   abbrev p : ℕ
   p = length (h .labels .items)
+
+  abbrev n : ℕ
+  n = length (storedOf (h .labels .items))
 
   abbrev at : ℕ
   at = h .labels .next
 
-  unsound-same : (x : Runs) → runsPart s p at ≡ good x
-      → unsoundIn (normalOf h x .holds) ≡ unsoundAt s (length (h .arcs .items)) p (at + 4) (x .matrix .next + 4) (x .rights .next + 4)
-  unfolding unsoundIn unsoundAt stands totalsAt
+  unsound-same : (x : Runs) → runsPart s n at ≡ good x
+      → unsoundStored (h .small) (normalOf h x .stored) ≡ unsoundAt (h .small) s (length (h .arcs .items)) n (at + 4) (x .matrix .next + 4) (x .rights .next + 4)
+  unfolding unsoundStored unsoundAt stands totalsAt
   unsound-same x e =
-      let z = runs-read s p at x e in
-      let m = exactly-items sumKind s (tri p) at (x .matrix) (z .first) in
-      let r = exactly-items sumKind s p (x .matrix .next) (x .rights) (z .second) in
+      let z = runs-read s n at x e in
+      let m = exactly-items sumKind s (tri n) at (x .matrix) (z .first) in
+      let r = exactly-items sumKind s n (x .matrix .next) (x .rights) (z .second) in
       let t : getD (x .totals .items) 0 noTotals ≡ totalsAt s (x .rights .next + 4) =
       ap (λ l. getD l 0 noTotals) (exactly-items totalsKind s 1 (x .rights .next) (x .totals) (z .third)) in
       rw (m, r, t)
 
-  rest-shown : (j : Judged Runs) → runsPart s p at ≡ j
-      → shownNormal (andThen j (λ x. soundly (normalOf h x))) ≡ shownRest s (length (h .arcs .items)) p (andThen j (λ x. good (placesOf at x)))
-  unfolding andThen shownRest shownSums soundly
+  rest-shown : (j : Judged Runs) → runsPart s n at ≡ j
+      → shownNormal (andThen j (λ x. soundly (normalOf h x))) ≡ shownRest s (length (h .arcs .items)) p n (h .small) (andThen j (λ x. good (placesOf at x)))
+  unfolding andThen shownRest shownSums soundly onLabels
   rest-shown (good x) e =
-      shown-where (normalOf h x) (unsoundIn (normalOf h x .holds))
-      ∙ ap (shownWhere (length (h .arcs .items)) p (placesOf at x)) (unsound-same x e)
+      shown-where (normalOf h x) (unsoundStored (h .small) (normalOf h x .stored))
+      ∙ ap (λ k. shownWhere (length (h .arcs .items)) k n (h .small) (placesOf at x) (unsoundStored (h .small) (normalOf h x .stored))) (length-map (h .labels .items) (λ m. m .label))
+      ∙ ap (shownWhere (length (h .arcs .items)) p n (h .small) (placesOf at x)) (unsound-same x e)
   rest-shown (bad number place) e = refl
 
 pub read-refused : (s : List ℕ) {number place : ℕ} → countsPart s ≡ bad number place → shownBad number place ≡ shownNormal (readNormal s)
@@ -154,9 +157,9 @@ unfolding countsPart
 read-refused s e = sym (ap shownNormal (read-runs s ∙ then-bad _ _ (then-told _ _ _ _ e)))
 
 pub read-rest : (s : List ℕ) (c : Counts) → countsPart s ≡ good c
-    → shownRest s (c .arcs) (c .parameters) (sumsPart s (c .parameters) (c .next)) ≡ shownNormal (readNormal s)
+    → shownRest s (c .arcs) (c .parameters) (c .stored) (c .small) (sumsPart s (c .stored) (c .next)) ≡ shownNormal (readNormal s)
 unfolding countsPart
 read-rest s c e =
     let h = then-read _ _ _ e in
     rw (← good-same (h .2))
-    (sym (ap shownNormal (read-runs s ∙ then-good _ _ (h .1)) ∙ rest-shown s (h .0) _ refl ∙ ap (shownRest s _ _) (sums-places s _ _)))
+    (sym (ap shownNormal (read-runs s ∙ then-good _ _ (h .1)) ∙ rest-shown s (h .0) _ refl ∙ ap (shownRest s _ _ _ _) (sums-places s _ _)))

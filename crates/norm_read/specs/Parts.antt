@@ -2,6 +2,7 @@
 -- What the reader of a normal file tells in the end, in the parts that the code has, all in numbers.
 use Prim.Native.Nat.{ℕ, _+_, _*_}
 use mathlib.Core.List.{List}
+use mathlib.Core.Bool.{Bool, false}
 use Rattle.num_whole.specs.Answer.{Judged, good, bad}
 use Rattle.norm_system.specs.System.{Where, nowhere, inMatrix, inRights, inAccepted, inSquare}
 use Rattle.norm_walk.specs.Walk.{unsoundAt}
@@ -11,19 +12,29 @@ use Rattle.norm_read.specs.Normal.{ShownNormal}
 -- ---- what is told
 abbrev pub shownBad : ℕ → ℕ → ShownNormal
 shownBad number place =
-    record { verdict = bad number place; arcs = 0; parameters = 0; matrix = 0; rights = 0; totals = 0 }
+    record { verdict = bad number place; arcs = 0; parameters = 0; stored = 0; small = false; matrix = 0; rights = 0; totals = 0 }
 
-unfoldable pub shownWhere : ℕ → ℕ → Places → Where → ShownNormal
-shownWhere arcs p x nowhere =
-    record { verdict = good tt; arcs = arcs; parameters = p; matrix = x .matrix; rights = x .rights; totals = x .totals }
-shownWhere arcs p x (inMatrix k) = shownBad 6 (x .matrix + 8 * k)
-shownWhere arcs p x (inRights k) = shownBad 6 (x .rights + 8 * k)
-shownWhere arcs p x inAccepted = shownBad 6 (x .totals)
-shownWhere arcs p x inSquare = shownBad 6 (x .totals + 8)
+-- of a file of so many arcs and p labels, of which n have their sums stored
+unfoldable pub shownWhere : ℕ → ℕ → ℕ → Bool → Places → Where → ShownNormal
+shownWhere arcs p n small x nowhere =
+    record {
+      verdict = good tt;
+      arcs = arcs;
+      parameters = p;
+      stored = n;
+      small = small;
+      matrix = x .matrix;
+      rights = x .rights;
+      totals = x .totals;
+    }
+shownWhere arcs p n small x (inMatrix k) = shownBad 6 (x .matrix + 8 * k)
+shownWhere arcs p n small x (inRights k) = shownBad 6 (x .rights + 8 * k)
+shownWhere arcs p n small x inAccepted = shownBad 6 (x .totals)
+shownWhere arcs p n small x inSquare = shownBad 6 (x .totals + 8)
 
-unfoldable pub shownSums : List ℕ → ℕ → ℕ → Places → ShownNormal
-shownSums s arcs p x = shownWhere arcs p x (unsoundAt s arcs p (x .matrix) (x .rights) (x .totals))
+unfoldable pub shownSums : List ℕ → ℕ → ℕ → ℕ → Bool → Places → ShownNormal
+shownSums s arcs p n small x = shownWhere arcs p n small x (unsoundAt small s arcs n (x .matrix) (x .rights) (x .totals))
 
-unfoldable pub shownRest : List ℕ → ℕ → ℕ → Judged Places → ShownNormal
-shownRest s arcs p (good x) = shownSums s arcs p x
-shownRest s arcs p (bad number place) = shownBad number place
+unfoldable pub shownRest : List ℕ → ℕ → ℕ → ℕ → Bool → Judged Places → ShownNormal
+shownRest s arcs p n small (good x) = shownSums s arcs p n small x
+shownRest s arcs p n small (bad number place) = shownBad number place

@@ -2,7 +2,7 @@
 -- Assumes nothing.
 use Prim.Native.Nat.{ℕ, _≤_}
 use mathlib.Core.Path.{_≡_, refl, sym, ap, _∙_}
-use mathlib.Core.Bool.{true}
+use mathlib.Core.Bool.{true, false}
 use native.Mathlib.Omega.{arith}
 use lib.ListN.{length}
 use mir.Syntax.{w64}
@@ -17,7 +17,7 @@ use Rattle.arc_heading.specs.declared.Heading.{Heading}
 use Rattle.num_packed.specs.Triangle.{tri}
 use Rattle.take_state.specs.State.{State, soundState}
 use Rattle.take_state.proofs.Rooms.{Roomed}
-use Rattle.norm_system.specs.System.{arcOk, nowhere, sumsWhere, unsoundIn}
+use Rattle.norm_system.specs.System.{arcOk, nowhere, sumsWhere, unsoundStored, unsoundIn}
 use Rattle.norm_system.proofs.Sound.{SoundSystem, sound-where}
 use Rattle.norm_read.specs.Normal.{readNormal}
 use Rattle.norm_read.proofs.Back.{placed, written-read}
@@ -48,9 +48,9 @@ module _ (h : Heading) (s : State) where
       arc-few = between-true _ _ _ arc-ok .1
 
       sums : unsoundIn (systemOfState h s) ≡ nowhere
-      unfolding unsoundIn systemOfState
+      unfolding unsoundIn unsoundStored systemOfState
       sums =
-          ap (λ p. sumsWhere 1 p (systemOfState h s .matrix) (systemOfState h s .rights) (systemOfState h s .accepted) (systemOfState h s .square)) (labels-long h fits)
+          ap (λ p. sumsWhere false 1 p (systemOfState h s .matrix) (systemOfState h s .rights) (systemOfState h s .accepted) (systemOfState h s .square)) (labels-long h fits)
           ∙ sound-where _ _ _ _ _ _ (state-sums (h .stations) (h .parameters) s sound (held .counts))
 
       system-sound : SoundSystem (systemOfState h s)

@@ -1,5 +1,6 @@
 // Inner to the readers of normal files: one sum, read where it stands in the file's bytes and held against its bound and its diagonals.
 ghost use mathlib.Core.Path.{_≡_};
+ghost use mathlib.Core.Bool.{Bool};
 ghost use Prim.Native.Nat.{ℕ, _+_, _*_, _≤_, _<_, _^_};
 ghost use lib.IntN.{pos};
 ghost use lib.Signed.{ltZ};
@@ -8,8 +9,9 @@ ghost use mir.Syntax.{w64};
 ghost use Rattle.num_limits.specs.Capacities.{labelsMost};
 ghost use Rattle.byte_words.specs.Words.{signedWord};
 ghost use Rattle.num_packed.specs.Triangle.{tri};
-ghost use Rattle.num_packed.specs.Sound.{isZero, breaks, breaksSide};
-ghost use Rattle.norm_sum.specs.Sums.{sumsAt, past};
+ghost use Rattle.num_packed.specs.Sound.{entry, isZero, breaksSide};
+ghost use Rattle.norm_system.specs.System.{breaksIn};
+ghost use Rattle.norm_sum.specs.Sums.{sumsAt, past, leastOf};
 
 // ---- one sum
 
@@ -47,27 +49,56 @@ fn is_zero(x: i64) -> bool
     x == 0
 }
 
-fn is_negative(x: i64) -> bool
-    ensures { λ r. ⌜ r ≡ ltZ x (pos 0) ⌝ }
+// The least value that a diagonal may have in a form.
+pub fn least_of(is_small: bool) -> i64
+    ensures { λ r. ⌜ r ≡ leastOf «is_small» ⌝ }
 {
-    x < 0
+    if is_small {
+        return 1;
+    }
+    0
+}
+
+fn is_low(x: i64, least: i64) -> bool
+    ensures { λ r. ⌜ r ≡ ltZ x least ⌝ }
+{
+    x < least
 }
 
 // ---- matrix sums
 
-// Whether the entry of row i and column j is one that sums cannot have. A diagonal is looked up only for an entry that is not 0.
-pub fn is_broken(s: &[u8], start: usize, i: usize, j: usize, bound: u64) -> bool
+// Whether the diagonal of column j is 0.
+pub fn is_silent_at(s: &[u8], start: usize, j: usize) -> bool
+    requires { ⌜ j < labelsMost ⌝ }
+    requires { ⌜ start + 8 * tri (j + 1) ≤ length (now s) ⌝ }
+    ensures { λ r. ⌜ ((n : ℕ) → tri (j + 1) ≤ n → r ≡ isZero (entry (sumsAt (now (s .entry)) start n) j j)) ⌝ }
+{
+    is_zero(sum_at(s, start, num_packed::place(j, j)))
+}
+
+// Whether the entry of row i and column j is one that the sums of a form cannot have, which tells the least value of a diagonal; `is_silent` is
+// looked up once a column. The diagonal of the row is looked up only for an entry that is not 0.
+pub fn is_broken(
+    s: &[u8],
+    start: usize,
+    i: usize,
+    j: usize,
+    bound: u64,
+    least: i64,
+    is_silent: bool,
+) -> bool
     requires { ⌜ (i ≤ j) × (j < labelsMost) ⌝ }
     requires { ⌜ start + 8 * tri (j + 1) ≤ length (now s) ⌝ }
     requires { ⌜ bound ≤ 2 ^ 62 ⌝ }
-    ensures { λ r. ⌜ ((n : ℕ) → tri (j + 1) ≤ n → r ≡ breaks (pos bound) (sumsAt (now (s .entry)) start n) i j) ⌝ }
+    requires { ⌜ ((n : ℕ) → tri (j + 1) ≤ n → «is_silent» ≡ isZero (entry (sumsAt (now s) start n) j j)) ⌝ }
+    ensures { λ r. ⌜ ((small : Bool) (n : ℕ) → least ≡ leastOf small → tri (j + 1) ≤ n → r ≡ breaksIn small (pos bound) (sumsAt (now (s .entry)) start n) i j) ⌝ }
 {
     let x = sum_at(s, start, num_packed::place(i, j));
     if is_past(x, bound) {
         return true;
     }
     if i == j {
-        return is_negative(x);
+        return is_low(x, least);
     }
     if is_zero(x) {
         return false;
@@ -75,7 +106,7 @@ pub fn is_broken(s: &[u8], start: usize, i: usize, j: usize, bound: u64) -> bool
     if is_zero(sum_at(s, start, num_packed::place(i, i))) {
         return true;
     }
-    is_zero(sum_at(s, start, num_packed::place(j, j)))
+    is_silent
 }
 
 // ---- right sides

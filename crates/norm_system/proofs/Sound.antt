@@ -2,25 +2,25 @@
 -- sound sums are numbers of 64 bits.
 -- Assumes nothing.
 use Prim.Native.Nat.{ℕ, zero, suc, _+_, _-_, _*_, _^_, _≤_, _<_}
-use mathlib.Core.Path.{_≡_, refl, sym, subst}
+use mathlib.Core.Path.{_≡_, refl, sym, ap, ap₂, _∙_, subst}
 use mathlib.Core.List.{List}
 use mathlib.Core.Bool.{Bool, true, false, cond}
 use native.Mathlib.Omega.{arith}
-use native.Mathlib.Nat.{not-suc-le-zero, le-trans, mul-le-mul}
+use native.Mathlib.Nat.{not-suc-le-zero, le-refl, le-trans, mul-le-mul}
 use lib.IntN.{ℤ, pos, natAbs}
 use lib.ListN.{length, getD}
 use mir.Syntax.{w64}
 use mir.Val.{SFits}
-use Rattle.num_whole.specs.Tests.{less, same, pick}
+use Rattle.num_whole.specs.Tests.{less, same, pick, both, either}
 use Rattle.num_whole.specs.Lists.{all, ascend}
-use Rattle.num_whole.proofs.Cases.{apart, yes, no, by-cases, less-true, less-false, not-less}
+use Rattle.num_whole.proofs.Cases.{apart, yes, no, fails, holds, last-fails, by-cases, is-same, same-true, less-true, less-false, not-less}
 use Rattle.num_whole.proofs.Ints.{within-fits}
 use Rattle.num_packed.proofs.Tests.{between-bounds, not-above, not-under}
 use Rattle.num_packed.specs.Triangle.{tri}
-use Rattle.num_packed.specs.Sound.{entry, breaks, breaksSide}
+use Rattle.num_packed.specs.Sound.{entry, isZero, breaks, breaksSide}
 use Rattle.num_packed.specs.Found.{Found, none, at}
 use Rattle.num_packed.proofs.Found.{first-none, first-sound, first-number, columns-none, columns-sound, columns-inside}
-use Rattle.norm_system.specs.System.{System, arcOk, normalLabelOk, keyOf, fileSquareUnit, boundOf, Where, nowhere, inMatrix, inRights, inAccepted, inSquare, afterMatrix, afterRights, totalsWhere, sidesWhere, sumsWhere, unsoundIn}
+use Rattle.norm_system.specs.System.{System, arcOk, normalLabelOk, keyOf, fileSquareUnit, boundOf, Where, nowhere, inMatrix, inRights, inAccepted, inSquare, afterMatrix, afterRights, totalsWhere, sidesWhere, breaksIn, sumsWhere, unsoundStored, unsoundIn}
 
 -- ---- one part after another
 matrix-nowhere : (x : Found) (w : Where) → afterMatrix x w ≡ nowhere → (x ≡ none) × (w ≡ nowhere)
@@ -46,8 +46,8 @@ pub record SoundSums (arcs p : ℕ) (m r : List ℤ) (n q : ℕ) : Type 0 where
   pub square : q ≤ boundOf arcs n fileSquareUnit
 
 module _ (arcs p : ℕ) (m r : List ℤ) (n q : ℕ) where
-  pub where-sound : sumsWhere arcs p m r n q ≡ nowhere → SoundSums arcs p m r n q
-  unfolding sumsWhere sidesWhere totalsWhere
+  pub where-sound : sumsWhere false arcs p m r n q ≡ nowhere → SoundSums arcs p m r n q
+  unfolding sumsWhere sidesWhere totalsWhere breaksIn both either
   where-sound e =
       let a = matrix-nowhere _ _ e in
       let b = rights-nowhere _ _ (a .1) in
@@ -60,8 +60,8 @@ module _ (arcs p : ℕ) (m r : List ℤ) (n q : ℕ) where
         square = less-false _ _ (d .0);
       }
 
-  pub sound-where : SoundSums arcs p m r n q → sumsWhere arcs p m r n q ≡ nowhere
-  unfolding sumsWhere sidesWhere totalsWhere afterMatrix afterRights
+  pub sound-where : SoundSums arcs p m r n q → sumsWhere false arcs p m r n q ≡ nowhere
+  unfolding sumsWhere sidesWhere totalsWhere afterMatrix afterRights breaksIn both either
   sound-where s =
       let a = columns-sound (breaks (pos (boundOf arcs n (2 ^ 58))) m) p (s .matrix) in
       let b = first-sound (breaksSide (pos (boundOf arcs n (2 ^ 55))) m r) p (s .rights) in
@@ -172,12 +172,12 @@ module _ (arcs n q k : ℕ) where
       (λ e. let z : _≡_ {A = ℕ} 0 1 = cc in omega arith)
       (λ e. let z : _≡_ {A = ℕ} 0 1 = cc in omega arith)
 
-module _ (arcs p : ℕ) (m r : List ℤ) (n q k : ℕ) where
-  pub matrix-inside : sumsWhere arcs p m r n q ≡ inMatrix k → k < tri p
+module _ (small : Bool) (arcs p : ℕ) (m r : List ℤ) (n q k : ℕ) where
+  pub matrix-inside : sumsWhere small arcs p m r n q ≡ inMatrix k → k < tri p
   unfolding sumsWhere sidesWhere
   matrix-inside e = columns-inside _ p k (matrix-at _ _ k (rights-not _ _ k (totals-not-matrix arcs n q k)) e)
 
-  pub rights-inside : sumsWhere arcs p m r n q ≡ inRights k → k < p
+  pub rights-inside : sumsWhere small arcs p m r n q ≡ inRights k → k < p
   unfolding sumsWhere sidesWhere
   rights-inside e = first-number _ p k (rights-at _ _ k (totals-not-right arcs n q k) (matrix-to _ _ k e)) .inside
 
@@ -195,30 +195,82 @@ pub record SoundSystem (x : System) : Type 0 where
   pub rights : length (x .rights) ≡ length (x .labels)
   pub sums : unsoundIn x ≡ nowhere
 
--- its sums, and that they are numbers of 64 bits
-module _ (x : System) (o : SoundSystem x) where
-  pub system-sums : SoundSums (length (x .arcs)) (length (x .labels)) (x .matrix) (x .rights) (x .accepted) (x .square)
-  unfolding unsoundIn
-  system-sums = where-sound _ _ _ _ _ _ (o .sums)
+-- ---- the sums that a file of either form stores: sound as a system's are, and in the small form no diagonal is 0
+abbrev pub AllSeen : Bool → System → Type 0
+AllSeen small x = small ≡ true → (i : ℕ) → i < length (x .labels) → isZero (entry (x .matrix) i i) ≡ false
 
-  bound-fits : (n unit : ℕ) → unit ≤ 2 ^ 58 → boundOf (length (x .arcs)) n unit ≤ 2 ^ 62
-  bound-fits n unit h = le-trans (bound-most (length (x .arcs)) n unit) (mul-le-mul (o .few-arcs) h)
+pub either-false : (a b : Bool) → either a b ≡ false → (a ≡ false) × (b ≡ false)
+unfolding either
+either-false true b e = absurd (apart e)
+either-false false b e = (refl, e)
 
-  pub matrix-fits : (k : ℕ) → k < length (x .matrix) → SFits w64 (getD (x .matrix) k (pos 0))
-  matrix-fits k h =
-      let e = entry-of (length (x .labels)) k (omega (arith, o .matrix)) in
-      let within = entry-within _ (x .matrix) (e .row) (e .column) (system-sums .matrix (e .row) (e .column) (e .upper) (e .inside)) in
-      let small : natAbs (getD (x .matrix) k (pos 0)) ≤ 2 ^ 62 =
-      subst (λ n. natAbs (getD (x .matrix) n (pos 0)) ≤ 2 ^ 62) (sym (e .place)) (le-trans within (bound-fits (x .accepted) (2 ^ 58) (omega arith))) in
-      within-fits w64 _ small tt
+pub either-none : {a b : Bool} → a ≡ false → b ≡ false → either a b ≡ false
+unfolding either
+either-none p q = ap₂ either p q
 
-  pub rights-fit : (k : ℕ) → k < length (x .rights) → SFits w64 (getD (x .rights) k (pos 0))
-  rights-fit k h =
-      let within = side-within _ (x .matrix) (x .rights) k (system-sums .rights k (omega (arith, o .rights))) in
-      within-fits w64 _ (le-trans within (bound-fits (x .accepted) (2 ^ 55) (omega arith))) tt
+after-none : {x : Found} {w : Where} → x ≡ none → w ≡ nowhere → afterMatrix x w ≡ nowhere
+unfolding afterMatrix
+after-none p q = ap₂ afterMatrix p q
 
-  pub accepted-fits : x .accepted < 256 ^ 8
-  accepted-fits = omega (arith, system-sums .accepted, o .few-arcs)
+module _ (small : Bool) (x : System) where
+  abbrev bound : ℤ
+  bound = pos (boundOf (length (x .arcs)) (x .accepted) (2 ^ 58))
 
-  pub square-fits : x .square < 256 ^ 8
-  square-fits = omega (arith, system-sums .square, bound-fits (x .accepted) fileSquareUnit (omega arith))
+  pub stored-sound : unsoundStored small x ≡ nowhere → (unsoundIn x ≡ nowhere) × AllSeen small x
+  unfolding unsoundStored unsoundIn sumsWhere breaksIn
+  stored-sound e =
+      let a = matrix-nowhere _ _ e in
+      let c = columns-none (breaksIn small bound (x .matrix)) (length (x .labels)) (a .0) in
+      let each : (i j : ℕ) → i ≤ j → j < length (x .labels) → (both small (both (same i j) (isZero (entry (x .matrix) i j))) ≡ false) × (breaks bound (x .matrix) i j ≡ false) =
+      λ i j h g. either-false _ _ (c i j h g) in (
+        after-none (columns-sound (breaksIn false bound (x .matrix)) (length (x .labels)) (λ i j h g. either-none (sym (fails _ _ refl)) (each i j h g .1))) (a .1),
+        λ s i g. holds _ _ s (holds _ _ (is-same i i refl) refl) ∙ each i i (le-refl i) g .0,
+      )
+
+  pub sound-stored : unsoundIn x ≡ nowhere → AllSeen small x → unsoundStored small x ≡ nowhere
+  unfolding unsoundStored unsoundIn sumsWhere breaksIn
+  sound-stored e seen =
+      let a = matrix-nowhere _ _ e in
+      let c = columns-none (breaksIn false bound (x .matrix)) (length (x .labels)) (a .0) in
+      after-none
+      (columns-sound (breaksIn small bound (x .matrix)) (length (x .labels)) (λ i j h g. either-none (none-here i j g) (either-false _ _ (c i j h g) .1)))
+      (a .1)
+    where
+      none-here : (i j : ℕ) → j < length (x .labels) → both small (both (same i j) (isZero (entry (x .matrix) i j))) ≡ false
+      none-here i j g =
+          by-cases small
+          (λ s. by-cases (same i j)
+          (λ t. let d : i ≡ j = same-true i j t in
+          last-fails small (last-fails (same i j) (ap (λ n. isZero (entry (x .matrix) n j)) d ∙ seen s j g)))
+          (λ t. last-fails small (sym (fails _ _ t))))
+          (λ s. sym (fails _ _ s))
+
+-- ---- sound sums for at most sixteen arcs are numbers of 64 bits, whatever the number of labels
+module _ (x : System) (few-arcs : length (x .arcs) ≤ 16) (matrix : length (x .matrix) ≡ tri (length (x .labels)))
+    (rights : length (x .rights) ≡ length (x .labels)) (sums : unsoundIn x ≡ nowhere)
+  where
+    all-sums : SoundSums (length (x .arcs)) (length (x .labels)) (x .matrix) (x .rights) (x .accepted) (x .square)
+    unfolding unsoundIn unsoundStored
+    all-sums = where-sound _ _ _ _ _ _ sums
+
+    bound-fits : (n unit : ℕ) → unit ≤ 2 ^ 58 → boundOf (length (x .arcs)) n unit ≤ 2 ^ 62
+    bound-fits n unit h = le-trans (bound-most (length (x .arcs)) n unit) (mul-le-mul few-arcs h)
+
+    pub matrix-fits : (k : ℕ) → k < length (x .matrix) → SFits w64 (getD (x .matrix) k (pos 0))
+    matrix-fits k h =
+        let e = entry-of (length (x .labels)) k (omega (arith, matrix)) in
+        let within = entry-within _ (x .matrix) (e .row) (e .column) (all-sums .matrix (e .row) (e .column) (e .upper) (e .inside)) in
+        let small : natAbs (getD (x .matrix) k (pos 0)) ≤ 2 ^ 62 =
+        subst (λ n. natAbs (getD (x .matrix) n (pos 0)) ≤ 2 ^ 62) (sym (e .place)) (le-trans within (bound-fits (x .accepted) (2 ^ 58) (omega arith))) in
+        within-fits w64 _ small tt
+
+    pub rights-fit : (k : ℕ) → k < length (x .rights) → SFits w64 (getD (x .rights) k (pos 0))
+    rights-fit k h =
+        let within = side-within _ (x .matrix) (x .rights) k (all-sums .rights k (omega (arith, rights))) in
+        within-fits w64 _ (le-trans within (bound-fits (x .accepted) (2 ^ 55) (omega arith))) tt
+
+    pub accepted-fits : x .accepted < 256 ^ 8
+    accepted-fits = omega (arith, all-sums .accepted, few-arcs)
+
+    pub square-fits : x .square < 256 ^ 8
+    square-fits = omega (arith, all-sums .square, bound-fits (x .accepted) fileSquareUnit (omega arith))

@@ -1,4 +1,5 @@
--- Document 01, 'Normal file': what a normal file holds, the limits and the order of its labels, and which sums are sound.
+-- Document 01, 'Normal file': what a normal file holds, the limits and the order of its labels, and which sums are sound; document 02, #106,
+-- for the small form.
 use Prim.Native.Nat.{ℕ, _+_, _*_, _^_}
 use mathlib.Core.List.{List, [], _∷_}
 use mathlib.Core.Bool.{Bool, false}
@@ -7,7 +8,7 @@ use lib.ListN.{length}
 use Rattle.num_limits.specs.Capacities.{acceptedMost, arcMost}
 use Rattle.num_whole.specs.Tests.{less, upTo, same, pick, both, either, between}
 use Rattle.arc_limits.specs.Limits.{indexOk, weightMost}
-use Rattle.num_packed.specs.Sound.{breaks, breaksSide}
+use Rattle.num_packed.specs.Sound.{entry, isZero, breaks, breaksSide}
 use Rattle.num_packed.specs.Found.{Found, none, at, firstFrom, columnsFrom}
 use Rattle.norm_system.specs.declared.NormalLabel.{NormalLabel}
 
@@ -86,10 +87,18 @@ unfoldable pub sidesWhere : ℕ → ℕ → List ℤ → List ℤ → ℕ → �
 sidesWhere arcs p m r accepted square =
     afterRights (firstFrom (breaksSide (pos (boundOf arcs accepted fileRightUnit)) m r) 0 p) (totalsWhere arcs accepted square)
 
-unfoldable pub sumsWhere : ℕ → ℕ → List ℤ → List ℤ → ℕ → ℕ → Where
-sumsWhere arcs p m r accepted square =
-    afterMatrix (columnsFrom (breaks (pos (boundOf arcs accepted fileMatrixUnit)) m) 0 p) (sidesWhere arcs p m r accepted square)
+-- 02, #106: in the small form "a seen parameter whose diagonal is 0: 6", at that diagonal
+unfoldable pub breaksIn : Bool → ℤ → List ℤ → ℕ → ℕ → Bool
+breaksIn small b m i j = either (both small (both (same i j) (isZero (entry m i j)))) (breaks b m i j)
 
--- the first unsound sum of a system
+unfoldable pub sumsWhere : Bool → ℕ → ℕ → List ℤ → List ℤ → ℕ → ℕ → Where
+sumsWhere small arcs p m r accepted square =
+    afterMatrix (columnsFrom (breaksIn small (pos (boundOf arcs accepted fileMatrixUnit)) m) 0 p) (sidesWhere arcs p m r accepted square)
+
+-- the first unsound sum of a system, as a file of either form stores it
+unfoldable pub unsoundStored : Bool → System → Where
+unsoundStored small x = sumsWhere small (length (x .arcs)) (length (x .labels)) (x .matrix) (x .rights) (x .accepted) (x .square)
+
+-- and by 01 alone: as the old form stores it
 unfoldable pub unsoundIn : System → Where
-unsoundIn x = sumsWhere (length (x .arcs)) (length (x .labels)) (x .matrix) (x .rights) (x .accepted) (x .square)
+unsoundIn x = unsoundStored false x

@@ -1,7 +1,8 @@
--- What is unpacked is the system that stands in the rooms, and written again it is the same file.
+-- What is unpacked is the system that stands in the rooms, and written again it is the same file where that is of the old form.
 -- Assumes nothing.
 use mathlib.Core.Path.{_≡_, refl, ap, _∙_}
 use mathlib.Core.List.{List}
+use mathlib.Core.Bool.{false}
 use Prim.Native.Nat.{ℕ}
 use lib.IntN.{ℤ}
 use lib.ListN.{length}
@@ -11,7 +12,7 @@ use Rattle.byte_section.proofs.Walk.{pick-kept, then-read}
 use Rattle.norm_kinds.specs.Bytes.{normalBytes}
 use Rattle.norm_read.specs.Normal.{Normal, readNormal}
 use Rattle.norm_read.proofs.Accepted.{accepted-sound, accepted-estimates}
-use Rattle.norm_read.proofs.Forth.{read-written}
+use Rattle.norm_read.proofs.Back.{old-written}
 use Rattle.norm_room.specs.Room.{systemInRooms, headsOf}
 use Rattle.norm_room.proofs.Back.{room-back}
 use Rattle.norm_unpack.specs.Unpack.{roomily, unpackNormal, filled, matrixOf, rightsOf}
@@ -32,6 +33,6 @@ module _ (s : List ℕ) (bounded : Bytes s) (h : List ℕ) (m r : List ℤ) (x :
       let o = accepted-sound s x f in
       room-back (x .holds) _ _ refl refl (accepted-estimates s x f bounded) (o .matrix) (o .rights) h m r
 
-  -- unpacked, then written: the same bytes
-  pub unpack-written : normalBytes (systemInRooms (length (x .holds .arcs)) (length (x .holds .labels)) (filled headsOf (good x) h) (filled matrixOf (good x) m) (filled rightsOf (good x) r)) ≡ s
-  unpack-written = ap normalBytes unpack-back ∙ read-written s x bounded (unpack-read s (length h) (length m) (length r) x e)
+  -- unpacked, then written by 01: the same bytes, of a file of the old form
+  pub unpack-written : x .small ≡ false → normalBytes (systemInRooms (length (x .holds .arcs)) (length (x .holds .labels)) (filled headsOf (good x) h) (filled matrixOf (good x) m) (filled rightsOf (good x) r)) ≡ s
+  unpack-written old = ap normalBytes unpack-back ∙ old-written s x (unpack-read s (length h) (length m) (length r) x e) old bounded

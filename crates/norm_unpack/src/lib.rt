@@ -1,13 +1,19 @@
-// A normal file unpacked into three lent rooms, one element a value: the heads (arcs, labels, totals), the matrix sums, the right sides. 20 comes
-// last, and a refusal changes nothing lent.
+// A normal file of either form unpacked into three lent rooms, one element a value: the heads (arcs, labels, totals), the matrix sums, the right
+// sides. 20 comes last, and a refusal changes nothing lent.
 use byte_section::ReadAnswer;
 use norm_read::NormalRead;
 use refusal::Refusal;
 ghost use mathlib.Core.Path.{_≡_};
+ghost use mathlib.Core.Bool.{false};
 ghost use Prim.Native.Nat.{_+_, _*_, _≤_};
 ghost use lib.ListN.{length};
 ghost use lib.Seq.{sets};
+ghost use Rattle.num_limits.specs.Capacities.{labelsMost};
 ghost use Rattle.num_whole.specs.Answer.{good};
+ghost use Rattle.num_whole.specs.Tests.{pick};
+ghost use Rattle.num_packed.specs.Triangle.{tri};
+ghost use Rattle.norm_labels.specs.Table.{rowsOf, columnsOf};
+ghost use Rattle.norm_spread.specs.Spread.{spreadRowAt, spreadColumnAt};
 ghost use Rattle.byte_words.specs.Words.{lay};
 ghost use Rattle.norm_sum.specs.Sums.{sumsAt};
 ghost use Rattle.norm_kinds.specs.Kinds.{normalLabelAt};
@@ -75,6 +81,34 @@ fn fill_sums(s: &[u8], start: usize, n: usize, out: &mut [i64])
     }
 }
 
+// The matrix sums of all p labels, which stand at a place: copied in the old form, spread in the small one.
+fn fill_matrix(s: &[u8], labels: usize, p: usize, start: usize, is_small: bool, out: &mut [i64])
+    requires { ⌜ (labels + 24 * p ≤ length (now s)) × (p ≤ labelsMost) ⌝ }
+    requires { ⌜ (start ≤ length (now s)) × (tri p ≤ length (now out)) ⌝ }
+    requires { ⌜ («is_small» ≡ false → start + 8 * tri p ≤ length (now s)) ⌝ }
+    ensures { λ _. ⌜ now (out .exit) ≡ sets (now (out .entry)) 0 (pick «is_small» (columnsOf (spreadColumnAt (now (s .entry)) labels start) 0 p) (sumsAt (now (s .entry)) start (tri p))) ⌝ }
+{
+    if is_small {
+        norm_spread::spread_matrix(s, labels, p, start, out);
+    } else {
+        fill_sums(s, start, num_packed::triangle(p), out);
+    }
+}
+
+// The right sides likewise.
+fn fill_rights(s: &[u8], labels: usize, p: usize, start: usize, is_small: bool, out: &mut [i64])
+    requires { ⌜ (labels + 24 * p ≤ length (now s)) × (p ≤ labelsMost) ⌝ }
+    requires { ⌜ (start ≤ length (now s)) × (p ≤ length (now out)) ⌝ }
+    requires { ⌜ («is_small» ≡ false → start + 8 * p ≤ length (now s)) ⌝ }
+    ensures { λ _. ⌜ now (out .exit) ≡ sets (now (out .entry)) 0 (pick «is_small» (rowsOf (spreadRowAt (now (s .entry)) labels start) 0 p) (sumsAt (now (s .entry)) start p)) ⌝ }
+{
+    if is_small {
+        norm_spread::spread_row(s, labels, p, start, out, 0);
+    } else {
+        fill_sums(s, start, p, out);
+    }
+}
+
 // ---- the file
 
 // A file that was read, unpacked where the rooms are long enough.
@@ -82,6 +116,8 @@ fn unpack_read(
     file: &[u8],
     arcs: usize,
     parameters: usize,
+    stored: usize,
+    is_small: bool,
     entries: usize,
     sides: usize,
     totals: usize,
@@ -89,7 +125,7 @@ fn unpack_read(
     matrix: &mut [i64],
     rights: &mut [i64],
 ) -> NormalRead
-    requires { ⌜ readNormal (now file) ≡ good (normalAt (now file) arcs parameters entries sides totals) ⌝ }
+    requires { ⌜ readNormal (now file) ≡ good (normalAt (now file) arcs parameters stored «is_small» entries sides totals) ⌝ }
     ensures { λ r. ⌜ toldNormalRead r ≡ shownNormal (unpackNormal (now (file .entry)) (length (now (heads .entry))) (length (now (matrix .entry))) (length (now (rights .entry)))) ⌝ }
     ensures { λ _. ⌜ now (heads .exit) ≡ filled headsOf (unpackNormal (now (file .entry)) (length (now (heads .entry))) (length (now (matrix .entry))) (length (now (rights .entry)))) (now (heads .entry)) ⌝ }
     ensures { λ _. ⌜ now (matrix .exit) ≡ filled matrixOf (unpackNormal (now (file .entry)) (length (now (heads .entry))) (length (now (matrix .entry))) (length (now (rights .entry)))) (now (matrix .entry)) ⌝ }
@@ -97,12 +133,15 @@ fn unpack_read(
 {
     if norm_room::is_roomy(arcs, parameters, heads.len(), matrix.len(), rights.len()) {
         fill_heads(file, arcs, parameters, totals, heads);
-        fill_sums(file, entries, num_packed::triangle(parameters), matrix);
-        fill_sums(file, sides, parameters, rights);
+        let labels = 8 + 4 * arcs;
+        fill_matrix(file, labels, parameters, entries, is_small, matrix);
+        fill_rights(file, labels, parameters, sides, is_small, rights);
         NormalRead {
             answer: ReadAnswer::Read,
             arcs,
             parameters,
+            stored,
+            is_small,
             matrix: entries,
             rights: sides,
             totals,
@@ -112,6 +151,8 @@ fn unpack_read(
             answer: ReadAnswer::Refused(Refusal::Room, file.len()),
             arcs: 0,
             parameters: 0,
+            stored: 0,
+            is_small: false,
             matrix: 0,
             rights: 0,
             totals: 0,
@@ -133,6 +174,8 @@ pub fn unpack(file: &[u8], heads: &mut [u64], matrix: &mut [i64], rights: &mut [
             file,
             r.arcs,
             r.parameters,
+            r.stored,
+            r.is_small,
             r.matrix,
             r.rights,
             r.totals,

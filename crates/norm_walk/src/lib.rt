@@ -7,26 +7,28 @@ ghost use lib.IntN.{pos};
 ghost use lib.ListN.{length};
 ghost use Rattle.num_limits.specs.Capacities.{arcsMost, labelsMost};
 ghost use Rattle.num_packed.specs.Triangle.{tri};
-ghost use Rattle.num_packed.specs.Sound.{breaks, breaksSide};
+ghost use Rattle.num_packed.specs.Sound.{breaksSide};
 ghost use Rattle.num_packed.specs.Found.{firstFrom, columnsFrom, toldWalked};
-ghost use Rattle.norm_system.specs.System.{sidesWhere};
+ghost use Rattle.norm_system.specs.System.{sidesWhere, breaksIn};
 ghost use Rattle.norm_sum.specs.Sums.{sumsAt};
 ghost use Rattle.norm_walk.specs.Walk.{unsoundAt};
 ghost use Rattle.norm_totals.specs.Told.{toldWhere};
 
-// The first unsound entry of the p columns that begin at a place.
-fn first_entry(s: &[u8], start: usize, p: usize, bound: u64) -> Walked
+// The first unsound entry of the p columns that begin at a place, in a file of a form.
+fn first_entry(s: &[u8], start: usize, p: usize, bound: u64, is_small: bool) -> Walked
     requires { ⌜ p ≤ labelsMost ⌝ }
     requires { ⌜ start + 8 * tri p ≤ length (now s) ⌝ }
     requires { ⌜ bound ≤ 2 ^ 62 ⌝ }
-    ensures { λ r. ⌜ toldWalked r ≡ columnsFrom (breaks (pos bound) (sumsAt (now (s .entry)) start (tri p))) 0 p ⌝ }
+    ensures { λ r. ⌜ toldWalked r ≡ columnsFrom (breaksIn «is_small» (pos bound) (sumsAt (now (s .entry)) start (tri p))) 0 p ⌝ }
 {
+    let least = norm_sum::least_of(is_small);
     let mut found = Walked::Sound;
     let mut j: usize = 0;
     'all: while j < p {
+        let is_silent = norm_sum::is_silent_at(s, start, j);
         let mut i: usize = 0;
         while i <= j {
-            if norm_sum::is_broken(s, start, i, j, bound) {
+            if norm_sum::is_broken(s, start, i, j, bound, least, is_silent) {
                 found = Walked::Unsound(num_packed::place(i, j));
                 break 'all;
             }
@@ -75,7 +77,7 @@ fn first_beyond(
     }
 }
 
-// The first unsound sum of a file for so many arcs and p parameters, whose sections' records begin at these places.
+// The first unsound sum of a file for so many arcs, which stores those of p parameters; its sections' records begin at these places.
 pub fn first_unsound(
     s: &[u8],
     arcs: usize,
@@ -83,15 +85,16 @@ pub fn first_unsound(
     matrix: usize,
     rights: usize,
     totals: usize,
+    is_small: bool,
 ) -> Unsound
     requires { ⌜ (arcs ≤ arcsMost) × (p ≤ labelsMost) ⌝ }
     requires { ⌜ (matrix + 8 * tri p ≤ length (now s)) × (rights + 8 * p ≤ length (now s)) × (totals + 16 ≤ length (now s)) ⌝ }
-    ensures { λ r. ⌜ toldWhere r ≡ unsoundAt (now (s .entry)) arcs p matrix rights totals ⌝ }
+    ensures { λ r. ⌜ toldWhere r ≡ unsoundAt «is_small» (now (s .entry)) arcs p matrix rights totals ⌝ }
 {
     let accepted = byte_read::read_u64(s, totals);
     let square = byte_read::read_u64(s, totals + 8);
     let bound = norm_totals::bound_of(arcs, accepted, norm_totals::FILE_MATRIX_UNIT);
-    match first_entry(s, matrix, p, bound) {
+    match first_entry(s, matrix, p, bound, is_small) {
         Walked::Unsound(k) => Unsound::Matrix(k),
         Walked::Sound => first_beyond(s, arcs, p, matrix, rights, accepted, square),
     }

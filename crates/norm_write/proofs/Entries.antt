@@ -4,7 +4,7 @@
 -- Assumes nothing.
 use Prim.Native.Nat.{ℕ, _≤_, _<_}
 use mathlib.Core.Path.{_≡_, refl, sym, ap, ap₂, _∙_, subst}
-use mathlib.Core.Bool.{true}
+use mathlib.Core.Bool.{true, false}
 use mathlib.Core.List.{List}
 use native.Mathlib.Omega.{arith}
 use lib.IntN.{ℤ}
@@ -67,28 +67,28 @@ module _ (s : List ℕ) (bounded : Bytes s) (h : List ℕ) (m r : List ℤ) (x :
         rights-fit = front-long (x .holds .rights) r p (o .rights);
       }
 
-  -- the file's own bytes again, at the front of the buffer, which keeps its rest
-  pub unpacked-written : (out : List ℕ) → length s ≤ length out
+  -- of the old form, the file's own bytes again, at the front of the buffer, which keeps its rest
+  pub unpacked-written : x .small ≡ false → (out : List ℕ) → length s ≤ length out
       → (writeNormal a p (filled headsOf unpacked h) (filled matrixOf unpacked m) (filled rightsOf unpacked r) (length out) ≡ given (length s))
       × (normalLeftIn a p (filled headsOf unpacked h) (filled matrixOf unpacked m) (filled rightsOf unpacked r) out ≡ lay out 0 s)
-  unpacked-written out room =
+  unpacked-written old out room =
       subst
       (λ j. (writeNormal a p (filled headsOf j h) (filled matrixOf j m) (filled rightsOf j r) (length out) ≡ given (length s))
       × (normalLeftIn a p (filled headsOf j h) (filled matrixOf j m) (filled rightsOf j r) out ≡ lay out 0 s))
       (sym e)
-      (rewritten a p (filled headsOf (good x) h) (filled matrixOf (good x) m) (filled rightsOf (good x) r) s out x bounded read (sym (unpack-back s bounded h m r x e)) fit room)
+      (rewritten a p (filled headsOf (good x) h) (filled matrixOf (good x) m) (filled rightsOf (good x) r) s out x bounded read old (sym (unpack-back s bounded h m r x e)) fit room)
 
   -- or 20, where the buffer is shorter than the file
-  pub unpacked-short : (out : List ℕ) → length out < length s
+  pub unpacked-short : x .small ≡ false → (out : List ℕ) → length out < length s
       → (writeNormal a p (filled headsOf unpacked h) (filled matrixOf unpacked m) (filled rightsOf unpacked r) (length out) ≡ refused 20)
       × (normalLeftIn a p (filled headsOf unpacked h) (filled matrixOf unpacked m) (filled rightsOf unpacked r) out ≡ out)
   unfolding writeNormal normalLeftIn roomBytes
-  unpacked-short out short =
+  unpacked-short old out short =
       let heads = filled headsOf (good x) h in
       let matrix = filled matrixOf (good x) m in
       let rights = filled rightsOf (good x) r in
       let none = sound-number a p heads matrix rights fit (subst SoundSystem (sym (unpack-back s bounded h m r x e)) (accepted-sound s x read)) in
-      let long : length out < length (normalBytes (systemInRooms a p heads matrix rights)) = omega (arith, ap length (unpack-written s bounded h m r x e)) in
+      let long : length out < length (normalBytes (systemInRooms a p heads matrix rights)) = omega (arith, ap length (unpack-written s bounded h m r x e old)) in
       let told = on-short (systemNumber a p heads matrix rights) (normalBytes (systemInRooms a p heads matrix rights)) out none long in
       subst
       (λ j. (writeNormal a p (filled headsOf j h) (filled matrixOf j m) (filled rightsOf j r) (length out) ≡ refused 20)

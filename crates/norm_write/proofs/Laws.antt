@@ -1,9 +1,10 @@
--- Both round trips of the normal file from lent room: what is written reads back the same, and a file that is accepted is rewritten to the same
--- bytes.
+-- Both round trips of the normal file from lent room: what is written reads back the same, and a file of the old form that is accepted is
+-- rewritten to the same bytes.
 -- Assumes nothing.
 use Prim.Native.Nat.{ℕ, zero, suc, _+_, _^_, _≤_, _<_}
 use mathlib.Core.Path.{_≡_, sym, ap, _∙_, subst}
 use mathlib.Core.List.{List}
+use mathlib.Core.Bool.{false}
 use native.Mathlib.Omega.{arith}
 use lib.IntN.{ℤ}
 use lib.ListN.{length, getD}
@@ -19,8 +20,7 @@ use Rattle.norm_system.proofs.Sound.{SoundSystem}
 use Rattle.byte_words.specs.Stands.{stands}
 use Rattle.norm_kinds.specs.Bytes.{normalBytes}
 use Rattle.norm_read.specs.Normal.{Normal, readNormal}
-use Rattle.norm_read.proofs.Back.{placed, written-read}
-use Rattle.norm_read.proofs.Forth.{read-written}
+use Rattle.norm_read.proofs.Back.{placed, written-read, old-written}
 use Rattle.norm_read.proofs.Accepted.{accepted-sound}
 use Rattle.norm_room.specs.Room.{labelInHeads, systemInRooms, systemNumber}
 use Rattle.norm_judge.specs.Judge.{Roomed}
@@ -48,11 +48,11 @@ module _ (a p : ℕ) (h : List ℕ) (m r : List ℤ) where
   written-back room u e = written-read (systemInRooms a p h m r) (number-sound a p h m r (first-none _ _ e .0) .sound) (held u)
 
   -- ---- read, then written
-  pub rewritten : (s out : List ℕ) (y : Normal) → Bytes s → readNormal s ≡ good y → y .holds ≡ systemInRooms a p h m r → Roomed a p (length h) (length m) (length r) → length s ≤ length out
+  pub rewritten : (s out : List ℕ) (y : Normal) → Bytes s → readNormal s ≡ good y → y .small ≡ false → y .holds ≡ systemInRooms a p h m r → Roomed a p (length h) (length m) (length r) → length s ≤ length out
       → (writeNormal a p h m r (length out) ≡ given (length s)) × (normalLeftIn a p h m r out ≡ lay out 0 s)
   unfolding writeNormal writeNumber normalLeftIn roomBytes
-  rewritten s out y bounded e same fit room =
-      let bytes : normalBytes (systemInRooms a p h m r) ≡ s = ap normalBytes (sym same) ∙ read-written s y bounded e in
+  rewritten s out y bounded e old same fit room =
+      let bytes : normalBytes (systemInRooms a p h m r) ≡ s = ap normalBytes (sym same) ∙ old-written s y e old bounded in
       let none = sound-number a p h m r fit (subst SoundSystem same (accepted-sound s y e)) in
       let told = on-written (systemNumber a p h m r) (normalBytes (systemInRooms a p h m r)) out none (omega (arith, ap length bytes)) in
       (sym (told .0) ∙ ap (λ b. given (length b)) bytes, sym (told .1) ∙ ap (lay out 0) bytes)

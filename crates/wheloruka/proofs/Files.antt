@@ -13,7 +13,7 @@ use Rattle.norm_read.specs.Normal as normals
 use Rattle.norm_read.specs.Normal.{Normal}
 use Rattle.byte_section.specs.Section.{andThen}
 use Rattle.call_files.specs.Reading.{arcOf, refusalPlace}
-use Rattle.wheloruka.specs.Reading.{normalValues}
+use Rattle.wheloruka.specs.Reading.{formNumber, normalValues}
 
 -- no file is both read and refused
 apart : {A : Type 0} {a : A} {number place : ℕ} → bad number place ≡ good a → ⊥
@@ -39,11 +39,13 @@ arc-fits s r told = by (readArc s) refl told
     by (bad number place) e told = rw told (zero-le, zero-le)
 
 -- ---- a normal file
-pub normal-good : (j : Judged Normal) (r : normals.ShownNormal) → r ≡ normals.shownNormal j → r .verdict ≡ good tt
-    → normalValues j ≡ given (r .arcs ∷ r .parameters ∷ r .matrix ∷ r .rights ∷ r .totals ∷ [])
+pub normal-good : (j : Judged Normal) (r : normals.ShownNormal) (form : ℕ) → r ≡ normals.shownNormal j → r .verdict ≡ good tt → form ≡ formNumber (r .small)
+    → normalValues j ≡ given (r .arcs ∷ r .parameters ∷ r .matrix ∷ r .rights ∷ r .totals ∷ r .stored ∷ form ∷ [])
 unfolding normalValues
-normal-good (good x) r told e = ap (λ x. given (x .arcs ∷ x .parameters ∷ x .matrix ∷ x .rights ∷ x .totals ∷ [])) (sym told)
-normal-good (bad number place) r told e = absurd (apart (sym (ap (λ x. x .verdict) told) ∙ e))
+normal-good (good x) r form told e f =
+    ap (λ x. given (x .arcs ∷ x .parameters ∷ x .matrix ∷ x .rights ∷ x .totals ∷ x .stored ∷ formNumber (x .small) ∷ [])) (sym told)
+    ∙ ap (λ n. given (r .arcs ∷ r .parameters ∷ r .matrix ∷ r .rights ∷ r .totals ∷ r .stored ∷ n ∷ [])) (sym f)
+normal-good (bad number place) r form told e f = absurd (apart (sym (ap (λ x. x .verdict) told) ∙ e))
 
 pub normal-bad : (j : Judged Normal) (r : normals.ShownNormal) {number place : ℕ} → r ≡ normals.shownNormal j → r .verdict ≡ bad number place → normalValues j ≡ refused number
 unfolding normalValues

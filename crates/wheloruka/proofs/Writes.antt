@@ -3,7 +3,9 @@
 use Prim.Native.Nat.{ℕ}
 use mathlib.Core.Path.{_≡_, refl, sym, ap, _∙_}
 use mathlib.Core.List.{List, [], _++_}
-use mathlib.Core.Bool.{true, false}
+use mathlib.Core.Bool.{Bool, true, false}
+use native.Mathlib.Omega.{arith}
+use Rattle.byte_words.proofs.Words.{lay-out}
 use lib.IntN.{ℤ}
 use lib.ListN.{length, take, drop}
 use Rattle.num_whole.specs.Tests.{less, pick}
@@ -25,6 +27,7 @@ use Rattle.call_heading.specs.Lent.{headingIn, headNumber}
 use Rattle.call_tally.specs.Tally.{hasTally}
 use Rattle.norm_write.specs.Write as write
 use Rattle.norm_state.specs.OfState as state
+use Rattle.norm_move.specs.Move.{movedInto, laidIn, moveLeft}
 use Rattle.merge.specs.Files.{fromFile, pairLeft, mergeLeft}
 use Rattle.list.specs.Listing.{listLeft}
 use Rattle.wheloruka.specs.Taking.{Lent, stateIn}
@@ -79,6 +82,15 @@ from-none (bad number place) f e = refl
 pub merge-none : (a b : List ℕ) → mergeLeft a b [] ≡ []
 unfolding mergeLeft pairLeft
 merge-none a b = from-none (readNormal a) _ (λ x. from-none (readNormal b) _ (λ y. none-laid _ _))
+
+move-laid-none : (j : Judged (List ℕ)) → laidIn [] j ≡ []
+unfolding laidIn
+move-laid-none (good bytes) = lay-out [] 0 bytes (omega arith)
+move-laid-none (bad number place) = refl
+
+pub move-none : (small : Bool) (file : List ℕ) → moveLeft small file [] ≡ []
+unfolding moveLeft
+move-none small file = move-laid-none (movedInto small file 0)
 
 pub list-none : (file : List ℕ) → listLeft file [] ≡ []
 unfolding listLeft

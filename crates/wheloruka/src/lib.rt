@@ -11,11 +11,13 @@ ghost use Rattle.norm_read.specs.Normal.{readNormal};
 ghost use Rattle.norm_room.specs.Room.{headsOf};
 ghost use Rattle.norm_unpack.specs.Unpack.{unpackNormal, filled, matrixOf, rightsOf};
 ghost use Rattle.norm_write.specs.Write.{writeNormal, normalLeftIn};
+ghost use mathlib.Core.Bool.{true, false};
+ghost use Rattle.norm_move.specs.Move.{moveAnswer, moveLeft};
 ghost use Rattle.merge.specs.Files.{mergeAnswer, mergeLeft};
 ghost use Rattle.list.specs.Listing.{listAnswer, listLeft};
 ghost use Rattle.wheloruka.specs.Numbers.{dayValues, dateValues, cellValues, indexValues, unitValues, doubleValues, residualValues};
 ghost use Rattle.call_files.specs.Reading.{refusalPlace, readNumber, headingLeft, placesLeft, judgedNumber};
-ghost use Rattle.wheloruka.specs.Reading.{normalValues};
+ghost use Rattle.wheloruka.specs.Reading.{formNumber, normalValues};
 ghost use Rattle.wheloruka.specs.Taking.{
   lent,
   startNumber,
@@ -43,7 +45,7 @@ ghost use Rattle.call_part.specs.Calls.{
   headCall,
   headLeft,
 };
-ghost use Rattle.call_files.specs.Writing.{mergeCallNumber};
+ghost use Rattle.call_files.specs.Writing.{moveCallNumber, mergeCallNumber};
 ghost use Rattle.call_files.specs.Arcs.{arcFile, arcLeft};
 ghost use Rattle.wheloruka.specs.Writing.{headedNumber, stateFile, stateFileLeft};
 
@@ -150,7 +152,14 @@ pub extern "C" fn whl_write(heading: &[u8], run: &[u8], out: &mut [u8], size: &m
     call_files::give_written(size, w)
 }
 
-// A normal file's numbers of arcs and parameters, and the places of its matrix sums, right sides and totals.
+fn form_number(is_small: bool) -> u64
+    ensures { λ r. ⌜ r ≡ formNumber «is_small» ⌝ }
+{
+    if is_small { 1 } else { 0 }
+}
+
+// A normal file's numbers of arcs and parameters, the places of its matrix sums, right sides and totals, how many parameters have their sums
+// stored, and 1 for the small form, 0 for the old one.
 #[no_mangle]
 pub extern "C" fn whl_normal_read(file: &[u8], out: &mut [u64]) -> u32
     ensures { λ r. ⌜ r ≡ resultNumber (normalValues (readNormal (now (file .entry)))) (length (now (out .entry))) ⌝ }
@@ -160,13 +169,15 @@ pub extern "C" fn whl_normal_read(file: &[u8], out: &mut [u64]) -> u32
     let answer = r.answer;
     match answer {
         ReadAnswer::Refused(e, _) => refusal::number(e),
-        ReadAnswer::Read => call_rooms::give_five(
+        ReadAnswer::Read => call_rooms::give_seven(
             out,
             r.arcs as u64,
             r.parameters as u64,
             r.matrix as u64,
             r.rights as u64,
             r.totals as u64,
+            r.stored as u64,
+            form_number(r.is_small),
         ),
     }
 }
@@ -476,6 +487,30 @@ pub extern "C" fn whl_of_state(
     } else {
         k
     }
+}
+
+// A normal file moved to the small form.
+#[no_mangle]
+pub extern "C" fn whl_normal_small(file: &[u8], out: &mut [u8], size: &mut [u64]) -> u32
+    ensures { λ r. ⌜ r ≡ resultNumber (toldValues one (moveCallNumber (moveAnswer true (now (file .entry)) (roomFor (length (now (size .entry))) (length (now (out .entry))))))) (length (now (size .entry))) ⌝ }
+    ensures size { λ _. ⌜ now (size .exit) ≡ resultLeft (toldValues one (moveCallNumber (moveAnswer true (now (file .entry)) (roomFor (length (now (size .entry))) (length (now (out .entry))))))) (now (size .entry)) ⌝ }
+    ensures bytes { λ _. ⌜ now (out .exit) ≡ bytesLeft (length (now (size .entry))) (moveLeft true (now (file .entry))) (now (out .entry)) ⌝ }
+{
+    let room = call_rooms::room_for(size.len(), out.len());
+    let w = norm_move::small(file, &mut out[..room]);
+    call_files::give_moved(size, w)
+}
+
+// A normal file moved to the old form.
+#[no_mangle]
+pub extern "C" fn whl_normal_old(file: &[u8], out: &mut [u8], size: &mut [u64]) -> u32
+    ensures { λ r. ⌜ r ≡ resultNumber (toldValues one (moveCallNumber (moveAnswer false (now (file .entry)) (roomFor (length (now (size .entry))) (length (now (out .entry))))))) (length (now (size .entry))) ⌝ }
+    ensures size { λ _. ⌜ now (size .exit) ≡ resultLeft (toldValues one (moveCallNumber (moveAnswer false (now (file .entry)) (roomFor (length (now (size .entry))) (length (now (out .entry))))))) (now (size .entry)) ⌝ }
+    ensures bytes { λ _. ⌜ now (out .exit) ≡ bytesLeft (length (now (size .entry))) (moveLeft false (now (file .entry))) (now (out .entry)) ⌝ }
+{
+    let room = call_rooms::room_for(size.len(), out.len());
+    let w = norm_move::old(file, &mut out[..room]);
+    call_files::give_moved(size, w)
 }
 
 // Two normal files merged: a file's own refusal plus 100 for the first, plus 200 for the second.

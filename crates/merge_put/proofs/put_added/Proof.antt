@@ -52,11 +52,11 @@ ky c = known _ _ (c .pre .0 .1)
 few : (c : tie.Start) → c .args .n ≤ 500
 few c = omega (arith, c .pre .1 .0 .1 .count, mergeable _ _ (c .pre .1 .0 .0) .labels-fit)
 
--- the places of each file's labels
-px : (c : tie.Start) → Places (c .args .n) (c .args .x .parameters) (c .args .ta .now)
+-- the places of the labels whose sums each file stores
+px : (c : tie.Start) → Places (c .args .n) (c .args .x .stored) (c .args .ta .now)
 px c = left-places _ _ (kx c) _ _ (ky c) _ _ _ (c .pre .1 .0 .1)
 
-py : (c : tie.Start) → Places (c .args .n) (c .args .y .parameters) (c .args .tb .now)
+py : (c : tie.Start) → Places (c .args .n) (c .args .y .stored) (c .args .tb .now)
 py c = right-places _ _ (kx c) _ _ (ky c) _ _ _ (c .pre .1 .0 .1)
 
 triangle-requires : tie.Need-triangle-requires
@@ -83,9 +83,9 @@ put-columns-requires c κs =
     let q = py s in (
       (few s, few s, omega arith),
       (
-        (p .ascend, omega (arith, p .long, k .few-labels), subst (λ m. s .args .x .matrix + 8 * tri m ≤ length (s .args .a .now)) (sym (p .long)) (k .matrix-end)),
+        (p .ascend, omega (arith, p .long, k .few-stored), subst (λ m. s .args .x .matrix + 8 * tri m ≤ length (s .args .a .now)) (sym (p .long)) (k .matrix-end)),
         (
-          (q .ascend, omega (arith, q .long, l .few-labels), subst (λ m. s .args .y .matrix + 8 * tri m ≤ length (s .args .b .now)) (sym (q .long)) (l .matrix-end)),
+          (q .ascend, omega (arith, q .long, l .few-stored), subst (λ m. s .args .y .matrix + 8 * tri m ≤ length (s .args .b .now)) (sym (q .long)) (l .matrix-end)),
           matrix-adds _ _ k _ _ l _ _ _ (s .pre .1 .0 .1) (s .pre .1 .0 .0),
         ),
       ),
@@ -149,8 +149,8 @@ same-length c = search needs
 returns : tie.Need-returns
 returns c =
     let sides = c .before .before .before in let right-count = right-count-of-sides sides in let columns = columns-of-right-count right-count in let sum-count = sum-count-of-columns columns in let sums = sums-of-sum-count sum-count in let s = start-of-sums sums in
-    let c : Column = record { base = s .args .x .rights; rows = s .args .x .parameters } in
-    let d : Column = record { base = s .args .y .rights; rows = s .args .y .parameters } in
+    let c : Column = record { base = s .args .x .rights; rows = s .args .x .stored } in
+    let d : Column = record { base = s .args .y .rights; rows = s .args .y .stored } in
     middle-put _ _ (kx s) _ _ (ky s) _ _ _ (s .pre .1 .0 .1) _ _ _ _ _ _ _ _ (sums .triangle .ensures .0) refl
     (sum-count .write-u32 .ensures) (columns .put-columns .ensures) (right-count .write-u322 .ensures)
     (sides .put-sides .ensures

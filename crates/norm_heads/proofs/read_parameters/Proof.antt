@@ -4,7 +4,7 @@ use native.Mathlib.Omega.{arith}
 use mathlib.Core.Path.{sym, ap, _∙_}
 use lib.Seq.{length-take-le}
 use Rattle.byte_section.specs.Section.{sectionAt}
-use Rattle.norm_kinds.specs.Kinds.{normalLabelKind}
+use Rattle.norm_kinds.specs.Kinds.{fieldedKind, isSmallForm}
 use Rattle.byte_section.specs.Told.{spanOf}
 use borrow.Author.Needs.{needs}
 use Rattle.norm_heads.proofs.read_parameters.Statement.{statement}
@@ -23,7 +23,10 @@ read-labels-requires : tie.Need-read-labels-requires
 read-labels-requires c κs = search needs
 
 returns : tie.Need-returns
-returns c = c .read-labels .ensures ∙ ap (λ l. spanOf (sectionAt (normalLabelKind l) (c .before .before .before .before .args .s .now) 1 500 (c .before .before .before .before .args .at))) (c .before .before .arcs-of .ensures .0)
+returns c =
+    let a = c .before .before .before .before .args in
+    c .read-labels .ensures
+    ∙ ap (λ l. spanOf (sectionAt (fieldedKind (isSmallForm (a .s .now) (a .at)) l) (a .s .now) 1 500 (a .at))) (c .before .before .arcs-of .ensures .0)
 
 pub read-parameters-spec : {M : Type 1} → statement M
 read-parameters-spec =

@@ -7,11 +7,12 @@ use lib.IntN.{pos}
 use mir.Syntax.{w64}
 use mir.Val.{toZ, ofZ}
 use mir.ValLaws.{toZ-ofZ}
+use Rattle.num_whole.specs.Tests.{both, either}
 use Rattle.num_packed.specs.Sound.{breaks}
 use Rattle.num_packed.specs.Found.{columnsFrom, toldWalked}
 use Rattle.num_packed.specs.declared.Walked.{Walked}
 use Rattle.num_packed.specs.declared.Walked.the-variants.{Sound, Unsound}
-use Rattle.norm_system.specs.System.{boundOf, sidesWhere, sumsWhere}
+use Rattle.norm_system.specs.System.{boundOf, sidesWhere, breaksIn, sumsWhere}
 use Rattle.num_packed.proofs.Tests.{not-below}
 use Rattle.norm_judge.proofs.Sums.{matrix-sound, matrix-unsound}
 use Rattle.norm_judge.proofs.sums_sound.Statement.{statement}
@@ -43,11 +44,11 @@ enum-told-2 : tie.Need-enum-told-2
 enum-told-2 c = search needs
 
 returns : tie.Need-returns
-unfolding sumsWhere sidesWhere
+unfolding sumsWhere sidesWhere breaksIn both either
 returns c = c .sides-sound .ensures ∙ matrix-sound _ _ _ _ (found (c .before .before .before) Sound (c .before .enum-told .given .1))
 
 returns-2 : tie.Need-returns-2
-unfolding sumsWhere sidesWhere
+unfolding sumsWhere sidesWhere breaksIn both either
 returns-2 c = matrix-unsound _ _ _ _ _ (found (c .before .before) (Unsound _) (c .enum-told2 .given .1))
 
 pub sums-sound-spec : {M : Type 1} → statement M

@@ -25,11 +25,11 @@ refused-requires c κs = search needs
 
 returns : tie.Need-returns
 unfolding shownRest
-returns c = c .judge-sums .ensures ∙ sym (ap (shownRest _ _ _) (sym (c .before .before .before .before .read-sums .ensures) ∙ ap toldSums (c .before .before .matrix .given .1)))
+returns c = c .judge-sums .ensures ∙ sym (ap (shownRest _ _ _ _ _) (sym (c .before .before .before .before .read-sums .ensures) ∙ ap toldSums (c .before .before .matrix .given .1)))
 
 returns-2 : tie.Need-returns-2
 unfolding shownRest
-returns-2 c = c .refused .ensures ∙ sym (ap (shownRest _ _ _) (sym (c .before .before .before .before .read-sums .ensures) ∙ ap toldSums (c .before .before .r .given .1)))
+returns-2 c = c .refused .ensures ∙ sym (ap (shownRest _ _ _ _ _) (sym (c .before .before .before .before .read-sums .ensures) ∙ ap toldSums (c .before .before .r .given .1)))
 
 pub read-rest-spec : {M : Type 1} → statement M
 read-rest-spec =

@@ -1,4 +1,4 @@
--- `norm_sum::is_broken` meets its contract: its tests are the definition's, in its order.
+-- `norm_sum::is_broken` meets its contract: its tests are the definition's, in its order; the form says how low a diagonal may be.
 -- Assumes nothing.
 use native.Mathlib.Omega.{arith}
 use mathlib.Core.Path.{_≡_, ap, sym, _∙_}
@@ -6,11 +6,12 @@ use mathlib.Core.Bool.{Bool, true, false}
 use Prim.Native.Nat.{ℕ, _+_, _≤_}
 use mir.Syntax.{w64}
 use mir.Val.{toZ, ofZ}
+use mir.ValLaws.{toZ-ofZ}
 use Rattle.num_packed.specs.Triangle.{tri}
 use Rattle.num_packed.specs.Sound.{entry, isZero}
 use Rattle.num_packed.proofs.Places.{tri-next, tri-within}
 use Rattle.norm_sum.specs.Sums.{sumsAt, past}
-use Rattle.norm_sum.proofs.Entries.{entry-read, entry-past, entry-diagonal, entry-zero, entry-row, entry-column}
+use Rattle.norm_sum.proofs.Entries.{entry-read, entry-past, entry-diagonal, entry-zero, entry-row, entry-column, form-broken, form-diagonal, form-beside}
 use borrow.Author.Needs.{needs}
 use Rattle.norm_sum.proofs.is_broken.Statement.{statement}
 use Rattle.norm_sum.proofs.is_broken.Tie as tie
@@ -48,12 +49,6 @@ row-test c n h t e =
     (omega (arith, tri-within (a .i) (a .j + 1) (omega arith))) in
     ap isZero (sym row) ∙ sym (c .is-zero2 .ensures) ∙ e
 
-column : (c : tie.After-sum-at3) → let a = start-of-row (c .before .before .before .before .before) .args in (n : ℕ) → tri (a .j + 1) ≤ n
-    → toZ w64 (ofZ w64 (c .sum-at3 .result)) ≡ entry (sumsAt (a .s .now) (a .start) n) (a .j) (a .j)
-column c n h =
-    let a = start-of-row (c .before .before .before .before .before) .args in
-    entry-read _ _ n _ _ (record { sfits = c .sum-at3 .ok }) (c .sum-at3 .ensures) _ _ (c .before .place3 .ensures) (omega (arith, tri-next (a .j)))
-
 place-requires : tie.Need-place-requires
 place-requires c κs = search needs
 
@@ -64,15 +59,16 @@ is-past-requires : tie.Need-is-past-requires
 is-past-requires c κs = search needs
 
 returns : tie.Need-returns
-returns c = λ n h. entry-past _ _ _ _ _ (here (c .before .before) n h) (sym (c .before .is-past .ensures) ∙ c .if1 .taken)
+returns c = λ small n low h. form-broken small _ _ _ _ (entry-past _ _ _ _ _ (here (c .before .before) n h) (sym (c .before .is-past .ensures) ∙ c .if1 .taken))
 
-is-negative-requires : tie.Need-is-negative-requires
-is-negative-requires c κs = search needs
+is-low-requires : tie.Need-is-low-requires
+is-low-requires c κs = search needs
 
 returns-2 : tie.Need-returns-2
 returns-2 c =
     let e = c .before .before in
-    λ n h. c .is-negative .ensures ∙ entry-diagonal _ _ _ _ _ (here (e .before .before) n h) (within e) (c .before .if2 .taken)
+    λ small n low h. let x = here (e .before .before) n h in
+    c .is-low .ensures ∙ form-diagonal small _ _ _ _ _ _ (toZ-ofZ w64 _ (start-of-sum (e .before .before) .fits .least) ∙ low) x (c .before .if2 .taken) (entry-diagonal _ _ _ _ _ x (within e) (c .before .if2 .taken))
 
 is-zero-requires : tie.Need-is-zero-requires
 is-zero-requires c κs = search needs
@@ -80,7 +76,7 @@ is-zero-requires c κs = search needs
 returns-3 : tie.Need-returns-3
 returns-3 c =
     let e = c .before .before .before in
-    λ n h. entry-zero _ _ _ _ _ (here (e .before .before) n h) (within e) (c .before .before .if2 .left) (sym (c .before .is-zero .ensures) ∙ c .if3 .taken)
+    λ small n low h. form-beside small _ _ _ _ (c .before .before .if2 .left) (entry-zero _ _ _ _ _ (here (e .before .before) n h) (within e) (c .before .before .if2 .left) (sym (c .before .is-zero .ensures) ∙ c .if3 .taken))
 
 place-requires-2 : tie.Need-place-requires-2
 place-requires-2 c κs = search needs
@@ -97,24 +93,16 @@ returns-4 : tie.Need-returns-4
 returns-4 c =
     let d = c .before .before .before .before in
     let e = d .before .before .before in
-    λ n h. entry-row _ _ _ _ _ (here (e .before .before) n h) (within e) (d .before .before .if2 .left) (other d) (row-test (c .before) n h true (c .if4 .taken))
-
-place-requires-3 : tie.Need-place-requires-3
-place-requires-3 c κs = search needs
-
-sum-at-requires-3 : tie.Need-sum-at-requires-3
-sum-at-requires-3 c κs = omega (arith, tri-next (start-of-row (c .before .before .before .before) .args .j), c .place3 .ensures)
-
-is-zero-requires-3 : tie.Need-is-zero-requires-3
-is-zero-requires-3 c κs = search needs
+    λ small n low h. form-beside small _ _ _ _ (d .before .before .if2 .left) (entry-row _ _ _ _ _ (here (e .before .before) n h) (within e) (d .before .before .if2 .left) (other d) (row-test (c .before) n h true (c .if4 .taken)))
 
 returns-5 : tie.Need-returns-5
 returns-5 c =
-    let f = c .before .before .before in
-    let d = f .before .before .before .before in
+    let d = c .before .before .before .before in
     let e = d .before .before .before in
-    λ n h. c .is-zero3 .ensures ∙ ap isZero (column (c .before) n h)
-    ∙ entry-column _ _ _ _ _ (here (e .before .before) n h) (within e) (d .before .before .if2 .left) (other d) (row-test (f .before) n h false (f .if4 .left))
+    let s = start-of-sum (e .before .before) in
+    λ small n low h. form-beside small _ _ _ _ (d .before .before .if2 .left)
+    (s .pre .1 .1 .1 n h
+    ∙ entry-column _ _ _ _ _ (here (e .before .before) n h) (within e) (d .before .before .if2 .left) (other d) (row-test (c .before) n h false (c .if4 .left)))
 
 pub is-broken-spec : {M : Type 1} → statement M
 is-broken-spec =
@@ -124,7 +112,7 @@ is-broken-spec =
     sum-at-requires
     is-past-requires
     returns
-    is-negative-requires
+    is-low-requires
     returns-2
     is-zero-requires
     returns-3
@@ -132,7 +120,4 @@ is-broken-spec =
     sum-at-requires-2
     is-zero-requires-2
     returns-4
-    place-requires-3
-    sum-at-requires-3
-    is-zero-requires-3
     returns-5)

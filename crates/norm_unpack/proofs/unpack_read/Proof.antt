@@ -19,12 +19,12 @@ start-of-roomy c = c .before .before .before .before
 abbrev roomy-of-heads : tie.After-fill-heads → tie.Then1
 roomy-of-heads c = c .before .before
 
-abbrev heads-of-matrix : tie.After-fill-sums → tie.After-fill-heads
-heads-of-matrix c = c .before .before .before .before .before
+abbrev heads-of-matrix : tie.After-fill-matrix → tie.After-fill-heads
+heads-of-matrix c = c .before .before .before .before
 
 -- the file's numbers, from its reading
-few : (c : tie.Start) → Known _ _ _ _ _ _ (c .pre)
-few c = known _ _ _ _ _ _ (c .pre)
+few : (c : tie.Start) → Known _ _ _ _ _ _ _ _ (c .pre)
+few c = known _ _ _ _ _ _ _ _ (c .pre)
 
 -- the rooms' lengths, from the test
 room : (c : tie.Then1) → Roomy (start-of-roomy c .args .arcs) (start-of-roomy c .args .parameters) (length (start-of-roomy c .args .heads .now)) (length (start-of-roomy c .args .matrix .now)) (length (start-of-roomy c .args .rights .now))
@@ -36,16 +36,23 @@ is-roomy-requires c κs = (few (c .before .before) .few-arcs, few (c .before .be
 fill-heads-requires : tie.Need-fill-heads-requires
 fill-heads-requires c κs = ((few (start-of-roomy (c .before)) .labels-end, few (start-of-roomy (c .before)) .totals-end), room (c .before) .heads-fit)
 
-triangle-requires : tie.Need-triangle-requires
-triangle-requires c κs = few (start-of-roomy (roomy-of-heads (c .before .before))) .few
+mul-labels : tie.Need-mul-labels
+mul-labels c = omega (arith, few (start-of-roomy (roomy-of-heads (c .before .before))) .few-arcs)
 
-fill-sums-requires : tie.Need-fill-sums-requires
-fill-sums-requires c κs = (omega (arith, c .before .triangle .ensures .0, few (start-of-roomy (roomy-of-heads (c .before .before .before .before))) .matrix-end), omega (arith, c .before .triangle .ensures .0, room (c .before .before .before .before .before .before) .matrix-fits))
+add-labels : tie.Need-add-labels
+add-labels c = omega (arith, few (start-of-roomy (roomy-of-heads (c .before .before))) .few-arcs)
 
-fill-sums-requires-2 : tie.Need-fill-sums-requires-2
-fill-sums-requires-2 c κs =
-    let roomy-at = roomy-of-heads (heads-of-matrix (c .before .before)) in let start = start-of-roomy roomy-at in
-    (few start .rights-end, room roomy-at .rights-fit)
+fill-matrix-requires : tie.Need-fill-matrix-requires
+fill-matrix-requires c κs =
+    let roomy-at = roomy-of-heads (c .before .before .before) in
+    let k = few (start-of-roomy roomy-at) in
+    ((k .labels-end, k .few), ((k .matrix-in, room roomy-at .matrix-fits), k .matrix-end))
+
+fill-rights-requires : tie.Need-fill-rights-requires
+fill-rights-requires c κs =
+    let roomy-at = roomy-of-heads (heads-of-matrix (c .before .before)) in
+    let k = few (start-of-roomy roomy-at) in
+    ((k .labels-end, k .few), ((k .rights-in, room roomy-at .rights-fit), k .rights-end))
 
 same-length : tie.Need-same-length
 same-length c = search needs
@@ -60,13 +67,13 @@ returns : tie.Need-returns
 returns c =
     let matrix = c .before .before .before .before in let heads = heads-of-matrix matrix in let roomy-at = roomy-of-heads heads in let s = start-of-roomy roomy-at in
     let k = room roomy-at in
-    let e = unpack-good _ _ _ _ _ _ (s .pre) _ _ _ (sym (roomy-at .before .is-roomy .ensures) ∙ roomy-at .if1 .taken) in (
-      told-good _ _ _ _ _ _ (s .pre) ∙ ap shownNormal (sym e),
+    let e = unpack-good _ _ _ _ _ _ _ _ (s .pre) _ _ _ (sym (roomy-at .before .is-roomy .ensures) ∙ roomy-at .if1 .taken) in (
+      told-good _ _ _ _ _ _ _ _ (s .pre) ∙ ap shownNormal (sym e),
       (
-        heads .fill-heads .ensures ∙ heads-left _ _ _ _ _ _ (s .pre) _ (k .heads-fit) ∙ ap (λ j. filled headsOf j (s .args .heads .now)) (sym e),
+        heads .fill-heads .ensures ∙ heads-left _ _ _ _ _ _ _ _ (s .pre) _ (k .heads-fit) ∙ ap (λ j. filled headsOf j (s .args .heads .now)) (sym e),
         (
-          matrix .fill-sums .ensures ∙ matrix-left _ _ _ _ _ _ (s .pre) _ (matrix .before .before .triangle .ensures .0) _ (k .matrix-fits) ∙ ap (λ j. filled matrixOf j (s .args .matrix .now)) (sym e),
-          c .before .fill-sums2 .ensures ∙ rights-left _ _ _ _ _ _ (s .pre) _ (k .rights-fit) ∙ ap (λ j. filled rightsOf j (s .args .rights .now)) (sym e),
+          matrix .fill-matrix .ensures ∙ matrix-left _ _ _ _ _ _ _ _ (s .pre) _ (k .matrix-fits) ∙ ap (λ j. filled matrixOf j (s .args .matrix .now)) (sym e),
+          c .before .fill-rights .ensures ∙ rights-left _ _ _ _ _ _ _ _ (s .pre) _ (k .rights-fit) ∙ ap (λ j. filled rightsOf j (s .args .rights .now)) (sym e),
         ),
       ),
     )
@@ -74,7 +81,7 @@ returns c =
 returns-2 : tie.Need-returns-2
 returns-2 c =
     let s = c .before .before .before .before in
-    let e = unpack-bad _ _ _ _ _ _ (s .pre) _ _ _ (sym (c .before .is-roomy .ensures) ∙ c .if1 .left) in
+    let e = unpack-bad _ _ _ _ _ _ _ _ (s .pre) _ _ _ (sym (c .before .is-roomy .ensures) ∙ c .if1 .left) in
     (ap shownNormal (sym e), (left-refused headsOf _ e _, (left-refused matrixOf _ e _, left-refused rightsOf _ e _)))
 
 pub unpack-read-spec : {M : Type 1} → statement M
@@ -83,9 +90,10 @@ unpack-read-spec =
     (tie.spec
     is-roomy-requires
     fill-heads-requires
-    triangle-requires
-    fill-sums-requires
-    fill-sums-requires-2
+    mul-labels
+    add-labels
+    fill-matrix-requires
+    fill-rights-requires
     same-length
     same-length-2
     same-length-3

@@ -1,11 +1,11 @@
--- `call_rooms::give_five` meets its contract.
+-- `call_rooms::give_seven` meets its contract.
 -- Assumes nothing.
 use native.Mathlib.Omega.{arith}
 use lib.ListN.{length-set}
 use Rattle.call_rooms.proofs.Rooms.{short, placed}
 use borrow.Author.Needs.{needs}
-use Rattle.call_rooms.proofs.give_five.Statement.{statement}
-use Rattle.call_rooms.proofs.give_five.Tie as tie
+use Rattle.call_rooms.proofs.give_seven.Statement.{statement}
+use Rattle.call_rooms.proofs.give_seven.Tie as tie
 
 returns : tie.Need-returns
 returns c = short _ _ (omega arith)
@@ -25,14 +25,20 @@ slice-write-out-4 c = simp length-set (omega arith)
 slice-write-out-5 : tie.Need-slice-write-out-5
 slice-write-out-5 c = simp length-set (omega arith)
 
+slice-write-out-6 : tie.Need-slice-write-out-6
+slice-write-out-6 c = simp length-set (omega arith)
+
+slice-write-out-7 : tie.Need-slice-write-out-7
+slice-write-out-7 c = simp length-set (omega arith)
+
 same-length : tie.Need-same-length
 same-length c = simp length-set
 
 returns-2 : tie.Need-returns-2
 returns-2 c = placed _ _ (omega arith)
 
-pub give-five-spec : {M : Type 1} → statement M
-give-five-spec =
+pub give-seven-spec : {M : Type 1} → statement M
+give-seven-spec =
     tie.close
     (tie.spec
     returns
@@ -41,5 +47,7 @@ give-five-spec =
     slice-write-out-3
     slice-write-out-4
     slice-write-out-5
+    slice-write-out-6
+    slice-write-out-7
     same-length
     returns-2)

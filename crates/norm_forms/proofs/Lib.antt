@@ -1,0 +1,4 @@
+pub mod Fields
+pub mod Held
+pub mod Made
+pub mod Moves

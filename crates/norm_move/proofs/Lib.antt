@@ -1,0 +1,3 @@
+pub mod Gathered
+pub mod Known
+pub mod Laws
