@@ -1,14 +1,14 @@
 // The arc program: reads an arc file of any length on standard input, 64 KiB at a time, and prints its listing and nothing else. An input that can't
 // be read is told on standard error, and nothing is listed.
 ghost use Rattle.std.specs.Prelude.{◌≡◌, length};
-ghost use Rattle.list_run.specs.Rooms.{partMost};
+ghost use Rattle.list_run.specs.Rooms.{part_most};
 
 use libc::STDIN_FILENO;
 use list_tallies::ANSWERS;
 use num_limits::PARAMETERS_MOST;
 
 fn run(buf: &mut [u8], out: &mut [u8])
-    requires { length buf.old ≡ partMost }
+    requires { length buf.old ≡ part_most }
 {
     let mut matrix = list_run::sums_room();
     let mut rights: [i64; PARAMETERS_MOST] = [0; PARAMETERS_MOST];

@@ -1,9 +1,9 @@
 // Inner to the writers of an arc file: lengths, and one record of each section put into lent room.
 ghost use Rattle.std.specs.Prelude.{◌≡◌, ◌+◌, ◌/◌, ◌≤◌, length};
-ghost use Rattle.num_limits.specs.Capacities.{parametersMost, recordsMost, stationsMost};
+ghost use Rattle.num_limits.specs.Capacities.{parameters_most, records_most, stations_most};
 ghost use Rattle.byte_words.specs.Words.{lay};
-ghost use Rattle.arc_kinds.specs.Kinds.{settingsBytes, labelBytes, stationBytes, recordSize};
-ghost use Rattle.arc_fields.specs.Sizes.{neededFor};
+ghost use Rattle.arc_kinds.specs.Kinds.{settings_bytes, label_bytes, station_bytes, record_size};
+ghost use Rattle.arc_fields.specs.Sizes.{needed_for};
 
 use arc_limits::{Label, Settings, Station};
 use num_limits::{PARTIAL_SIZE, RECORD_FIXED};
@@ -11,24 +11,24 @@ use num_limits::{PARTIAL_SIZE, RECORD_FIXED};
 // ---- sizes
 
 pub fn record_size(parameters: usize) -> usize
-    requires { parameters ≤ parametersMost }
-    ensures { result ≡ recordSize parameters }
+    requires { parameters ≤ parameters_most }
+    ensures { result ≡ record_size parameters }
 {
     RECORD_FIXED + PARTIAL_SIZE * parameters
 }
 
 // How many whole records a run of so many bytes has.
 pub fn records_in(parameters: usize, bytes: usize) -> usize
-    requires { parameters ≤ parametersMost }
-    ensures { result ≡ bytes / recordSize parameters }
+    requires { parameters ≤ parameters_most }
+    ensures { result ≡ bytes / record_size parameters }
 {
     bytes / record_size(parameters)
 }
 
 // The length of the whole file, whose run has so many bytes.
 pub fn needed(parameters: usize, stations: usize, bytes: usize) -> usize
-    requires { (parameters ≤ parametersMost) × (stations ≤ stationsMost) × (bytes / recordSize parameters ≤ recordsMost) }
-    ensures { result ≡ neededFor parameters stations bytes }
+    requires { (parameters ≤ parameters_most) × (stations ≤ stations_most) × (bytes / record_size parameters ≤ records_most) }
+    ensures { result ≡ needed_for parameters stations bytes }
 {
     28 + 16 * parameters + 8 * stations + bytes
 }
@@ -38,7 +38,7 @@ pub fn needed(parameters: usize, stations: usize, bytes: usize) -> usize
 // A byte for which there is no room is dropped, as in every record that is put.
 pub fn put_settings(out: &mut [u8], at: usize, s: Settings)
     requires { at ≤ 2000 }
-    ensures { out.new ≡ lay out.old at (settingsBytes s) }
+    ensures { out.new ≡ lay out.old at (settings_bytes s) }
 {
     byte_write::write_u32(out, at, s.arc);
     byte_write::write_u32(out, at + 4, s.first);
@@ -48,7 +48,7 @@ pub fn put_settings(out: &mut [u8], at: usize, s: Settings)
 
 pub fn put_label(out: &mut [u8], at: usize, l: Label)
     requires { at ≤ 2000 }
-    ensures { out.new ≡ lay out.old at (labelBytes l) }
+    ensures { out.new ≡ lay out.old at (label_bytes l) }
 {
     byte_write::write_u16(out, at, l.kind);
     byte_write::write_u16(out, at + 2, l.index);
@@ -58,7 +58,7 @@ pub fn put_label(out: &mut [u8], at: usize, l: Label)
 
 pub fn put_station(out: &mut [u8], at: usize, t: Station)
     requires { at ≤ 2000 }
-    ensures { out.new ≡ lay out.old at (stationBytes t) }
+    ensures { out.new ≡ lay out.old at (station_bytes t) }
 {
     byte_write::write_u16(out, at, t.number);
     byte_write::write_u16(out, at + 2, 0);

@@ -3,10 +3,10 @@
 use Rattle.std.specs.Prelude.{ℕ, List}
 use Rattle.num_whole.specs.Answer.{Judged, good}
 use Rattle.byte_section.specs.Section.{and_then}
-use Rattle.byte_section.specs.Told.{toldAnswer}
+use Rattle.byte_section.specs.Told.{told_answer}
 use Rattle.arc_heading.specs.declared.Heading.{Heading}
-use Rattle.arc_kinds.specs.Told.{settingsPart}
-use Rattle.arc_sections.specs.Sections.{labelsPart, stationsPart}
+use Rattle.arc_kinds.specs.Told.{settings_part}
+use Rattle.arc_sections.specs.Sections.{labels_part, stations_part}
 use Rattle.arc_front.specs.declared.HeadingRead.{HeadingRead}
 
 -- a heading, and the place after it
@@ -15,11 +15,11 @@ pub record PlacedHeading : Type 0 where
   pub next : ℕ
 
 -- the settings end at 16
-unfoldable pub headingPart : List ℕ → Judged PlacedHeading
-headingPart s =
-    and_then (settingsPart s) λ a.
-    and_then (labelsPart s 16) λ b.
-    and_then (stationsPart s b.next) λ c.
+unfoldable pub heading_part : List ℕ → Judged PlacedHeading
+heading_part s =
+    and_then (settings_part s) λ a.
+    and_then (labels_part s 16) λ b.
+    and_then (stations_part s b.next) λ c.
     good
     (record {
       heading = record { settings = a; parameters = b.count; stations = c.count; labels = b.items; listed = c.items };
@@ -27,5 +27,5 @@ headingPart s =
     })
 
 -- ---- what the answers say
-unfoldable pub toldHeading : HeadingRead → Judged PlacedHeading
-toldHeading r = and_then (toldAnswer r.answer) (λ u. good (record { heading = r.heading; next = r.next }))
+unfoldable pub told_heading : HeadingRead → Judged PlacedHeading
+told_heading r = and_then (told_answer r.answer) (λ u. good (record { heading = r.heading; next = r.next }))

@@ -1,10 +1,10 @@
 // Inner to the readers of arc files: the heading, read from a file's beginning.
 ghost use Rattle.std.specs.Prelude.{◌≡◌, ◌≤◌};
-ghost use Rattle.num_limits.specs.Capacities.{parametersMost};
+ghost use Rattle.num_limits.specs.Capacities.{parameters_most};
 ghost use Rattle.num_whole.specs.Answer.{bad};
 ghost use Rattle.refusal.specs.Number.{number_of};
-ghost use Rattle.arc_front.specs.Front.{blankHeading};
-ghost use Rattle.arc_front.specs.Parts.{headingPart, toldHeading};
+ghost use Rattle.arc_front.specs.Front.{blank_heading};
+ghost use Rattle.arc_front.specs.Parts.{heading_part, told_heading};
 
 use arc_heading::Heading;
 use arc_kinds::SettingsAnswer;
@@ -21,7 +21,7 @@ pub struct HeadingRead {
 }
 
 pub fn blank() -> Heading
-    ensures { result ≡ blankHeading }
+    ensures { result ≡ blank_heading }
 {
     Heading {
         settings: Settings {
@@ -38,7 +38,7 @@ pub fn blank() -> Heading
 }
 
 fn heading_refused(r: Refusal, place: usize) -> HeadingRead
-    ensures { (toldHeading result ≡ bad (number_of r) place) × (result.heading.parameters ≤ parametersMost) }
+    ensures { (told_heading result ≡ bad (number_of r) place) × (result.heading.parameters ≤ parameters_most) }
 {
     HeadingRead {
         answer: ReadAnswer::Refused(r, place),
@@ -49,7 +49,7 @@ fn heading_refused(r: Refusal, place: usize) -> HeadingRead
 
 // The settings, the parameters and the stations, one after the other.
 pub fn read_heading(s: &[u8]) -> HeadingRead
-    ensures { (toldHeading result ≡ headingPart s.now) × (result.heading.parameters ≤ parametersMost) }
+    ensures { (told_heading result ≡ heading_part s.now) × (result.heading.parameters ≤ parameters_most) }
 {
     match arc_kinds::read_settings(s) {
         SettingsAnswer::Got(settings) => {

@@ -5,42 +5,42 @@ use mathlib.Core.Path.{◌≡◌}
 use mathlib.Core.Bool.{true}
 use Rattle.num_whole.specs.Answer.{given}
 use Rattle.num_whole.specs.Lists.{all, ascend}
-use Rattle.num_whole.proofs.Cases.{chosen, both_first, both-second, between-true, upTo-true}
-use Rattle.arc_limits.specs.Limits.{settingsOk, labelOk, labelKey, stationOk, stationKey}
-use Rattle.arc_heading.specs.Judge.{labelsOf, stationsOf, countsOk, fieldsOk, ordersOk, judged}
+use Rattle.num_whole.proofs.Cases.{chosen, both_first, both_second, between_true, up_to_true}
+use Rattle.arc_limits.specs.Limits.{settings_ok, label_ok, label_key, station_ok, station_key}
+use Rattle.arc_heading.specs.Judge.{labels_of, stations_of, counts_ok, fields_ok, orders_ok, judged}
 use Rattle.arc_heading.specs.declared.Heading.{Heading}
 
 -- ---- a heading whose counts are allowed has them within the arrays
-pub counts-fit : (h : Heading) → countsOk h ≡ true → (h.parameters ≤ 50) × (h.stations ≤ 16)
-unfolding countsOk
-counts-fit h e = ((between-true _ _ _ (both_first _ _ e)).1, upTo-true _ _ (both-second _ _ e))
+pub counts_fit_lem : (h : Heading) → counts_ok h ≡ true → (h.parameters ≤ 50) × (h.stations ≤ 16)
+unfolding counts_ok
+counts_fit_lem h e = ((between_true _ _ _ (both_first _ _ e)).1, up_to_true _ _ (both_second _ _ e))
 
 -- ---- what a sound heading is
 pub record Sound (h : Heading) : Type 0 where
   pub some : 1 ≤ h.parameters
   pub few : h.parameters ≤ 50
   pub seats : h.stations ≤ 16
-  pub settings : settingsOk h.settings ≡ true
-  pub labels : all labelOk (labelsOf h) ≡ true
-  pub stations : all stationOk (stationsOf h) ≡ true
-  pub labels-up : ascend labelKey 0 (labelsOf h) ≡ true
-  pub stations-up : ascend stationKey 0 (stationsOf h) ≡ true
+  pub settings : settings_ok h.settings ≡ true
+  pub labels : all label_ok (labels_of h) ≡ true
+  pub stations : all station_ok (stations_of h) ≡ true
+  pub labels_up : ascend label_key 0 (labels_of h) ≡ true
+  pub stations_up : ascend station_key 0 (stations_of h) ≡ true
 
 pub sound : (h : Heading) → judged h ≡ given tt → Sound h
-unfolding judged countsOk fieldsOk ordersOk
+unfolding judged counts_ok fields_ok orders_ok
 sound h e =
     let a = chosen 2 _ _ e in
     let b = chosen 4 _ _ a.1 in
     let c = chosen 5 _ _ b.1 in
-    let n = between-true _ _ _ (both_first _ _ a.0) in
-    let f = both-second _ _ b.0 in
+    let n = between_true _ _ _ (both_first _ _ a.0) in
+    let f = both_second _ _ b.0 in
     record {
       some = n.0;
       few = n.1;
-      seats = upTo-true _ _ (both-second _ _ a.0);
+      seats = up_to_true _ _ (both_second _ _ a.0);
       settings = both_first _ _ b.0;
       labels = both_first _ _ f;
-      stations = both-second _ _ f;
-      labels-up = both_first _ _ c.0;
-      stations-up = both-second _ _ c.0;
+      stations = both_second _ _ f;
+      labels_up = both_first _ _ c.0;
+      stations_up = both_second _ _ c.0;
     }

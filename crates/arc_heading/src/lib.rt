@@ -1,10 +1,10 @@
 // The heading of an arc, by value: its settings, labels and stations, and the judging of one that is handed in.
 ghost use Rattle.std.specs.Prelude.{◌≡◌, ◌≤◌, ◌<◌};
-ghost use Rattle.num_limits.specs.Capacities.{parametersMost, stationsMost};
+ghost use Rattle.num_limits.specs.Capacities.{parameters_most, stations_most};
 ghost use Rattle.num_whole.specs.Lists.{all, ascend};
-ghost use Rattle.arc_limits.specs.Limits.{labelOk, labelKey, stationOk, stationKey};
-ghost use Rattle.arc_heading.specs.Judge.{labelsOf, stationsOf, fieldsOk, ordersOk, judged};
-ghost use Rattle.refusal.specs.Told.{toldVerdict};
+ghost use Rattle.arc_limits.specs.Limits.{label_ok, label_key, station_ok, station_key};
+ghost use Rattle.arc_heading.specs.Judge.{labels_of, stations_of, fields_ok, orders_ok, judged};
+ghost use Rattle.refusal.specs.Told.{told_verdict};
 
 use arc_limits::{Label, Settings, Station};
 use num_limits::{PARAMETERS_MOST, STATIONS_MOST};
@@ -21,8 +21,8 @@ pub struct Heading {
 }
 
 fn labels_ok(h: Heading) -> bool
-    requires { h.parameters ≤ parametersMost }
-    ensures { result ≡ all labelOk (labelsOf h) }
+    requires { h.parameters ≤ parameters_most }
+    ensures { result ≡ all label_ok (labels_of h) }
 {
     let n = h.parameters;
     let mut i: usize = 0;
@@ -38,8 +38,8 @@ fn labels_ok(h: Heading) -> bool
 }
 
 fn labels_ascend(h: Heading) -> bool
-    requires { h.parameters ≤ parametersMost }
-    ensures { result ≡ ascend labelKey 0 (labelsOf h) }
+    requires { h.parameters ≤ parameters_most }
+    ensures { result ≡ ascend label_key 0 (labels_of h) }
 {
     let n = h.parameters;
     let mut i: usize = 0;
@@ -57,8 +57,8 @@ fn labels_ascend(h: Heading) -> bool
 }
 
 fn stations_ok(h: Heading) -> bool
-    requires { h.stations ≤ stationsMost }
-    ensures { result ≡ all stationOk (stationsOf h) }
+    requires { h.stations ≤ stations_most }
+    ensures { result ≡ all station_ok (stations_of h) }
 {
     let n = h.stations;
     let mut i: usize = 0;
@@ -74,8 +74,8 @@ fn stations_ok(h: Heading) -> bool
 }
 
 fn stations_ascend(h: Heading) -> bool
-    requires { h.stations ≤ stationsMost }
-    ensures { result ≡ ascend stationKey 0 (stationsOf h) }
+    requires { h.stations ≤ stations_most }
+    ensures { result ≡ ascend station_key 0 (stations_of h) }
 {
     let n = h.stations;
     let mut i: usize = 0;
@@ -93,8 +93,8 @@ fn stations_ascend(h: Heading) -> bool
 }
 
 fn fields_ok(h: Heading) -> bool
-    requires { (h.parameters ≤ parametersMost) × (h.stations ≤ stationsMost) }
-    ensures { result ≡ fieldsOk h }
+    requires { (h.parameters ≤ parameters_most) × (h.stations ≤ stations_most) }
+    ensures { result ≡ fields_ok h }
 {
     let s = h.settings;
     if arc_limits::settings_ok(s) {
@@ -105,8 +105,8 @@ fn fields_ok(h: Heading) -> bool
 }
 
 fn orders_ok(h: Heading) -> bool
-    requires { (h.parameters ≤ parametersMost) × (h.stations ≤ stationsMost) }
-    ensures { result ≡ ordersOk h }
+    requires { (h.parameters ≤ parameters_most) × (h.stations ≤ stations_most) }
+    ensures { result ≡ orders_ok h }
 {
     if labels_ascend(h) {
         stations_ascend(h)
@@ -117,7 +117,7 @@ fn orders_ok(h: Heading) -> bool
 
 // 2, then 4, then 5, over the whole heading, else sound.
 pub fn judge(h: Heading) -> Verdict
-    ensures { toldVerdict result ≡ judged h }
+    ensures { told_verdict result ≡ judged h }
 {
     if arc_limits::numbers_ok(h.parameters, h.stations) {
         if fields_ok(h) {

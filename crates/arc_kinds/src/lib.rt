@@ -1,9 +1,9 @@
 // One record of the settings, the parameters and the stations of an arc file, read and judged.
 ghost use Rattle.std.specs.Prelude.{◌≡◌, ◌+◌, ◌<◌, ◌^◌};
-ghost use Rattle.byte_section.specs.Section.{judgedAt};
-ghost use Rattle.arc_limits.specs.Limits.{labelKey, stationKey};
-ghost use Rattle.arc_kinds.specs.Kinds.{settingsAt, settingsKind, label_at, labelKind, stationAt, stationKind};
-ghost use Rattle.arc_kinds.specs.Told.{settingsPart, toldSettings, toldLabel, toldStation};
+ghost use Rattle.byte_section.specs.Section.{judged_at};
+ghost use Rattle.arc_limits.specs.Limits.{label_key, station_key};
+ghost use Rattle.arc_kinds.specs.Kinds.{settings_at, settings_kind, label_at, label_kind, station_at, station_kind};
+ghost use Rattle.arc_kinds.specs.Told.{settings_part, told_settings, told_label, told_station};
 
 use arc_limits::{Label, Settings, Station};
 use byte_section::CountAnswer;
@@ -33,7 +33,7 @@ pub enum StationAnswer {
 // Bytes past the end count as 0, as in every record that is loaded.
 pub fn load_settings(s: &[u8], at: usize) -> Settings
     requires { at + 12 < 2 ^ 64 }
-    ensures { result ≡ settingsAt s.now at }
+    ensures { result ≡ settings_at s.now at }
 {
     Settings {
         arc: byte_read::read_u32(s, at),
@@ -45,7 +45,7 @@ pub fn load_settings(s: &[u8], at: usize) -> Settings
 
 // The one record of the settings, after its count, judged 1, 4.
 fn judge_settings(s: &[u8]) -> SettingsAnswer
-    ensures { toldSettings result ≡ judgedAt settingsKind s.now 4 0 }
+    ensures { told_settings result ≡ judged_at settings_kind s.now 4 0 }
 {
     if byte_words::left(s.len(), 4) < 12 {
         return SettingsAnswer::Refused(Refusal::Short, s.len());
@@ -60,7 +60,7 @@ fn judge_settings(s: &[u8]) -> SettingsAnswer
 
 // The settings section, the first of the file: its count is 1.
 pub fn read_settings(s: &[u8]) -> SettingsAnswer
-    ensures { toldSettings result ≡ settingsPart s.now }
+    ensures { told_settings result ≡ settings_part s.now }
 {
     match byte_section::read_count(s, 0, 1, 1) {
         CountAnswer::Is(_) => judge_settings(s),
@@ -84,7 +84,7 @@ pub fn load_label(s: &[u8], at: usize) -> Label
 
 // One record of the parameters section, judged 1, 4, 5; `floor` is the least key that it may have.
 pub fn read_label(s: &[u8], at: usize, floor: u64) -> LabelAnswer
-    ensures { toldLabel result ≡ judgedAt labelKind s.now at floor }
+    ensures { told_label result ≡ judged_at label_kind s.now at floor }
 {
     if byte_words::left(s.len(), at) < 16 {
         return LabelAnswer::Refused(Refusal::Short, s.len());
@@ -103,7 +103,7 @@ pub fn read_label(s: &[u8], at: usize, floor: u64) -> LabelAnswer
 
 // The least key that may follow a label.
 pub fn after_label(l: Label) -> u64
-    ensures { result ≡ labelKey l + 1 }
+    ensures { result ≡ label_key l + 1 }
 {
     arc_limits::label_key(l) + 1
 }
@@ -112,7 +112,7 @@ pub fn after_label(l: Label) -> u64
 
 pub fn load_station(s: &[u8], at: usize) -> Station
     requires { at + 8 < 2 ^ 64 }
-    ensures { result ≡ stationAt s.now at }
+    ensures { result ≡ station_at s.now at }
 {
     Station {
         number: byte_read::read_u16(s, at),
@@ -122,7 +122,7 @@ pub fn load_station(s: &[u8], at: usize) -> Station
 
 // One record of the stations section, judged 1, 4, 5; `floor` is the least number that it may have.
 pub fn read_station(s: &[u8], at: usize, floor: u64) -> StationAnswer
-    ensures { toldStation result ≡ judgedAt stationKind s.now at floor }
+    ensures { told_station result ≡ judged_at station_kind s.now at floor }
 {
     if byte_words::left(s.len(), at) < 8 {
         return StationAnswer::Refused(Refusal::Short, s.len());
@@ -144,7 +144,7 @@ pub fn read_station(s: &[u8], at: usize, floor: u64) -> StationAnswer
 
 // The least number that may follow a station.
 pub fn after_station(t: Station) -> u64
-    ensures { result ≡ stationKey t + 1 }
+    ensures { result ≡ station_key t + 1 }
 {
     arc_limits::station_key(t) + 1
 }

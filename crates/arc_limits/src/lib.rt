@@ -1,16 +1,16 @@
 // Settings, labels and stations of an arc, by value: the limits of their fields, and the order of labels.
 ghost use Rattle.std.specs.Prelude.{◌≡◌, ◌<◌};
-ghost use Rattle.cells.specs.Cells.{isParameter};
+ghost use Rattle.cells.specs.Cells.{is_parameter};
 ghost use Rattle.arc_limits.specs.Limits.{
-  windowOk,
-  settingsOk,
-  indexOk,
-  labelOk,
-  labelKey,
-  correctionOk,
-  stationOk,
-  stationKey,
-  numbersOk,
+  window_ok,
+  settings_ok,
+  index_ok,
+  label_ok,
+  label_key,
+  correction_ok,
+  station_ok,
+  station_key,
+  numbers_ok,
 };
 
 use num_limits::{ARC_MOST, DAY_AFTER_LAST, PARAMETERS_U64, STATIONS_MOST};
@@ -38,7 +38,7 @@ pub struct Station {
 }
 
 fn window_ok(first: u32, days: u16) -> bool
-    ensures { result ≡ windowOk first days }
+    ensures { result ≡ window_ok first days }
 {
     if num_whole::within(1, days as u64, 30) {
         if first < 1 {
@@ -52,7 +52,7 @@ fn window_ok(first: u32, days: u16) -> bool
 }
 
 pub fn settings_ok(s: Settings) -> bool
-    ensures { result ≡ settingsOk s }
+    ensures { result ≡ settings_ok s }
 {
     if num_whole::within(1, s.arc as u64, ARC_MOST) {
         if num_whole::within(10, s.level as u64, 100) {
@@ -67,7 +67,7 @@ pub fn settings_ok(s: Settings) -> bool
 
 // Whether a parameter of kind 1 may have this index: a cell's, but none of column 33.
 pub fn is_parameter(index: u32) -> bool
-    ensures { result ≡ isParameter index }
+    ensures { result ≡ is_parameter index }
 {
     if index >= 990 {
         return false;
@@ -76,7 +76,7 @@ pub fn is_parameter(index: u32) -> bool
 }
 
 pub fn index_ok(kind: u16, index: u16) -> bool
-    ensures { result ≡ indexOk kind index }
+    ensures { result ≡ index_ok kind index }
 {
     match kind {
         1 => is_parameter(index as u32),
@@ -91,7 +91,7 @@ pub fn index_ok(kind: u16, index: u16) -> bool
 pub const WEIGHT_MOST: u32 = 1073741824;
 
 pub fn label_ok(l: Label) -> bool
-    ensures { result ≡ labelOk l }
+    ensures { result ≡ label_ok l }
 {
     if l.weight > WEIGHT_MOST {
         return false;
@@ -100,13 +100,13 @@ pub fn label_ok(l: Label) -> bool
 }
 
 fn correction_ok(c: i32) -> bool
-    ensures { result ≡ correctionOk c }
+    ensures { result ≡ correction_ok c }
 {
     if -60000 <= c { c <= 60000 } else { false }
 }
 
 pub fn station_ok(t: Station) -> bool
-    ensures { result ≡ stationOk t }
+    ensures { result ≡ station_ok t }
 {
     if t.number > 999 {
         return false;
@@ -116,21 +116,21 @@ pub fn station_ok(t: Station) -> bool
 
 // The kind and the index of a label as one number.
 pub fn label_key(l: Label) -> u64
-    ensures { (result ≡ labelKey l) × (result < 4294967296) }
+    ensures { (result ≡ label_key l) × (result < 4294967296) }
 {
     l.kind as u64 * 65536 + l.index as u64
 }
 
 // A station's number, by which stations ascend.
 pub fn station_key(t: Station) -> u64
-    ensures { (result ≡ stationKey t) × (result < 65536) }
+    ensures { (result ≡ station_key t) × (result < 65536) }
 {
     t.number as u64
 }
 
 // Whether a heading may have so many parameters and stations.
 pub fn numbers_ok(parameters: usize, stations: usize) -> bool
-    ensures { result ≡ numbersOk parameters stations }
+    ensures { result ≡ numbers_ok parameters stations }
 {
     if num_whole::within(1, parameters as u64, PARAMETERS_U64) {
         stations <= STATIONS_MOST

@@ -1,11 +1,11 @@
 // The numbers of an arc file that is written, judged, and the bytes of its sections, put into lent room.
 ghost use Rattle.std.specs.Prelude.{◌≡◌, ◌+◌, ◌≤◌, length};
-ghost use Rattle.num_limits.specs.Capacities.{parametersMost, stationsMost};
+ghost use Rattle.num_limits.specs.Capacities.{parameters_most, stations_most};
 ghost use Rattle.byte_words.specs.Words.{lay};
 ghost use Rattle.byte_section.specs.Section.{encoded};
-ghost use Rattle.arc_heading.specs.Judge.{labelsOf, stationsOf};
-ghost use Rattle.arc_kinds.specs.Kinds.{labelBytes, stationBytes};
-ghost use Rattle.arc_put.specs.Bytes.{allowed, arcBytes, Writable};
+ghost use Rattle.arc_heading.specs.Judge.{labels_of, stations_of};
+ghost use Rattle.arc_kinds.specs.Kinds.{label_bytes, station_bytes};
+ghost use Rattle.arc_put.specs.Bytes.{allowed, arc_bytes, Writable};
 
 use arc_heading::Heading;
 use num_limits::RECORDS_MOST;
@@ -23,8 +23,8 @@ pub fn is_allowed(h: Heading, run: &[u8]) -> bool
 
 // The labels that count, one after the other.
 pub fn put_labels(h: Heading, out: &mut [u8], start: usize)
-    requires { (h.parameters ≤ parametersMost) × (start ≤ 1000) }
-    ensures { out.new ≡ lay out.old start (encoded labelBytes (labelsOf h)) }
+    requires { (h.parameters ≤ parameters_most) × (start ≤ 1000) }
+    ensures { out.new ≡ lay out.old start (encoded label_bytes (labels_of h)) }
 {
     let n = h.parameters;
     let mut at = start;
@@ -39,8 +39,8 @@ pub fn put_labels(h: Heading, out: &mut [u8], start: usize)
 
 // The stations that count, one after the other.
 pub fn put_stations(h: Heading, out: &mut [u8], start: usize)
-    requires { (h.stations ≤ stationsMost) × (start ≤ 1000) }
-    ensures { out.new ≡ lay out.old start (encoded stationBytes (stationsOf h)) }
+    requires { (h.stations ≤ stations_most) × (start ≤ 1000) }
+    ensures { out.new ≡ lay out.old start (encoded station_bytes (stations_of h)) }
 {
     let n = h.stations;
     let mut at = start;
@@ -56,7 +56,7 @@ pub fn put_stations(h: Heading, out: &mut [u8], start: usize)
 // The four sections, each after its count.
 pub fn put_arc(h: Heading, run: &[u8], out: &mut [u8])
     requires { Writable h run.now (length out.old) }
-    ensures { out.new ≡ lay out.old 0 (arcBytes h run.now) }
+    ensures { out.new ≡ lay out.old 0 (arc_bytes h run.now) }
 {
     let s = h.settings;
     let p = h.parameters;

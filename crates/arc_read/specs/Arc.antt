@@ -1,23 +1,23 @@
 -- Document 01, 'Arc file': "Four sections in this order, each after its u32 count"; "Files are read left to right".
 use Rattle.std.specs.Prelude.{ℕ, ◌+◌, List, length, get_or}
-use Rattle.num_limits.specs.Capacities.{parametersMost, recordsMost, stationsMost}
-use Rattle.arc_limits.specs.Limits.{noSettings, no_label, noStation}
+use Rattle.num_limits.specs.Capacities.{parameters_most, records_most, stations_most}
+use Rattle.arc_limits.specs.Limits.{no_settings, no_label, no_station}
 use Rattle.num_whole.specs.Answer.{Judged, good, bad}
-use Rattle.byte_section.specs.Section.{and_then, sectionAt, closed}
+use Rattle.byte_section.specs.Section.{and_then, section_at, closed}
 use Rattle.arc_limits.specs.declared.Settings.{Settings}
 use Rattle.arc_limits.specs.declared.Label.{Label}
 use Rattle.arc_limits.specs.declared.Station.{Station}
 use Rattle.arc_heading.specs.declared.Heading.{Heading}
-use Rattle.arc_kinds.specs.Kinds.{settingsKind, labelKind, stationKind, recordKind}
-use Rattle.arc_front.specs.Front.{blankHeading}
-use Rattle.byte_section.specs.Told.{toldAnswer}
+use Rattle.arc_kinds.specs.Kinds.{settings_kind, label_kind, station_kind, record_kind}
+use Rattle.arc_front.specs.Front.{blank_heading}
+use Rattle.byte_section.specs.Told.{told_answer}
 use Rattle.num_whole.specs.Lists.{padded}
 use Rattle.arc_read.specs.declared.ArcRead.{ArcRead}
 
 -- a heading of what was read; slots past the counts are 0
-unfoldable pub headingOf : Settings → List Label → List Station → Heading
-headingOf a ls ts =
-    record { settings = a; parameters = length ls; stations = length ts; labels = padded parametersMost no_label ls; listed = padded stationsMost noStation ts }
+unfoldable pub heading_of : Settings → List Label → List Station → Heading
+heading_of a ls ts =
+    record { settings = a; parameters = length ls; stations = length ts; labels = padded parameters_most no_label ls; listed = padded stations_most no_station ts }
 
 -- what an arc file holds: its heading, how many records, and where the first of them stands
 pub record Arc : Type 0 where
@@ -26,15 +26,15 @@ pub record Arc : Type 0 where
   pub start : ℕ
 
 -- "Settings, count 1; Parameters, 1 to 50; Stations, 0 to 16; Records, 0 to 65,535"; then 3
-unfoldable pub readArc : List ℕ → Judged Arc
-readArc s =
-    and_then (sectionAt settingsKind s 1 1 0) λ a.
-    and_then (sectionAt labelKind s 1 parametersMost a.next) λ b.
-    and_then (sectionAt stationKind s 0 stationsMost b.next) λ c.
-    and_then (sectionAt (recordKind (length b.items)) s 0 recordsMost c.next) λ d.
+unfoldable pub read_arc : List ℕ → Judged Arc
+read_arc s =
+    and_then (section_at settings_kind s 1 1 0) λ a.
+    and_then (section_at label_kind s 1 parameters_most a.next) λ b.
+    and_then (section_at station_kind s 0 stations_most b.next) λ c.
+    and_then (section_at (record_kind (length b.items)) s 0 records_most c.next) λ d.
     closed s d.next
     (record {
-      heading = headingOf (get_or a.items 0 noSettings) b.items c.items;
+      heading = heading_of (get_or a.items 0 no_settings) b.items c.items;
       count = length d.items;
       start = c.next + 4;
     })
@@ -44,10 +44,10 @@ pub record ShownArc : Type 0 where
   pub verdict : Judged (Unit {0})
   pub arc : Arc
 
-abbrev pub shownArc : Judged Arc → ShownArc
-shownArc (good a) = record { verdict = good tt; arc = a }
-shownArc (bad number place) = record { verdict = bad number place; arc = record { heading = blankHeading; count = 0; start = 0 } }
+abbrev pub shown_arc : Judged Arc → ShownArc
+shown_arc (good a) = record { verdict = good tt; arc = a }
+shown_arc (bad number place) = record { verdict = bad number place; arc = record { heading = blank_heading; count = 0; start = 0 } }
 
-abbrev pub toldArcRead : ArcRead → ShownArc
-toldArcRead r =
-    record { verdict = toldAnswer r.answer; arc = record { heading = r.heading; count = r.count; start = r.start } }
+abbrev pub told_arc_read : ArcRead → ShownArc
+told_arc_read r =
+    record { verdict = told_answer r.answer; arc = record { heading = r.heading; count = r.count; start = r.start } }

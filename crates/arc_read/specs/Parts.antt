@@ -5,10 +5,10 @@ use Rattle.num_whole.specs.Answer.{Judged}
 use Rattle.byte_section.specs.Section.{and_then, closed}
 use Rattle.arc_heading.specs.declared.Heading.{Heading}
 use Rattle.arc_read.specs.Arc.{Arc}
-use Rattle.arc_sections.specs.Sections.{recordsPart}
+use Rattle.arc_sections.specs.Sections.{records_part}
 
 -- what follows a heading that ends at a place
-unfoldable pub arcFrom : List ℕ → ℕ → Heading → Judged Arc
-arcFrom s at h =
-    and_then (recordsPart s at h.parameters) λ d.
+unfoldable pub arc_from : List ℕ → ℕ → Heading → Judged Arc
+arc_from s at h =
+    and_then (records_part s at h.parameters) λ d.
     closed s d.next (record { heading = h; count = d.count; start = at + 4 })

@@ -1,10 +1,10 @@
 // The arc file, read: for every list of bytes the heading, the number of records and where they stand, or the first refusal and its place.
 ghost use Rattle.std.specs.Prelude.{◌≡◌, ◌≤◌};
-ghost use Rattle.num_limits.specs.Capacities.{parametersMost};
+ghost use Rattle.num_limits.specs.Capacities.{parameters_most};
 ghost use Rattle.refusal.specs.Number.{number_of};
 ghost use Rattle.num_whole.specs.Answer.{bad};
-ghost use Rattle.arc_read.specs.Arc.{readArc, shownArc, toldArcRead};
-ghost use Rattle.arc_read.specs.Parts.{arcFrom};
+ghost use Rattle.arc_read.specs.Arc.{read_arc, shown_arc, told_arc_read};
+ghost use Rattle.arc_read.specs.Parts.{arc_from};
 
 use arc_heading::Heading;
 use byte_section::{ReadAnswer, SectionAnswer};
@@ -20,7 +20,7 @@ pub struct ArcRead {
 }
 
 fn refused(r: Refusal, place: usize) -> ArcRead
-    ensures { toldArcRead result ≡ shownArc (bad (number_of r) place) }
+    ensures { told_arc_read result ≡ shown_arc (bad (number_of r) place) }
 {
     ArcRead {
         answer: ReadAnswer::Refused(r, place),
@@ -32,8 +32,8 @@ fn refused(r: Refusal, place: usize) -> ArcRead
 
 // What follows a heading: its records, and then no byte more.
 fn read_rest(s: &[u8], at: usize, heading: Heading) -> ArcRead
-    requires { heading.parameters ≤ parametersMost }
-    ensures { toldArcRead result ≡ shownArc (arcFrom s.now at heading) }
+    requires { heading.parameters ≤ parameters_most }
+    ensures { told_arc_read result ≡ shown_arc (arc_from s.now at heading) }
 {
     match arc_sections::read_records(s, at, heading.parameters) {
         SectionAnswer::Read(count, end) => {
@@ -54,7 +54,7 @@ fn read_rest(s: &[u8], at: usize, heading: Heading) -> ArcRead
 
 // The four sections in their order, and then no byte more.
 pub fn read(file: &[u8]) -> ArcRead
-    ensures { toldArcRead result ≡ shownArc (readArc file.now) }
+    ensures { told_arc_read result ≡ shown_arc (read_arc file.now) }
 {
     let first = arc_front::read_heading(file);
     let answer = first.answer;

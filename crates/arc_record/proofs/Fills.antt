@@ -9,32 +9,32 @@ use lib.IntN.{ℤ}
 use lib.ListN.{length, set, drop_of_length-le}
 use lib.Seq.{sets, sets-eq}
 use mir.Syntax.{w16}
-use Rattle.byte_words.specs.Words.{signedWord}
-use Rattle.arc_record.specs.Record.{partialsFrom, partialsIn}
+use Rattle.byte_words.specs.Words.{signed_word}
+use Rattle.arc_record.specs.Record.{partials_from, partials_in}
 
 -- a list as long as the room takes its place
-pub sets-all : {A : Type 0} (l vs : List A) → length vs ≡ length l → sets l 0 vs ≡ vs
-sets-all l vs e =
+pub sets_all : {A : Type 0} (l vs : List A) → length vs ≡ length l → sets l 0 vs ≡ vs
+sets_all l vs e =
     let none : length l ≤ 0 + length vs = omega arith in
     sets-eq vs l 0 (omega arith) ∙ ap (λ r. vs ++ r) (drop_of_length-le l none) ∙ append-nil vs
 
-pub length-partials : (n : ℕ) (b : List ℕ) (at : ℕ) → length (partialsFrom n b at) ≡ n
-unfolding partialsFrom
-length-partials zero b at = refl
-length-partials (suc n) b at = ap suc (length-partials n b (at + 2))
+pub length_partials : (n : ℕ) (b : List ℕ) (at : ℕ) → length (partials_from n b at) ≡ n
+unfolding partials_from
+length_partials zero b at = refl
+length_partials (suc n) b at = ap suc (length_partials n b (at + 2))
 
 module _ (b : List ℕ) (n i at : ℕ) (out : List ℤ) where
-  pub fill_start : n ≡ length out → sets out 0 (partialsFrom (n - 0) b 32) ≡ partialsIn n b
-  unfolding partialsIn
-  fill_start e = ap (λ m. sets out 0 (partialsFrom m b 32)) (sub-zero n) ∙ sets-all out (partialsFrom n b 32) (length-partials n b 32 ∙ e)
+  pub fill_start : n ≡ length out → sets out 0 (partials_from (n - 0) b 32) ≡ partials_in n b
+  unfolding partials_in
+  fill_start e = ap (λ m. sets out 0 (partials_from m b 32)) (sub-zero n) ∙ sets_all out (partials_from n b 32) (length_partials n b 32 ∙ e)
 
-  pub fill-turn : i < n → sets out i (partialsFrom (n - i) b at) ≡ sets (set out i (signedWord w16 b at)) (i + 1) (partialsFrom (n - (i + 1)) b (at + 2))
-  unfolding partialsFrom
-  fill-turn more =
+  pub fill_turn : i < n → sets out i (partials_from (n - i) b at) ≡ sets (set out i (signed_word w16 b at)) (i + 1) (partials_from (n - (i + 1)) b (at + 2))
+  unfolding partials_from
+  fill_turn more =
       let e : n - i ≡ suc (n - (i + 1)) = omega arith in
       let next : suc i ≡ i + 1 = omega arith in
-      ap (λ m. sets out i (partialsFrom m b at)) e ∙ ap (λ k. sets (set out i (signedWord w16 b at)) k (partialsFrom (n - (i + 1)) b (at + 2))) next
+      ap (λ m. sets out i (partials_from m b at)) e ∙ ap (λ k. sets (set out i (signed_word w16 b at)) k (partials_from (n - (i + 1)) b (at + 2))) next
 
-  pub fill_end : n ≤ i → sets out i (partialsFrom (n - i) b at) ≡ out
-  unfolding partialsFrom
-  fill_end more = let e : n - i ≡ 0 = omega arith in ap (λ m. sets out i (partialsFrom m b at)) e
+  pub fill_end : n ≤ i → sets out i (partials_from (n - i) b at) ≡ out
+  unfolding partials_from
+  fill_end more = let e : n - i ≡ 0 = omega arith in ap (λ m. sets out i (partials_from m b at)) e

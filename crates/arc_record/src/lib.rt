@@ -1,8 +1,8 @@
 // A tracking record: its bytes in a file, its fields by value, and its partials.
 ghost use Rattle.std.specs.Prelude.{◌≡◌, ◌+◌, ◌*◌, ◌≤◌, length};
 ghost use Rattle.std.specs.Int.{w16};
-ghost use Rattle.byte_words.specs.Words.{signedWord};
-ghost use Rattle.arc_record.specs.Record.{recordPart, recordIn, partialsIn};
+ghost use Rattle.byte_words.specs.Words.{signed_word};
+ghost use Rattle.arc_record.specs.Record.{record_part, record_in, partials_in};
 
 use num_limits::{PARAMETERS_MOST, PARTIAL_SIZE, RECORD_FIXED};
 
@@ -19,7 +19,7 @@ pub struct Record {
 
 // The bytes of record i of those that begin at `start`; none where the file has no such whole record.
 pub fn record_at(file: &[u8], start: usize, parameters: usize, i: usize) -> &[u8]
-    ensures { result.now ≡ recordPart file.now start parameters i }
+    ensures { result.now ≡ record_part file.now start parameters i }
 {
     let none: usize = 0;
     if PARAMETERS_MOST < parameters {
@@ -37,7 +37,7 @@ pub fn record_at(file: &[u8], start: usize, parameters: usize, i: usize) -> &[u8
 
 // The record of some bytes; bytes past the end count as 0.
 pub fn decode(bytes: &[u8]) -> Record
-    ensures { result ≡ recordIn bytes.now }
+    ensures { result ≡ record_in bytes.now }
 {
     Record {
         station: byte_read::read_u16(bytes, 0),
@@ -53,7 +53,7 @@ pub fn decode(bytes: &[u8]) -> Record
 // The partial at a place where it is whole, read from a part of just its bytes, so that nothing is tested.
 fn partial_at(bytes: &[u8], at: usize) -> i16
     requires { at + 2 ≤ length bytes.now }
-    ensures { result ≡ signedWord w16 bytes.now at }
+    ensures { result ≡ signed_word w16 bytes.now at }
 {
     let e = at + 2;
     byte_signed::read_i16(&bytes[at..e], 0)
@@ -62,7 +62,7 @@ fn partial_at(bytes: &[u8], at: usize) -> i16
 // Fills the room with partials that are all there: a loop that becomes one copy.
 fn copy_partials(bytes: &[u8], out: &mut [i16])
     requires { 32 + 2 * length out.old ≤ length bytes.now }
-    ensures { out.new ≡ partialsIn (length out.old) bytes.now }
+    ensures { out.new ≡ partials_in (length out.old) bytes.now }
 {
     let n = out.len();
     let mut i: usize = 0;
@@ -76,7 +76,7 @@ fn copy_partials(bytes: &[u8], out: &mut [i16])
 
 // Fills the room with partials that may end early.
 fn read_partials(bytes: &[u8], out: &mut [i16])
-    ensures { out.new ≡ partialsIn (length out.old) bytes.now }
+    ensures { out.new ≡ partials_in (length out.old) bytes.now }
 {
     let n = out.len();
     let mut i: usize = 0;
@@ -90,7 +90,7 @@ fn read_partials(bytes: &[u8], out: &mut [i16])
 
 // Fills the room with a record's partials; bytes past the end count as 0.
 pub fn partials(bytes: &[u8], out: &mut [i16])
-    ensures { out.new ≡ partialsIn (length out.old) bytes.now }
+    ensures { out.new ≡ partials_in (length out.old) bytes.now }
 {
     if RECORD_FIXED + PARTIAL_SIZE * out.len() <= bytes.len() {
         copy_partials(bytes, out);

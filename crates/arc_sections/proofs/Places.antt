@@ -7,28 +7,28 @@ use native.Mathlib.Omega.{arith}
 use native.Mathlib.Nat.{mul-le-mul}
 use lib.ListN.{length}
 use Rattle.num_whole.specs.Answer.{good, bad}
-use Rattle.byte_section.specs.Section.{countAt, sectionAt}
-use Rattle.byte_section.proofs.Walk.{then-good, then-bad, counted, records-next, records-short, records-room}
-use Rattle.arc_kinds.specs.Kinds.{recordKind, recordSize}
+use Rattle.byte_section.specs.Section.{count_at, section_at}
+use Rattle.byte_section.proofs.Walk.{then_good, then_bad, counted, records_next, records_short, records_room}
+use Rattle.arc_kinds.specs.Kinds.{record_kind, record_size}
 use Rattle.byte_section.specs.Told.{span_of}
-use Rattle.arc_sections.specs.Sections.{recordsPart}
+use Rattle.arc_sections.specs.Sections.{records_part}
 
-module _ (s : List ℕ) (at p n : ℕ) (e : countAt s at 0 65535 ≡ good n) where
-  pub few_bytes : p ≤ 50 → n * recordSize p ≤ 8650620
-  few_bytes h = let size : recordSize p ≤ 132 = omega arith in mul-le-mul (counted s at 0 65535 n e).to size
+module _ (s : List ℕ) (at p n : ℕ) (e : count_at s at 0 65535 ≡ good n) where
+  pub few_bytes : p ≤ 50 → n * record_size p ≤ 8650620
+  few_bytes h = let size : record_size p ≤ 132 = omega arith in mul-le-mul (counted s at 0 65535 n e).to size
 
-  pub records-here : at + 4 + n * recordSize p ≤ length s → recordsPart s at p ≡ good (record { count = n; next = at + 4 + n * recordSize p })
-  unfolding recordsPart span_of sectionAt
-  records-here room =
-      let r = records-room (recordKind p) s (λ at. refl) (λ a. refl) n (at + 4) room in
-      let end = records-next (recordKind p) s n (at + 4) 0 r.0 r.1 in
-      then-good _ _ (then-good _ _ e ∙ r.1) ∙ rw (end.0, end.1)
+  pub records_here : at + 4 + n * record_size p ≤ length s → records_part s at p ≡ good (record { count = n; next = at + 4 + n * record_size p })
+  unfolding records_part span_of section_at
+  records_here room =
+      let r = records_room (record_kind p) s (λ at. refl) (λ a. refl) n (at + 4) room in
+      let end = records_next (record_kind p) s n (at + 4) 0 r.0 r.1 in
+      then_good _ _ (then_good _ _ e ∙ r.1) ∙ rw (end.0, end.1)
 
-  pub records-cut : at + 4 ≤ length s → length s < at + 4 + n * recordSize p → recordsPart s at p ≡ bad 1 (length s)
-  unfolding recordsPart span_of sectionAt
-  records-cut start past =
-      then-bad _ _ (then-good _ _ e ∙ records-short (recordKind p) s (λ at. refl) (λ a. refl) n (at + 4) start past)
+  pub records_cut : at + 4 ≤ length s → length s < at + 4 + n * record_size p → records_part s at p ≡ bad 1 (length s)
+  unfolding records_part span_of section_at
+  records_cut start past =
+      then_bad _ _ (then_good _ _ e ∙ records_short (record_kind p) s (λ at. refl) (λ a. refl) n (at + 4) start past)
 
-pub records-refused : (s : List ℕ) (at p : ℕ) {number place : ℕ} → countAt s at 0 65535 ≡ bad number place → recordsPart s at p ≡ bad number place
-unfolding recordsPart span_of sectionAt
-records-refused s at p e = then-bad _ _ (then-bad _ _ e)
+pub records_refused : (s : List ℕ) (at p : ℕ) {number place : ℕ} → count_at s at 0 65535 ≡ bad number place → records_part s at p ≡ bad number place
+unfolding records_part span_of section_at
+records_refused s at p e = then_bad _ _ (then_bad _ _ e)

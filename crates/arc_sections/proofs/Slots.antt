@@ -9,13 +9,13 @@ use Rattle.refusal.specs.declared.Refusal.{Refusal}
 use Rattle.byte_section.specs.Section.{and_then}
 use Rattle.byte_section.specs.declared.SectionAnswer.{SectionAnswer}
 use Rattle.byte_section.specs.declared.SectionAnswer.TheVariants as SectionAnswers
-use Rattle.arc_sections.specs.Sections.{toldSlots}
+use Rattle.arc_sections.specs.Sections.{told_slots}
 
 module _ {A : Type 0} (a : SectionAnswer) (l : List A) where
-  pub slots_read : {n next : ℕ} → a ≡ SectionAnswers.Read n next → toldSlots a l ≡ good (record { count = n; items = l; next = next })
-  unfolding toldSlots and_then
+  pub slots_read : {n next : ℕ} → a ≡ SectionAnswers.Read n next → told_slots a l ≡ good (record { count = n; items = l; next = next })
+  unfolding told_slots and_then
   slots_read e = rw e
 
-  pub slots-refused : {r : Refusal} {place : ℕ} → a ≡ SectionAnswers.Refused r place → toldSlots a l ≡ bad (number_of r) place
-  unfolding toldSlots and_then
-  slots-refused e = rw e
+  pub slots_refused : {r : Refusal} {place : ℕ} → a ≡ SectionAnswers.Refused r place → told_slots a l ≡ bad (number_of r) place
+  unfolding told_slots and_then
+  slots_refused e = rw e

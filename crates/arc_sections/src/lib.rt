@@ -1,16 +1,16 @@
 // Inner to `arc_read`: the sections of an arc file after its settings, each read whole or refused at a place.
 ghost use Rattle.std.specs.Prelude.{◌≡◌, ◌≤◌, length, replicate};
-ghost use Rattle.num_limits.specs.Capacities.{parametersMost, stationsMost};
-ghost use Rattle.arc_limits.specs.Limits.{no_label, noStation};
-ghost use Rattle.byte_section.specs.Told.{toldSection};
+ghost use Rattle.num_limits.specs.Capacities.{parameters_most, stations_most};
+ghost use Rattle.arc_limits.specs.Limits.{no_label, no_station};
+ghost use Rattle.byte_section.specs.Told.{told_section};
 ghost use Rattle.arc_sections.specs.Sections.{
-  labelsPart,
+  labels_part,
   labels_from,
-  stationsPart,
-  stationsFrom,
-  recordsPart,
-  toldLabels,
-  toldStations,
+  stations_part,
+  stations_from,
+  records_part,
+  told_labels,
+  told_stations,
 };
 
 use arc_kinds::{LabelAnswer, StationAnswer};
@@ -38,7 +38,7 @@ pub struct Stations {
 // ---- labels
 
 pub fn no_labels() -> [Label; PARAMETERS_MOST]
-    ensures { result ≡ replicate parametersMost no_label }
+    ensures { result ≡ replicate parameters_most no_label }
 {
     [Label {
         kind: 0,
@@ -50,8 +50,8 @@ pub fn no_labels() -> [Label; PARAMETERS_MOST]
 
 // The `count` records of the parameters section, from `start` on.
 fn fill_labels(s: &[u8], start: usize, count: usize) -> Labels
-    requires { (start ≤ length s.now) × (count ≤ parametersMost) }
-    ensures { toldLabels result ≡ labels_from s.now start count }
+    requires { (start ≤ length s.now) × (count ≤ parameters_most) }
+    ensures { told_labels result ≡ labels_from s.now start count }
 {
     let mut labels = no_labels();
     let mut at = start;
@@ -81,7 +81,7 @@ fn fill_labels(s: &[u8], start: usize, count: usize) -> Labels
 
 // The parameters section: its count, from 1 to 50, then its records.
 pub fn read_labels(s: &[u8], at: usize) -> Labels
-    ensures { toldLabels result ≡ labelsPart s.now at }
+    ensures { told_labels result ≡ labels_part s.now at }
 {
     match byte_section::read_count(s, at, 1, PARAMETERS_U32) {
         CountAnswer::Is(n) => fill_labels(s, at + 4, n),
@@ -95,7 +95,7 @@ pub fn read_labels(s: &[u8], at: usize) -> Labels
 // ---- stations
 
 pub fn no_stations() -> [Station; STATIONS_MOST]
-    ensures { result ≡ replicate stationsMost noStation }
+    ensures { result ≡ replicate stations_most no_station }
 {
     [Station {
         number: 0,
@@ -105,8 +105,8 @@ pub fn no_stations() -> [Station; STATIONS_MOST]
 
 // The `count` records of the stations section, from `start` on.
 fn fill_stations(s: &[u8], start: usize, count: usize) -> Stations
-    requires { (start ≤ length s.now) × (count ≤ stationsMost) }
-    ensures { toldStations result ≡ stationsFrom s.now start count }
+    requires { (start ≤ length s.now) × (count ≤ stations_most) }
+    ensures { told_stations result ≡ stations_from s.now start count }
 {
     let mut listed = no_stations();
     let mut at = start;
@@ -136,7 +136,7 @@ fn fill_stations(s: &[u8], start: usize, count: usize) -> Stations
 
 // The stations section: its count, from 0 to 16, then its records.
 pub fn read_stations(s: &[u8], at: usize) -> Stations
-    ensures { toldStations result ≡ stationsPart s.now at }
+    ensures { told_stations result ≡ stations_part s.now at }
 {
     match byte_section::read_count(s, at, 0, STATIONS_U32) {
         CountAnswer::Is(n) => fill_stations(s, at + 4, n),
@@ -151,8 +151,8 @@ pub fn read_stations(s: &[u8], at: usize) -> Stations
 
 // The records section: its count, from 0 to 65,535, then its records, which are judged by their length alone.
 pub fn read_records(s: &[u8], at: usize, parameters: usize) -> SectionAnswer
-    requires { parameters ≤ parametersMost }
-    ensures { toldSection result ≡ recordsPart s.now at parameters }
+    requires { parameters ≤ parameters_most }
+    ensures { told_section result ≡ records_part s.now at parameters }
 {
     match byte_section::read_count(s, at, 0, RECORDS_U32) {
         CountAnswer::Is(n) => {

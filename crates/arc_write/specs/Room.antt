@@ -3,12 +3,12 @@
 use Rattle.std.specs.Prelude.{ℕ, ◌%◌}
 use Rattle.num_whole.specs.Tests.{less, same, pick}
 use Rattle.num_whole.specs.Answer.{Answered, given, refused}
-use Rattle.arc_kinds.specs.Kinds.{recordSize}
-use Rattle.arc_fields.specs.Sizes.{neededFor}
+use Rattle.arc_kinds.specs.Kinds.{record_size}
+use Rattle.arc_fields.specs.Sizes.{needed_for}
 
 -- 1 for a run that ends inside a record, 20 for too little room, else the length of the file
-unfoldable pub roomAnswer : ℕ → ℕ → ℕ → ℕ → Answered ℕ
-roomAnswer p t n room =
-    pick (same (n % recordSize p) 0)
-    (pick (less room (neededFor p t n)) (refused 20) (given (neededFor p t n)))
+unfoldable pub room_answer : ℕ → ℕ → ℕ → ℕ → Answered ℕ
+room_answer p t n room =
+    pick (same (n % record_size p) 0)
+    (pick (less room (needed_for p t n)) (refused 20) (given (needed_for p t n)))
     (refused 1)

@@ -1,10 +1,10 @@
 // The arc file, written: the bytes of a heading and a run of records into lent room, or a refusal that changes nothing.
 ghost use Rattle.std.specs.Prelude.{◌≡◌, ◌/◌, ◌≤◌, length};
-ghost use Rattle.num_limits.specs.Capacities.{parametersMost, recordsMost, stationsMost};
-ghost use Rattle.arc_kinds.specs.Kinds.{recordSize};
-ghost use Rattle.arc_write.specs.Write.{writeArc, arcLeftIn};
-ghost use Rattle.byte_section.specs.Told.{toldWrite};
-ghost use Rattle.arc_write.specs.Room.{roomAnswer};
+ghost use Rattle.num_limits.specs.Capacities.{parameters_most, records_most, stations_most};
+ghost use Rattle.arc_kinds.specs.Kinds.{record_size};
+ghost use Rattle.arc_write.specs.Write.{write_arc, arc_left_in};
+ghost use Rattle.byte_section.specs.Told.{told_write};
+ghost use Rattle.arc_write.specs.Room.{room_answer};
 
 use arc_heading::Heading;
 use byte_section::WriteAnswer;
@@ -12,8 +12,8 @@ use refusal::{Refusal, Verdict};
 
 // The tests after the heading's: 1 for a run that ends inside a record, 20 for too little room.
 fn judge_room(parameters: usize, stations: usize, bytes: usize, room: usize) -> WriteAnswer
-    requires { (parameters ≤ parametersMost) × (stations ≤ stationsMost) × (bytes / recordSize parameters ≤ recordsMost) }
-    ensures { toldWrite result ≡ roomAnswer parameters stations bytes room }
+    requires { (parameters ≤ parameters_most) × (stations ≤ stations_most) × (bytes / record_size parameters ≤ records_most) }
+    ensures { told_write result ≡ room_answer parameters stations bytes room }
 {
     if bytes % arc_fields::record_size(parameters) == 0 {
         let n = arc_fields::needed(parameters, stations, bytes);
@@ -29,7 +29,7 @@ fn judge_room(parameters: usize, stations: usize, bytes: usize, room: usize) -> 
 
 // What is to be answered.
 fn judge(h: Heading, run: &[u8], room: usize) -> WriteAnswer
-    ensures { toldWrite result ≡ writeArc h run.now room }
+    ensures { told_write result ≡ write_arc h run.now room }
 {
     if arc_put::is_allowed(h, run) {
         match arc_heading::judge(h) {
@@ -43,8 +43,8 @@ fn judge(h: Heading, run: &[u8], room: usize) -> WriteAnswer
 
 // The whole file at the start of a lent buffer, which keeps its rest; a refusal changes nothing.
 pub fn write(h: Heading, run: &[u8], out: &mut [u8]) -> WriteAnswer
-    ensures answer { toldWrite result ≡ writeArc h run.now (length out.old) }
-    ensures left { out.new ≡ arcLeftIn h run.now out.old }
+    ensures answer { told_write result ≡ write_arc h run.now (length out.old) }
+    ensures left { out.new ≡ arc_left_in h run.now out.old }
 {
     match judge(h, run, out.len()) {
         WriteAnswer::Refused(refusal) => WriteAnswer::Refused(refusal),

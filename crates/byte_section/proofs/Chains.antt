@@ -5,17 +5,17 @@ use Rattle.num_whole.specs.Answer.{Judged, good, bad}
 use Rattle.byte_section.specs.Section.{and_then}
 
 -- a part after two
-pub then-then : {A B C : Type 0} (j : Judged A) (f : A → Judged B) (g : B → Judged C)
+pub then_then : {A B C : Type 0} (j : Judged A) (f : A → Judged B) (g : B → Judged C)
     → and_then (and_then j f) g ≡ and_then j (λ a. and_then (f a) g)
 unfolding and_then
-then-then (good a) f g = refl
-then-then (bad number place) f g = refl
+then_then (good a) f g = refl
+then_then (bad number place) f g = refl
 
 -- a part after one that only makes something else of what was read
-pub then-made : {A B C : Type 0} (j : Judged A) (f : A → B) (g : B → Judged C) → and_then (and_then j (λ a. good (f a))) g ≡ and_then j (λ a. g (f a))
+pub then_made : {A B C : Type 0} (j : Judged A) (f : A → B) (g : B → Judged C) → and_then (and_then j (λ a. good (f a))) g ≡ and_then j (λ a. g (f a))
 unfolding and_then
-then-made (good a) f g = refl
-then-made (bad number place) f g = refl
+then_made (good a) f g = refl
+then_made (bad number place) f g = refl
 
 -- two that do the same with what was read
 pub then_same : {A B : Type 0} (j : Judged A) (f g : A → Judged B) → ((a : A) → j ≡ good a → f a ≡ g a) → and_then j f ≡ and_then j g

@@ -5,7 +5,7 @@ use mathlib.Core.Path.{◌≡◌, sym}
 use mathlib.Core.List.{List, [], ◌∷◌}
 use lib.ListN.{length}
 use Rattle.byte_words.specs.Words.{lay}
-use Rattle.byte_words.proofs.Words.{lay-append}
+use Rattle.byte_words.proofs.Words.{lay_append}
 use Rattle.byte_section.specs.Section.{encoded}
 
 module _ {A : Type 0} (bytes : A → List ℕ) (k : ℕ) (long : (a : A) → length (bytes a) ≡ k) (out : List ℕ) (at : ℕ) {l : List A} where
@@ -15,4 +15,4 @@ module _ {A : Type 0} (bytes : A → List ℕ) (k : ℕ) (long : (a : A) → len
 
   pub laid_one : {a : A} {m : List A} → l ≡ a ∷ m → lay out at (encoded bytes l) ≡ lay (lay out at (bytes a)) (at + k) (encoded bytes m)
   unfolding encoded
-  laid_one e = rw e (sym (lay-append _ _ _ _ _ (simp long)))
+  laid_one e = rw e (sym (lay_append _ _ _ _ _ (simp long)))

@@ -13,7 +13,7 @@ use Rattle.byte_section.specs.declared.CountAnswer.TheVariants.{Is, Refused}
 pub record Kind (A : Type 0) : Type 0 where
   pub size : ℕ
   pub decode : List ℕ → ℕ → A
-  pub fieldsOk : List ℕ → ℕ → Bool
+  pub fields_ok : List ℕ → ℕ → Bool
   pub key : A → ℕ
   pub after : A → ℕ
 
@@ -28,17 +28,17 @@ and_then (good a) f = f a
 and_then (bad number place) f = bad number place
 
 -- a count of four bytes: 1 where the bytes end before it does, 2 where it is not one that is allowed
-unfoldable pub countAt : List ℕ → ℕ → ℕ → ℕ → Judged ℕ
-countAt s at low high =
+unfoldable pub count_at : List ℕ → ℕ → ℕ → ℕ → Judged ℕ
+count_at s at low high =
     pick (less (length s - at) 4) (bad 1 (length s))
     (pick (between low (word 4 s at) high) (good (word 4 s at)) (bad 2 at))
 
 module _ {A : Type 0} (K : Kind A) (s : List ℕ) where
   -- one record: 1 where the bytes end before it does, 4 where a field is out of its limits, 5 where its key is below the floor
-  unfoldable pub judgedAt : ℕ → ℕ → Judged A
-  judgedAt at floor =
+  unfoldable pub judged_at : ℕ → ℕ → Judged A
+  judged_at at floor =
       pick (less (length s - at) K.size) (bad 1 (length s))
-      (pick (K.fieldsOk s at)
+      (pick (K.fields_ok s at)
       (pick (up_to floor (K.key (K.decode s at))) (good (K.decode s at)) (bad 5 at))
       (bad 4 at))
 
@@ -46,12 +46,12 @@ module _ {A : Type 0} (K : Kind A) (s : List ℕ) where
   unfoldable pub records : ℕ → ℕ → ℕ → Judged (Run A)
   records zero at floor = good (record { items = []; next = at })
   records (suc n) at floor =
-      and_then (judgedAt at floor)
+      and_then (judged_at at floor)
       (λ a. and_then (records n (at + K.size) (K.after a)) (λ r. good (record { items = a ∷ r.items; next = r.next })))
 
   -- the whole section: its count, from low to high, then that many records
-  unfoldable pub sectionAt : ℕ → ℕ → ℕ → Judged (Run A)
-  sectionAt low high at = and_then (countAt s at low high) (λ n. records n (at + 4) 0)
+  unfoldable pub section_at : ℕ → ℕ → ℕ → Judged (Run A)
+  section_at low high at = and_then (count_at s at low high) (λ n. records n (at + 4) 0)
 
 -- after the last section: 3 where bytes follow it
 unfoldable pub closed : {A : Type 0} → List ℕ → ℕ → A → Judged A
@@ -63,6 +63,6 @@ encoded bytes [] = []
 encoded bytes (a ∷ l) = bytes a ++ encoded bytes l
 
 -- what the answer says
-abbrev pub toldCount : CountAnswer → Judged ℕ
-toldCount (Is n) = good n
-toldCount (Refused r place) = bad (number_of r) place
+abbrev pub told_count : CountAnswer → Judged ℕ
+told_count (Is n) = good n
+told_count (Refused r place) = bad (number_of r) place

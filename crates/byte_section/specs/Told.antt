@@ -18,21 +18,21 @@ pub record Span : Type 0 where
 unfoldable pub span_of : {A : Type 0} → Judged (Run A) → Judged Span
 span_of j = and_then j (λ r. good (record { count = length r.items; next = r.next }))
 
-abbrev pub toldSection : SectionAnswer → Judged Span
-toldSection (SectionAnswers.Read n next) = good (record { count = n; next = next })
-toldSection (SectionAnswers.Refused r place) = bad (number_of r) place
+abbrev pub told_section : SectionAnswer → Judged Span
+told_section (SectionAnswers.Read n next) = good (record { count = n; next = next })
+told_section (SectionAnswers.Refused r place) = bad (number_of r) place
 
 -- ---- a file that is read
-abbrev pub toldAnswer : ReadAnswer → Judged (Unit {0})
-toldAnswer Answers.Read = good tt
-toldAnswer (Answers.Refused r place) = bad (number_of r) place
+abbrev pub told_answer : ReadAnswer → Judged (Unit {0})
+told_answer Answers.Read = good tt
+told_answer (Answers.Refused r place) = bad (number_of r) place
 
 -- ---- a file or a text that is written
-abbrev pub toldWrite : WriteAnswer → Answered ℕ
-toldWrite (Wrote.Is n) = given n
-toldWrite (Wrote.Refused r) = refused (number_of r)
+abbrev pub told_write : WriteAnswer → Answered ℕ
+told_write (Wrote.Is n) = given n
+told_write (Wrote.Refused r) = refused (number_of r)
 
 -- ---- what every writer leaves of a room: the new bytes where it is done, else the old ones
-unfoldable pub onDone : {A : Type 0} → Answered A → List ℕ → List ℕ → List ℕ
-onDone (given a) new old = new
-onDone (refused k) new old = old
+unfoldable pub on_done : {A : Type 0} → Answered A → List ℕ → List ℕ → List ℕ
+on_done (given a) new old = new
+on_done (refused k) new old = old

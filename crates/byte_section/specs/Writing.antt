@@ -5,16 +5,16 @@ use Rattle.num_whole.specs.Tests.{less}
 use Rattle.num_whole.specs.Answer.{Answered}
 use Rattle.refusal.specs.First.{when, first, answered}
 use Rattle.byte_words.specs.Words.{lay}
-use Rattle.byte_section.specs.Told.{onDone}
+use Rattle.byte_section.specs.Told.{on_done}
 
 -- the number k of what was judged before, 0 where nothing is wrong; then 20 where the room is shorter than the bytes
-abbrev pub writingNumber : ℕ → List ℕ → ℕ → ℕ
-writingNumber k bytes room = first (k ∷ when 20 (less room (length bytes)) ∷ [])
+abbrev pub writing_number : ℕ → List ℕ → ℕ → ℕ
+writing_number k bytes room = first (k ∷ when 20 (less room (length bytes)) ∷ [])
 
 -- the length of the bytes, or the refusal
 abbrev pub written : ℕ → List ℕ → ℕ → Answered ℕ
-written k bytes room = answered (writingNumber k bytes room) (length bytes)
+written k bytes room = answered (writing_number k bytes room) (length bytes)
 
 -- what is left in the buffer
-abbrev pub writtenIn : ℕ → List ℕ → List ℕ → List ℕ
-writtenIn k bytes out = onDone (written k bytes (length out)) (lay out 0 bytes) out
+abbrev pub written_in : ℕ → List ℕ → List ℕ → List ℕ
+written_in k bytes out = on_done (written k bytes (length out)) (lay out 0 bytes) out

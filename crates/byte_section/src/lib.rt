@@ -1,7 +1,7 @@
 // The generic section of a file, and what readers and writers of files answer. A section's count is read here; how records follow it is in
 // specs/, with its laws in proofs/.
 ghost use Rattle.std.specs.Prelude.{◌≡◌};
-ghost use Rattle.byte_section.specs.Section.{countAt, toldCount};
+ghost use Rattle.byte_section.specs.Section.{count_at, told_count};
 
 use refusal::Refusal;
 
@@ -34,7 +34,7 @@ pub enum WriteAnswer {
 
 // The count at a place, from low to high: 1 where the bytes end before it does, 2 where it is not allowed.
 pub fn read_count(s: &[u8], at: usize, low: u32, high: u32) -> CountAnswer
-    ensures { toldCount result ≡ countAt s.now at low high }
+    ensures { told_count result ≡ count_at s.now at low high }
 {
     if byte_words::left(s.len(), at) < 4 {
         return CountAnswer::Refused(Refusal::Short, s.len());

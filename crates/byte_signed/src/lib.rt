@@ -2,40 +2,40 @@
 // written there.
 ghost use Rattle.std.specs.Prelude.{◌≡◌};
 ghost use Rattle.std.specs.Int.{w16, w32, w64};
-ghost use Rattle.byte_words.specs.Words.{lay, signedWord, signedBytes};
+ghost use Rattle.byte_words.specs.Words.{lay, signed_word, signed_bytes};
 
 pub fn read_i16(s: &[u8], at: usize) -> i16
-    ensures { result ≡ signedWord w16 s.now at }
+    ensures { result ≡ signed_word w16 s.now at }
 {
     num_signs::signed16(byte_read::read_u16(s, at))
 }
 
 pub fn read_i32(s: &[u8], at: usize) -> i32
-    ensures { result ≡ signedWord w32 s.now at }
+    ensures { result ≡ signed_word w32 s.now at }
 {
     num_signs::signed32(byte_read::read_u32(s, at))
 }
 
 pub fn read_i64(s: &[u8], at: usize) -> i64
-    ensures { result ≡ signedWord w64 s.now at }
+    ensures { result ≡ signed_word w64 s.now at }
 {
     num_signs::signed64(byte_read::read_u64(s, at))
 }
 
 pub fn write_i16(s: &mut [u8], at: usize, z: i16)
-    ensures { s.new ≡ lay s.old at (signedBytes w16 z) }
+    ensures { s.new ≡ lay s.old at (signed_bytes w16 z) }
 {
     byte_write::write_u16(s, at, num_signs::bits16(z));
 }
 
 pub fn write_i32(s: &mut [u8], at: usize, z: i32)
-    ensures { s.new ≡ lay s.old at (signedBytes w32 z) }
+    ensures { s.new ≡ lay s.old at (signed_bytes w32 z) }
 {
     byte_write::write_u32(s, at, num_signs::bits32(z));
 }
 
 pub fn write_i64(s: &mut [u8], at: usize, z: i64)
-    ensures { s.new ≡ lay s.old at (signedBytes w64 z) }
+    ensures { s.new ≡ lay s.old at (signed_bytes w64 z) }
 {
     byte_write::write_u64(s, at, num_signs::bits64(z));
 }

@@ -19,8 +19,8 @@ unfoldable pub lay : List ℕ → ℕ → List ℕ → List ℕ
 lay s at bs = sets s at bs
 
 -- the same for signed numbers, in two's complement of a width
-unfoldable pub signedWord : Width → List ℕ → ℕ → ℤ
-signedWord w s at = to_z w (word (bytes w) s at)
+unfoldable pub signed_word : Width → List ℕ → ℕ → ℤ
+signed_word w s at = to_z w (word (bytes w) s at)
 
-unfoldable pub signedBytes : Width → ℤ → List ℕ
-signedBytes w z = bytes_of (bytes w) (of_z w z)
+unfoldable pub signed_bytes : Width → ℤ → List ℕ
+signed_bytes w z = bytes_of (bytes w) (of_z w z)

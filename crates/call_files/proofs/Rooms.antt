@@ -6,55 +6,55 @@ use mathlib.Core.List.{List, [], ◌∷◌}
 use mathlib.Core.Bool.{true, false}
 use lib.ListN.{length}
 use Rattle.num_whole.specs.Answer.{Answered, given, refused, Judged, good, bad}
-use Rattle.num_whole.proofs.Cases.{yes, no, both-second, upTo-true}
+use Rattle.num_whole.proofs.Cases.{yes, no, both_second, up_to_true}
 use Rattle.byte_words.specs.Words.{lay}
 use Rattle.refusal.specs.First.{number_in}
-use Rattle.refusal.proofs.Firsts.{unless-true, unless-false}
+use Rattle.refusal.proofs.Firsts.{unless_true, unless_false}
 use Rattle.byte_section.specs.Section.{and_then}
 use Rattle.arc_read.specs.Arc.{Arc, ShownArc}
-use Rattle.call_rooms.specs.Result.{resultNumber, resultLeft}
+use Rattle.call_rooms.specs.Result.{result_number, result_left}
 use Rattle.call_rooms.proofs.Rooms.{roomy}
-use Rattle.call_heading.specs.Lent.{headingBytes}
-use Rattle.call_files.specs.Reading.{arcOf, readRoomy, arcRoomy, readNumber, headingLeft, placesLeft}
-use Rattle.byte_section.specs.Told.{onDone}
-use Rattle.byte_section.proofs.Writing.{done-new, done-old}
+use Rattle.call_heading.specs.Lent.{heading_bytes}
+use Rattle.call_files.specs.Reading.{arc_of, read_roomy, arc_roomy, read_number, heading_left, places_left}
+use Rattle.byte_section.specs.Told.{on_done}
+use Rattle.byte_section.proofs.Writing.{done_new, done_old}
 
 -- ---- what a reader shows
-pub shown-good : (x : ShownArc) → x.verdict ≡ good tt → arcOf x ≡ good x.arc
-unfolding arcOf and_then
-shown-good x e = rw e
+pub shown_good : (x : ShownArc) → x.verdict ≡ good tt → arc_of x ≡ good x.arc
+unfolding arc_of and_then
+shown_good x e = rw e
 
-pub shown-bad : (x : ShownArc) {number place : ℕ} → x.verdict ≡ bad number place → arcOf x ≡ bad number place
-unfolding arcOf and_then
-shown-bad x e = rw e
+pub shown_bad_lem : (x : ShownArc) {number place : ℕ} → x.verdict ≡ bad number place → arc_of x ≡ bad number place
+unfolding arc_of and_then
+shown_bad_lem x e = rw e
 
 -- ---- what a call leaves
 module _ (j : Judged Arc) (room out : List ℕ) where
-  pub read-refused : (number : ℕ) {place n : ℕ} → j ≡ bad number place → n ≡ number
-      → (n ≡ readNumber j (length room) (length out)) × ((room ≡ headingLeft j room (length out)) × (out ≡ placesLeft j (length room) out))
-  unfolding readNumber headingLeft placesLeft
-  read-refused number e i = rw e (i, (refl, refl))
+  pub read_refused : (number : ℕ) {place n : ℕ} → j ≡ bad number place → n ≡ number
+      → (n ≡ read_number j (length room) (length out)) × ((room ≡ heading_left j room (length out)) × (out ≡ places_left j (length room) out))
+  unfolding read_number heading_left places_left
+  read_refused number e i = rw e (i, (refl, refl))
 
   module _ (a : Arc) (is : j ≡ good a) where
-    pub read_short : arcRoomy a (length room) (length out) ≡ false
-        → (20 ≡ readNumber j (length room) (length out)) × ((room ≡ headingLeft j room (length out)) × (out ≡ placesLeft j (length room) out))
-    unfolding readNumber headingLeft placesLeft
-    read_short t = rw is (sym (unless-false 20 _ t), (no _ _ _ t refl, no _ _ _ t refl))
+    pub read_short : arc_roomy a (length room) (length out) ≡ false
+        → (20 ≡ read_number j (length room) (length out)) × ((room ≡ heading_left j room (length out)) × (out ≡ places_left j (length room) out))
+    unfolding read_number heading_left places_left
+    read_short t = rw is (sym (unless_false 20 _ t), (no _ _ _ t refl, no _ _ _ t refl))
 
-    pub read_done : arcRoomy a (length room) (length out) ≡ true → {n : ℕ} {h left : List ℕ} → h ≡ lay room 0 (headingBytes a.heading)
-        → (n ≡ resultNumber (given (a.count ∷ a.start ∷ [])) (length out)) × (left ≡ resultLeft (given (a.count ∷ a.start ∷ [])) out)
-        → (n ≡ readNumber j (length room) (length out)) × ((h ≡ headingLeft j room (length out)) × (left ≡ placesLeft j (length room) out))
-    unfolding readNumber headingLeft placesLeft readRoomy
+    pub read_done : arc_roomy a (length room) (length out) ≡ true → {n : ℕ} {h left : List ℕ} → h ≡ lay room 0 (heading_bytes a.heading)
+        → (n ≡ result_number (given (a.count ∷ a.start ∷ [])) (length out)) × (left ≡ result_left (given (a.count ∷ a.start ∷ [])) out)
+        → (n ≡ read_number j (length room) (length out)) × ((h ≡ heading_left j room (length out)) × (left ≡ places_left j (length room) out))
+    unfolding read_number heading_left places_left read_roomy
     read_done t e put =
-        let fits = roomy (a.count ∷ a.start ∷ []) out (upTo-true 2 (length out) (both-second _ _ t)) in
-        rw is (put.0 ∙ sym fits.0 ∙ sym (unless-true 20 _ t), (yes _ _ _ t e, yes _ _ _ t (put.1 ∙ sym fits.1)))
+        let fits = roomy (a.count ∷ a.start ∷ []) out (up_to_true 2 (length out) (both_second _ _ t)) in
+        rw is (put.0 ∙ sym fits.0 ∙ sym (unless_true 20 _ t), (yes _ _ _ t e, yes _ _ _ t (put.1 ∙ sym fits.1)))
 
 -- ---- an answer w: done, with the new bytes in the room, or kept
 module _ {A : Type 0} (w : Answered A) (new old : List ℕ) where
-  pub is-done : {a : A} {left : List ℕ} → w ≡ given a → left ≡ new → (0 ≡ number_in w) × (left ≡ onDone w new old)
+  pub is_done : {a : A} {left : List ℕ} → w ≡ given a → left ≡ new → (0 ≡ number_in w) × (left ≡ on_done w new old)
   unfolding number_in
-  is-done e f = (ap number_in (sym e), f ∙ done-new w new old e)
+  is_done e f = (ap number_in (sym e), f ∙ done_new w new old e)
 
-  pub is-kept : {k n : ℕ} → w ≡ refused k → n ≡ k → (n ≡ number_in w) × (old ≡ onDone w new old)
+  pub is_kept : {k n : ℕ} → w ≡ refused k → n ≡ k → (n ≡ number_in w) × (old ≡ on_done w new old)
   unfolding number_in
-  is-kept e f = (f ∙ ap number_in (sym e), done-old w new old e)
+  is_kept e f = (f ∙ ap number_in (sym e), done_old w new old e)

@@ -4,5 +4,5 @@ use Rattle.num_whole.specs.Tests.{pick}
 use Rattle.call_rooms.specs.Result.{one}
 
 -- 1 for seen, 0 for unseen
-unfoldable pub seenNumbers : Bool → List ℕ
-seenNumbers seen = one (pick seen 1 0)
+unfoldable pub seen_numbers : Bool → List ℕ
+seen_numbers seen = one (pick seen 1 0)

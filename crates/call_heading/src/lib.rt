@@ -1,12 +1,12 @@
 // A heading in lent bytes, read and written: what callers that have numbers and slices only hand in and get back.
 ghost use Rattle.std.specs.Prelude.{◌≡◌, ◌≤◌, min};
-ghost use Rattle.num_limits.specs.Capacities.{parametersMost, stationsMost};
+ghost use Rattle.num_limits.specs.Capacities.{parameters_most, stations_most};
 ghost use Rattle.byte_words.specs.Words.{word, lay};
-ghost use Rattle.arc_limits.specs.Limits.{no_label, noStation};
-ghost use Rattle.arc_kinds.specs.Kinds.{label_at, stationAt};
+ghost use Rattle.arc_limits.specs.Limits.{no_label, no_station};
+ghost use Rattle.arc_kinds.specs.Kinds.{label_at, station_at};
 ghost use Rattle.num_whole.specs.Lists.{padded};
 ghost use Rattle.byte_words.specs.Stands.{stands};
-ghost use Rattle.call_heading.specs.Lent.{headingIn, headingBytes, hasHeading, hasBoth, headNumber};
+ghost use Rattle.call_heading.specs.Lent.{heading_in, heading_bytes, has_heading, has_both, head_number};
 
 use arc_heading::Heading;
 use arc_limits::{Label, Station};
@@ -23,15 +23,15 @@ fn held(b: &[u8], at: usize, most: usize) -> usize
 
 // Whether the bytes are as many as their own numbers want.
 pub fn has_heading(b: &[u8]) -> bool
-    ensures { result ≡ hasHeading b.now }
+    ensures { result ≡ has_heading b.now }
 {
     16 + 16 * held(b, 12, PARAMETERS_MOST) + 8 * held(b, 14, STATIONS_MOST) <= b.len()
 }
 
 // The first n labels; slots past them are 0.
 fn labels_in(b: &[u8], n: usize) -> [Label; PARAMETERS_MOST]
-    requires { n ≤ parametersMost }
-    ensures { result ≡ padded parametersMost no_label (stands (label_at b.now) 16 n 16) }
+    requires { n ≤ parameters_most }
+    ensures { result ≡ padded parameters_most no_label (stands (label_at b.now) 16 n 16) }
 {
     let mut labels = [Label {
         kind: 0,
@@ -51,8 +51,8 @@ fn labels_in(b: &[u8], n: usize) -> [Label; PARAMETERS_MOST]
 
 // The first n stations, from a place on; slots past them are 0.
 fn stations_in(b: &[u8], start: usize, n: usize) -> [Station; STATIONS_MOST]
-    requires { (start ≤ 816) × (n ≤ stationsMost) }
-    ensures { result ≡ padded stationsMost noStation (stands (stationAt b.now) 8 n start) }
+    requires { (start ≤ 816) × (n ≤ stations_most) }
+    ensures { result ≡ padded stations_most no_station (stands (station_at b.now) 8 n start) }
 {
     let mut listed = [Station {
         number: 0,
@@ -70,7 +70,7 @@ fn stations_in(b: &[u8], start: usize, n: usize) -> [Station; STATIONS_MOST]
 
 // The heading that bytes hold, whatever they are.
 pub fn heading_in(b: &[u8]) -> Heading
-    ensures { result ≡ headingIn b.now }
+    ensures { result ≡ heading_in b.now }
 {
     let n = held(b, 12, PARAMETERS_MOST);
     let m = held(b, 14, STATIONS_MOST);
@@ -89,8 +89,8 @@ pub fn heading_in(b: &[u8]) -> Heading
 
 // A heading's bytes at the front of a room; a byte for which there is no room is dropped.
 pub fn put_heading(h: Heading, out: &mut [u8])
-    requires { (h.parameters ≤ parametersMost) × (h.stations ≤ stationsMost) }
-    ensures { out.new ≡ lay out.old 0 (headingBytes h) }
+    requires { (h.parameters ≤ parameters_most) × (h.stations ≤ stations_most) }
+    ensures { out.new ≡ lay out.old 0 (heading_bytes h) }
 {
     let s = h.settings;
     let p = h.parameters;
@@ -104,7 +104,7 @@ pub fn put_heading(h: Heading, out: &mut [u8])
 
 // Whether a heading and a tally are there whole.
 pub fn has_both(heading: &[u8], tally: &[u8]) -> bool
-    ensures { result ≡ hasBoth heading.now tally.now }
+    ensures { result ≡ has_both heading.now tally.now }
 {
     if has_heading(heading) {
         call_tally::has_tally(tally)
@@ -115,7 +115,7 @@ pub fn has_both(heading: &[u8], tally: &[u8]) -> bool
 
 // What is wrong with a heading before its fields are judged, in writing: 20 for its numbers, 2, 20 for the whole; 0 where nothing is.
 pub fn judge_head(heading: &[u8]) -> u32
-    ensures { result ≡ headNumber heading.now }
+    ensures { result ≡ head_number heading.now }
 {
     if heading.len() < 16 {
         return 20;

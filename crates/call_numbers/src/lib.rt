@@ -1,11 +1,11 @@
 // Inner to `wheloruka`: what days, cells, units and residuals answer, put into lent room; cells by their letters' numbers,
 // residuals by their types'.
 ghost use Rattle.std.specs.Prelude.{◌≡◌, length};
-ghost use Rattle.call_rooms.specs.Result.{resultNumber, resultLeft, toldValues, one};
-ghost use Rattle.days.specs.Calendar.{toldDay, toldDate};
-ghost use Rattle.cells.specs.Cells.{toldCell, toldIndex};
-ghost use Rattle.unit_convert.specs.Units.{toldUnit, toldDouble};
-ghost use Rattle.call_numbers.specs.Given.{dateNumbers, letterNumber, cellNumbers, index_by, residualAs};
+ghost use Rattle.call_rooms.specs.Result.{result_number, result_left, told_values, one};
+ghost use Rattle.days.specs.Calendar.{told_day, told_date};
+ghost use Rattle.cells.specs.Cells.{told_cell, told_index};
+ghost use Rattle.unit_convert.specs.Units.{told_unit, told_double};
+ghost use Rattle.call_numbers.specs.Given.{date_numbers, letter_number, cell_numbers, index_by, residual_as};
 
 use cells::{Cell, CellAnswer, IndexAnswer, Letter};
 use days::{DateAnswer, DayAnswer};
@@ -16,8 +16,8 @@ use unit_measure::MeasurementAnswer;
 // ---- days
 
 pub fn give_day(out: &mut [u32], answer: DayAnswer) -> u32
-    ensures value { result ≡ resultNumber (toldValues one (toldDay answer)) (length out.old) }
-    ensures left { out.new ≡ resultLeft (toldValues one (toldDay answer)) out.old }
+    ensures value { result ≡ result_number (told_values one (told_day answer)) (length out.old) }
+    ensures left { out.new ≡ result_left (told_values one (told_day answer)) out.old }
 {
     match answer {
         DayAnswer::Is(n) => call_rooms::give_one(out, n),
@@ -26,8 +26,8 @@ pub fn give_day(out: &mut [u32], answer: DayAnswer) -> u32
 }
 
 pub fn give_date(out: &mut [u32], answer: DateAnswer) -> u32
-    ensures value { result ≡ resultNumber (toldValues dateNumbers (toldDate answer)) (length out.old) }
-    ensures left { out.new ≡ resultLeft (toldValues dateNumbers (toldDate answer)) out.old }
+    ensures value { result ≡ result_number (told_values date_numbers (told_date answer)) (length out.old) }
+    ensures left { out.new ≡ result_left (told_values date_numbers (told_date answer)) out.old }
 {
     match answer {
         DateAnswer::Is(t) => call_rooms::give_three(out, t.year, t.month, t.day),
@@ -38,7 +38,7 @@ pub fn give_date(out: &mut [u32], answer: DateAnswer) -> u32
 // ---- cells
 
 fn letter_number(l: Letter) -> u32
-    ensures { result ≡ letterNumber l }
+    ensures { result ≡ letter_number l }
 {
     match l {
         Letter::C => 67,
@@ -47,8 +47,8 @@ fn letter_number(l: Letter) -> u32
 }
 
 pub fn give_cell(out: &mut [u32], answer: CellAnswer) -> u32
-    ensures value { result ≡ resultNumber (toldValues cellNumbers (toldCell answer)) (length out.old) }
-    ensures left { out.new ≡ resultLeft (toldValues cellNumbers (toldCell answer)) out.old }
+    ensures value { result ≡ result_number (told_values cell_numbers (told_cell answer)) (length out.old) }
+    ensures left { out.new ≡ result_left (told_values cell_numbers (told_cell answer)) out.old }
 {
     match answer {
         CellAnswer::Is(c) => {
@@ -61,7 +61,7 @@ pub fn give_cell(out: &mut [u32], answer: CellAnswer) -> u32
 
 // The index of a cell by its letter's number.
 pub fn index_by(letter: u32, degree: u32, order: u32) -> IndexAnswer
-    ensures { toldIndex result ≡ index_by letter degree order }
+    ensures { told_index result ≡ index_by letter degree order }
 {
     match letter {
         67 => cells::index_of(Cell {
@@ -79,8 +79,8 @@ pub fn index_by(letter: u32, degree: u32, order: u32) -> IndexAnswer
 }
 
 pub fn give_index(out: &mut [u32], answer: IndexAnswer) -> u32
-    ensures value { result ≡ resultNumber (toldValues one (toldIndex answer)) (length out.old) }
-    ensures left { out.new ≡ resultLeft (toldValues one (toldIndex answer)) out.old }
+    ensures value { result ≡ result_number (told_values one (told_index answer)) (length out.old) }
+    ensures left { out.new ≡ result_left (told_values one (told_index answer)) out.old }
 {
     match answer {
         IndexAnswer::Is(n) => call_rooms::give_one(out, n),
@@ -91,8 +91,8 @@ pub fn give_index(out: &mut [u32], answer: IndexAnswer) -> u32
 // ---- units
 
 pub fn give_unit(out: &mut [i64], answer: UnitAnswer) -> u32
-    ensures value { result ≡ resultNumber (toldValues one (toldUnit answer)) (length out.old) }
-    ensures left { out.new ≡ resultLeft (toldValues one (toldUnit answer)) out.old }
+    ensures value { result ≡ result_number (told_values one (told_unit answer)) (length out.old) }
+    ensures left { out.new ≡ result_left (told_values one (told_unit answer)) out.old }
 {
     match answer {
         UnitAnswer::Is(q) => call_rooms::give_unit(out, q),
@@ -102,7 +102,7 @@ pub fn give_unit(out: &mut [i64], answer: UnitAnswer) -> u32
 
 // The residual of a measurement by its type's number.
 pub fn residual_as(kind: u32, observed: f64, computed: f64) -> UnitAnswer
-    ensures { toldUnit result ≡ residualAs kind observed computed }
+    ensures { told_unit result ≡ residual_as kind observed computed }
 {
     match unit_measure::measured(kind, observed, computed) {
         MeasurementAnswer::Is(m) => unit_residual::residual(m),
@@ -111,8 +111,8 @@ pub fn residual_as(kind: u32, observed: f64, computed: f64) -> UnitAnswer
 }
 
 pub fn give_double(out: &mut [f64], answer: DoubleAnswer) -> u32
-    ensures value { result ≡ resultNumber (toldValues one (toldDouble answer)) (length out.old) }
-    ensures left { out.new ≡ resultLeft (toldValues one (toldDouble answer)) out.old }
+    ensures value { result ≡ result_number (told_values one (told_double answer)) (length out.old) }
+    ensures left { out.new ≡ result_left (told_values one (told_double answer)) out.old }
 {
     match answer {
         DoubleAnswer::Is(x) => call_rooms::give_double(out, x),

@@ -1,27 +1,27 @@
 // Inner to `wheloruka`: the calls for an arc file in parts, on a position and a state in lent room.
 ghost use Rattle.std.specs.Prelude.{◌≡◌, ◌≤◌, length};
-ghost use Rattle.num_limits.specs.Capacities.{parametersMost, stationsMost};
+ghost use Rattle.num_limits.specs.Capacities.{parameters_most, stations_most};
 ghost use Rattle.num_whole.specs.Tests.{up_to, pick, both};
 ghost use Rattle.byte_words.specs.Words.{lay};
-ghost use Rattle.call_tally.specs.Tally.{tallyBytes};
-ghost use Rattle.part_laws.specs.Entries.{toldPart};
-ghost use Rattle.call_position.specs.Position.{positionLong, positionBytes};
-ghost use Rattle.call_told.specs.Told.{toldNumber, toldOut, changes};
+ghost use Rattle.call_tally.specs.Tally.{tally_bytes};
+ghost use Rattle.part_laws.specs.Entries.{told_part};
+ghost use Rattle.call_position.specs.Position.{position_long, position_bytes};
+ghost use Rattle.call_told.specs.Told.{told_number, told_out, changes};
 ghost use Rattle.call_part.specs.Calls.{
   rooms,
-  hasState,
-  placeLent,
-  beginCall,
-  beginLeft,
-  partCall,
-  partLeft,
-  partAnswersLeft,
-  finishCall,
-  finishLeft,
-  headTold,
-  headGiven,
-  headCall,
-  headLeft,
+  has_state,
+  place_lent,
+  begin_call,
+  begin_left,
+  part_call,
+  part_left,
+  part_answers_left,
+  finish_call,
+  finish_left,
+  head_told,
+  head_given,
+  head_call,
+  head_left,
 };
 
 use part::{Headed, Parted};
@@ -33,7 +33,7 @@ use take_tally::Tally;
 
 // Whether a position and a tally are there whole.
 fn has_state(position: &[u8], tally: &[u8]) -> bool
-    ensures { result ≡ hasState position.now tally.now }
+    ensures { result ≡ has_state position.now tally.now }
 {
     if call_position::has_position(position) {
         call_tally::has_tally(tally)
@@ -44,7 +44,7 @@ fn has_state(position: &[u8], tally: &[u8]) -> bool
 
 // Whether a position is there whole, with room for two numbers.
 fn is_lent(position: &[u8], out: usize) -> bool
-    ensures { result ≡ placeLent position.now out }
+    ensures { result ≡ place_lent position.now out }
 {
     if call_position::has_position(position) {
         2 <= out
@@ -54,8 +54,8 @@ fn is_lent(position: &[u8], out: usize) -> bool
 }
 
 fn put_back(answer: PartAnswer, p: Position, position: &mut [u8])
-    requires { positionLong ≤ length position.old }
-    ensures { position.new ≡ pick (changes (toldPart answer)) (lay position.old 0 (positionBytes p)) position.old }
+    requires { position_long ≤ length position.old }
+    ensures { position.new ≡ pick (changes (told_part answer)) (lay position.old 0 (position_bytes p)) position.old }
 {
     if call_told::changes(answer) {
         call_position::put_position(p, position);
@@ -63,7 +63,7 @@ fn put_back(answer: PartAnswer, p: Position, position: &mut [u8])
 }
 
 fn put_tally_back(answer: PartAnswer, t: Tally, tally: &mut [u8])
-    ensures { tally.new ≡ pick (changes (toldPart answer)) (lay tally.old 0 (tallyBytes t)) tally.old }
+    ensures { tally.new ≡ pick (changes (told_part answer)) (lay tally.old 0 (tally_bytes t)) tally.old }
 {
     if call_told::changes(answer) {
         call_tally::put_tally(t, tally);
@@ -74,8 +74,8 @@ fn put_tally_back(answer: PartAnswer, t: Tally, tally: &mut [u8])
 
 // Where a file begins, and the empty state: 20, or all four rooms are filled.
 pub fn begin(position: &mut [u8], tally: &mut [u8], matrix: &mut [i64], rights: &mut [i64]) -> u32
-    ensures value { result ≡ beginCall (rooms position.old tally.old matrix.old rights.old) }
-    ensures left { rooms position.new tally.new matrix.new rights.new ≡ beginLeft (rooms position.old tally.old matrix.old rights.old) }
+    ensures value { result ≡ begin_call (rooms position.old tally.old matrix.old rights.old) }
+    ensures left { rooms position.new tally.new matrix.new rights.new ≡ begin_left (rooms position.old tally.old matrix.old rights.old) }
 {
     if has_state(position, tally) {
         let b = part::begin(matrix, rights);
@@ -98,11 +98,11 @@ pub fn begin(position: &mut [u8], tally: &mut [u8], matrix: &mut [i64], rights: 
 // ---- a part
 
 fn give_parted(x: Parted, position: &mut [u8], tally: &mut [u8], out: &mut [u64]) -> u32
-    requires { (positionLong ≤ length position.old) × (2 ≤ length out.old) }
-    ensures value { result ≡ toldNumber (toldPart x.answer) }
-    ensures position { position.new ≡ pick (changes (toldPart x.answer)) (lay position.old 0 (positionBytes x.position)) position.old }
-    ensures tally { tally.new ≡ pick (changes (toldPart x.answer)) (lay tally.old 0 (tallyBytes x.tally)) tally.old }
-    ensures left { out.new ≡ toldOut (toldPart x.answer) out.old }
+    requires { (position_long ≤ length position.old) × (2 ≤ length out.old) }
+    ensures value { result ≡ told_number (told_part x.answer) }
+    ensures position { position.new ≡ pick (changes (told_part x.answer)) (lay position.old 0 (position_bytes x.position)) position.old }
+    ensures tally { tally.new ≡ pick (changes (told_part x.answer)) (lay tally.old 0 (tally_bytes x.tally)) tally.old }
+    ensures left { out.new ≡ told_out (told_part x.answer) out.old }
 {
     let answer = x.answer;
     let p = x.position;
@@ -114,7 +114,7 @@ fn give_parted(x: Parted, position: &mut [u8], tally: &mut [u8], out: &mut [u64]
 
 // Whether a position and a tally are there whole, with room for two numbers.
 fn has_rooms(position: &[u8], tally: &[u8], out: usize) -> bool
-    ensures { result ≡ both (hasState position.now tally.now) (up_to 2 out) }
+    ensures { result ≡ both (has_state position.now tally.now) (up_to 2 out) }
 {
     if has_state(position, tally) {
         2 <= out
@@ -133,10 +133,10 @@ pub fn part(
     answers: &mut [u8],
     out: &mut [u64],
 ) -> u32
-    ensures value { result ≡ toldNumber (partCall (rooms position.old tally.old matrix.old rights.old) bytes.now (length answers.old) (length out.old)) }
-    ensures left { rooms position.new tally.new matrix.new rights.new ≡ partLeft (rooms position.old tally.old matrix.old rights.old) bytes.now (length answers.old) (length out.old) }
-    ensures answers { answers.new ≡ partAnswersLeft (rooms position.old tally.old matrix.old rights.old) bytes.now answers.old (length out.old) }
-    ensures told { out.new ≡ toldOut (partCall (rooms position.old tally.old matrix.old rights.old) bytes.now (length answers.old) (length out.old)) out.old }
+    ensures value { result ≡ told_number (part_call (rooms position.old tally.old matrix.old rights.old) bytes.now (length answers.old) (length out.old)) }
+    ensures left { rooms position.new tally.new matrix.new rights.new ≡ part_left (rooms position.old tally.old matrix.old rights.old) bytes.now (length answers.old) (length out.old) }
+    ensures answers { answers.new ≡ part_answers_left (rooms position.old tally.old matrix.old rights.old) bytes.now answers.old (length out.old) }
+    ensures told { out.new ≡ told_out (part_call (rooms position.old tally.old matrix.old rights.old) bytes.now (length answers.old) (length out.old)) out.old }
 {
     if has_rooms(position, tally, out.len()) {
         let p = call_position::position_in(position);
@@ -152,9 +152,9 @@ pub fn part(
 
 // The file is over: 20, 28, 6, 1, or nothing is wrong.
 pub fn finish(position: &mut [u8], out: &mut [u64]) -> u32
-    ensures value { result ≡ toldNumber (finishCall position.old (length out.old)) }
-    ensures left { position.new ≡ finishLeft position.old (length out.old) }
-    ensures told { out.new ≡ toldOut (finishCall position.old (length out.old)) out.old }
+    ensures value { result ≡ told_number (finish_call position.old (length out.old)) }
+    ensures left { position.new ≡ finish_left position.old (length out.old) }
+    ensures told { out.new ≡ told_out (finish_call position.old (length out.old)) out.old }
 {
     if is_lent(position, out.len()) {
         let p = call_position::position_in(position);
@@ -174,9 +174,9 @@ pub fn finish(position: &mut [u8], out: &mut [u64]) -> u32
 
 // The heading of a position, 6 also where the word for whether the file is over is neither 0 nor 1.
 fn head_of(position: &[u8]) -> Headed
-    ensures answer_value { toldPart result.answer ≡ headTold position.now }
-    ensures heading { result.heading ≡ headGiven position.now }
-    ensures fits { (result.heading.parameters ≤ parametersMost) × (result.heading.stations ≤ stationsMost) }
+    ensures answer_value { told_part result.answer ≡ head_told position.now }
+    ensures heading { result.heading ≡ head_given position.now }
+    ensures fits { (result.heading.parameters ≤ parameters_most) × (result.heading.stations ≤ stations_most) }
 {
     if call_position::is_marked(position) {
         part::heading(call_position::position_in(position))
@@ -190,9 +190,9 @@ fn head_of(position: &[u8]) -> Headed
 
 // The heading of a position: 20, 6, 1 where it is not complete yet, 20 for its room, or it is put there.
 pub fn heading(position: &[u8], heading: &mut [u8], out: &mut [u64]) -> u32
-    ensures value { result ≡ toldNumber (headCall position.now (length heading.old) (length out.old)) }
-    ensures heading { heading.new ≡ headLeft position.now heading.old (length out.old) }
-    ensures told { out.new ≡ toldOut (headCall position.now (length heading.old) (length out.old)) out.old }
+    ensures value { result ≡ told_number (head_call position.now (length heading.old) (length out.old)) }
+    ensures heading { heading.new ≡ head_left position.now heading.old (length out.old) }
+    ensures told { out.new ≡ told_out (head_call position.now (length heading.old) (length out.old)) out.old }
 {
     if is_lent(position, out.len()) {
         let p = call_position::position_in(position);

@@ -4,39 +4,39 @@ use Rattle.std.specs.Prelude.{ℕ, List, ◌++◌, Bool, length, take}
 use Rattle.num_whole.specs.Tests.{less, up_to, pick}
 use Rattle.num_whole.specs.Lists.{padded}
 use Rattle.byte_words.specs.Words.{word, bytes_of}
-use Rattle.part_laws.specs.Entries.{positionMost}
+use Rattle.part_laws.specs.Entries.{position_most}
 use Rattle.part_laws.specs.declared.Position.{Position}
 
 -- the room for the bytes kept, then eight bytes each for how many they are, for the records taken and for whether the file is over; and the
 -- length of all
 abbrev pub length_at : ℕ
-length_at = positionMost
+length_at = position_most
 
-abbrev pub takenAt : ℕ
-takenAt = 1096
+abbrev pub taken_at : ℕ
+taken_at = 1096
 
-abbrev pub overAt : ℕ
-overAt = 1104
+abbrev pub over_at : ℕ
+over_at = 1104
 
-abbrev pub positionLong : ℕ
-positionLong = 1112
+abbrev pub position_long : ℕ
+position_long = 1112
 
 -- any number but 0 says that the file is over
-unfoldable pub positionIn : List ℕ → Position
-positionIn b =
+unfoldable pub position_in : List ℕ → Position
+position_in b =
     record {
-      kept = padded positionMost 0 (take positionMost b);
+      kept = padded position_most 0 (take position_most b);
       length = word 8 b length_at;
-      taken = word 8 b takenAt;
-      over = less 0 (word 8 b overAt);
+      taken = word 8 b taken_at;
+      over = less 0 (word 8 b over_at);
     }
 
-unfoldable pub positionBytes : Position → List ℕ
-positionBytes p = p.kept ++ (bytes_of 8 p.length ++ (bytes_of 8 p.taken ++ bytes_of 8 (pick p.over 1 0)))
+unfoldable pub position_bytes : Position → List ℕ
+position_bytes p = p.kept ++ (bytes_of 8 p.length ++ (bytes_of 8 p.taken ++ bytes_of 8 (pick p.over 1 0)))
 
-unfoldable pub hasPosition : List ℕ → Bool
-hasPosition b = up_to positionLong (length b)
+unfoldable pub has_position : List ℕ → Bool
+has_position b = up_to position_long (length b)
 
 -- the last word is one that is written
 unfoldable pub marked : List ℕ → Bool
-marked b = up_to (word 8 b overAt) 1
+marked b = up_to (word 8 b over_at) 1

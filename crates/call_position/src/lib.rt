@@ -3,8 +3,8 @@ ghost use Rattle.std.specs.Prelude.{◌≡◌, ◌≤◌, length, take};
 ghost use Rattle.num_whole.specs.Tests.{up_to, pick};
 ghost use Rattle.num_whole.specs.Lists.{padded};
 ghost use Rattle.byte_words.specs.Words.{word, lay};
-ghost use Rattle.part_laws.specs.Entries.{positionMost};
-ghost use Rattle.call_position.specs.Position.{positionLong, positionIn, positionBytes, hasPosition, marked};
+ghost use Rattle.part_laws.specs.Entries.{position_most};
+ghost use Rattle.call_position.specs.Position.{position_long, position_in, position_bytes, has_position, marked};
 
 use part_laws::{POSITION_MOST, Position};
 
@@ -21,13 +21,13 @@ const POSITION_LONG: usize = OVER_AT + 8;
 // ---- reading
 
 pub fn has_position(b: &[u8]) -> bool
-    ensures { result ≡ hasPosition b.now }
+    ensures { result ≡ has_position b.now }
 {
     POSITION_LONG <= b.len()
 }
 
 fn kept_in(b: &[u8]) -> [u8; POSITION_MOST]
-    ensures { result ≡ padded positionMost 0 (take positionMost b.now) }
+    ensures { result ≡ padded position_most 0 (take position_most b.now) }
 {
     let n = num_whole::least(POSITION_MOST, b.len());
     let mut a = [0; POSITION_MOST];
@@ -37,7 +37,7 @@ fn kept_in(b: &[u8]) -> [u8; POSITION_MOST]
 
 // The position that bytes hold, whatever they are.
 pub fn position_in(b: &[u8]) -> Position
-    ensures { result ≡ positionIn b.now }
+    ensures { result ≡ position_in b.now }
 {
     let kept = kept_in(b);
     let length = byte_read::read_u64(b, LENGTH_AT) as usize;
@@ -67,8 +67,8 @@ fn flag(b: bool) -> u64
 }
 
 fn put_kept(p: Position, out: &mut [u8])
-    requires { positionLong ≤ length out.old }
-    ensures { (out.new ≡ lay out.old 0 p.kept) × (length p.kept ≡ positionMost) }
+    requires { position_long ≤ length out.old }
+    ensures { (out.new ≡ lay out.old 0 p.kept) × (length p.kept ≡ position_most) }
 {
     let kept = p.kept;
     arc_fields::put_run(&kept[..POSITION_MOST], out, 0);
@@ -76,8 +76,8 @@ fn put_kept(p: Position, out: &mut [u8])
 
 // A position's bytes at the front of a room.
 pub fn put_position(p: Position, out: &mut [u8])
-    requires { positionLong ≤ length out.old }
-    ensures { out.new ≡ lay out.old 0 (positionBytes p) }
+    requires { position_long ≤ length out.old }
+    ensures { out.new ≡ lay out.old 0 (position_bytes p) }
 {
     let length = p.length;
     let taken = p.taken;

@@ -11,49 +11,49 @@ use lib.Seq.{sets, take_all}
 use Rattle.num_whole.specs.Lists.{rest, padded}
 use Rattle.num_whole.proofs.Walks.{rest_end, rest_more}
 use Rattle.byte_words.specs.Words.{lay}
-use Rattle.byte_words.proofs.Words.{lay-append}
+use Rattle.byte_words.proofs.Words.{lay_append}
 use Rattle.byte_section.specs.Section.{encoded}
-use Rattle.num_whole.proofs.Padded.{put-padded}
+use Rattle.num_whole.proofs.Padded.{put_padded}
 use Rattle.byte_words.specs.Stands.{stands}
-use Rattle.byte_words.proofs.Stands.{length-stands}
+use Rattle.byte_words.proofs.Stands.{length_stands}
 
 module _ {A : Type 0} (f : ℕ → A) (size n at : ℕ) (d : A) where
   pub fill_start : (room : ℕ) → n ≤ room → sets (replicate room d) 0 (stands f size (n - 0) at) ≡ padded room d (stands f size n at)
-  fill_start room h = rw (sub-zero n) (put-padded room d (stands f size n at) (rw length-stands h))
+  fill_start room h = rw (sub-zero n) (put_padded room d (stands f size n at) (rw length_stands h))
 
   -- where the array has no slot more
-  pub fill-whole : sets (replicate n d) 0 (stands f size (n - 0) at) ≡ stands f size n at
-  fill-whole =
-      let none : n - length (stands f size n at) ≡ 0 = rw length-stands (omega arith) in
+  pub fill_whole : sets (replicate n d) 0 (stands f size (n - 0) at) ≡ stands f size n at
+  fill_whole =
+      let none : n - length (stands f size n at) ≡ 0 = rw length_stands (omega arith) in
       fill_start n (omega arith) ∙ ap (λ k. stands f size n at ++ replicate k d) none ∙ append-nil _
 
 -- a walk over a whole list
-pub rest-whole : {A : Type 0} (l : List A) (n : ℕ) → length l ≡ n → l ≡ rest l n 0
+pub rest_whole : {A : Type 0} (l : List A) (n : ℕ) → length l ≡ n → l ≡ rest l n 0
 unfolding rest
-rest-whole l n e = sym (take_all n l (omega arith))
+rest_whole l n e = sym (take_all n l (omega arith))
 
 -- ---- records laid one after the other: what is left at each turn
 module _ {A : Type 0} (bytes : A → List ℕ) (out : List ℕ) (at : ℕ) (l : List A) (n i : ℕ) where
-  pub lay-end : n ≤ i → lay out at (encoded bytes (rest l n i)) ≡ out
+  pub lay_end : n ≤ i → lay out at (encoded bytes (rest l n i)) ≡ out
   unfolding encoded lay
-  lay-end e = rw (rest_end l n i e)
+  lay_end e = rw (rest_end l n i e)
 
-  pub lay-turn : (d : A) (k : ℕ) → n ≤ length l → i < n → length (bytes (get_or l i d)) ≡ k
+  pub lay_turn : (d : A) (k : ℕ) → n ≤ length l → i < n → length (bytes (get_or l i d)) ≡ k
       → lay out at (encoded bytes (rest l n i)) ≡ lay (lay out at (bytes (get_or l i d))) (at + k) (encoded bytes (rest l n (i + 1)))
   unfolding encoded
-  lay-turn d k fits more long = rw (rest_more l n i d fits more) (sym (lay-append _ _ _ _ _ (simp long)))
+  lay_turn d k fits more long = rw (rest_more l n i d fits more) (sym (lay_append _ _ _ _ _ (simp long)))
 
 -- how long they are: a total of k bytes for each turn that was made and of what is left
 module _ {A : Type 0} (bytes : A → List ℕ) (k : ℕ) (l : List A) (total n i : ℕ) (so_far : total ≡ k * i + length (encoded bytes (rest l n i))) where
-  pub long-end : n ≤ i → total ≡ k * i
+  pub long_end : n ≤ i → total ≡ k * i
   unfolding encoded
-  long-end e =
+  long_end e =
       let none : length (encoded bytes (rest l n i)) ≡ 0 = rw (rest_end l n i e) in
       omega (arith, so_far, none)
 
-  pub long-turn : (d : A) → n ≤ length l → i < n → length (bytes (get_or l i d)) ≡ k → total ≡ k * (i + 1) + length (encoded bytes (rest l n (i + 1)))
+  pub long_turn : (d : A) → n ≤ length l → i < n → length (bytes (get_or l i d)) ≡ k → total ≡ k * (i + 1) + length (encoded bytes (rest l n (i + 1)))
   unfolding encoded
-  long-turn d fits more long =
+  long_turn d fits more long =
       let here : length (encoded bytes (rest l n i)) ≡ length (bytes (get_or l i d)) + length (encoded bytes (rest l n (i + 1))) =
       rw (rest_more l n i d fits more) (length-append (bytes (get_or l i d)) (encoded bytes (rest l n (i + 1)))) in
       omega (arith, so_far, here, long)

@@ -1,10 +1,10 @@
 // Inner to `call_heading` and `wheloruka`: a tally in lent bytes, read and written.
 ghost use Rattle.std.specs.Prelude.{◌≡◌, ◌≤◌, length};
-ghost use Rattle.num_limits.specs.Capacities.{stationsMost, parametersMost};
+ghost use Rattle.num_limits.specs.Capacities.{stations_most, parameters_most};
 ghost use Rattle.byte_words.specs.Words.{word, bytes_of, lay};
 ghost use Rattle.byte_words.specs.Stands.{stands};
 ghost use Rattle.byte_section.specs.Section.{encoded};
-ghost use Rattle.call_tally.specs.Tally.{timesRowAt, tallyIn, rowBytes, tallyBytes, hasTally};
+ghost use Rattle.call_tally.specs.Tally.{times_row_at, tally_in, row_bytes, tally_bytes, has_tally};
 
 use num_limits::{PARAMETERS_MOST, STATIONS_MOST, TYPES};
 use take_tally::{Row, Tally};
@@ -12,13 +12,13 @@ use take_tally::{Row, Tally};
 // ---- reading
 
 pub fn has_tally(b: &[u8]) -> bool
-    ensures { result ≡ hasTally b.now }
+    ensures { result ≡ has_tally b.now }
 {
     1452 <= b.len()
 }
 
 fn counts_in(b: &[u8]) -> [u32; STATIONS_MOST]
-    ensures { result ≡ stands (word 4 b.now) 4 stationsMost 8 }
+    ensures { result ≡ stands (word 4 b.now) 4 stations_most 8 }
 {
     let mut counts = [0u32; STATIONS_MOST];
     let mut at: usize = 8;
@@ -34,7 +34,7 @@ fn counts_in(b: &[u8]) -> [u32; STATIONS_MOST]
 // The ten times of a row.
 fn row_in(b: &[u8], start: usize) -> Row
     requires { start ≤ 2000 }
-    ensures { result ≡ timesRowAt b.now start }
+    ensures { result ≡ times_row_at b.now start }
 {
     let mut times = [0u64; TYPES];
     let mut at = start;
@@ -48,7 +48,7 @@ fn row_in(b: &[u8], start: usize) -> Row
 }
 
 fn rows_in(b: &[u8]) -> [Row; STATIONS_MOST]
-    ensures { result ≡ stands (timesRowAt b.now) 80 stationsMost 72 }
+    ensures { result ≡ stands (times_row_at b.now) 80 stations_most 72 }
 {
     let mut rows = [Row {
         times: [0u64; TYPES],
@@ -64,7 +64,7 @@ fn rows_in(b: &[u8]) -> [Row; STATIONS_MOST]
 }
 
 fn marks_in(b: &[u8]) -> [u16; PARAMETERS_MOST]
-    ensures { result ≡ stands (word 2 b.now) 2 parametersMost 1352 }
+    ensures { result ≡ stands (word 2 b.now) 2 parameters_most 1352 }
 {
     let mut marks = [0u16; PARAMETERS_MOST];
     let mut at: usize = 1352;
@@ -79,7 +79,7 @@ fn marks_in(b: &[u8]) -> [u16; PARAMETERS_MOST]
 
 // The tally that bytes hold, whatever they are.
 pub fn tally_in(b: &[u8]) -> Tally
-    ensures { result ≡ tallyIn b.now }
+    ensures { result ≡ tally_in b.now }
 {
     let counts = counts_in(b);
     let rows = rows_in(b);
@@ -108,7 +108,7 @@ fn put_counts(counts: [u32; STATIONS_MOST], out: &mut [u8])
 
 fn put_row(row: Row, out: &mut [u8], start: usize)
     requires { start ≤ 2000 }
-    ensures { (out.new ≡ lay out.old start (rowBytes row)) × (length row.times ≡ 10) }
+    ensures { (out.new ≡ lay out.old start (row_bytes row)) × (length row.times ≡ 10) }
 {
     let mut at = start;
     let mut i: usize = 0;
@@ -120,7 +120,7 @@ fn put_row(row: Row, out: &mut [u8], start: usize)
 }
 
 fn put_rows(t: Tally, out: &mut [u8])
-    ensures { (out.new ≡ lay out.old 72 (encoded rowBytes t.rows)) × (length (encoded rowBytes t.rows) ≡ 1280) }
+    ensures { (out.new ≡ lay out.old 72 (encoded row_bytes t.rows)) × (length (encoded row_bytes t.rows) ≡ 1280) }
 {
     let mut at: usize = 72;
     let mut i: usize = 0;
@@ -146,7 +146,7 @@ fn put_marks(marks: [u16; PARAMETERS_MOST], out: &mut [u8])
 
 // A tally's bytes at the front of a room; a byte for which there is no room is dropped.
 pub fn put_tally(t: Tally, out: &mut [u8])
-    ensures { out.new ≡ lay out.old 0 (tallyBytes t) }
+    ensures { out.new ≡ lay out.old 0 (tally_bytes t) }
 {
     let counts = t.counts;
     let marks = t.marks;

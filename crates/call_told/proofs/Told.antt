@@ -8,49 +8,49 @@ use lib.ListN.{length}
 use Rattle.num_whole.specs.Tests.{pick}
 use Rattle.num_whole.specs.Answer.{given}
 use Rattle.num_whole.proofs.Cases.{yes, no}
-use Rattle.call_rooms.specs.Result.{resultNumber, resultLeft}
+use Rattle.call_rooms.specs.Result.{result_number, result_left}
 use Rattle.call_rooms.proofs.Rooms.{roomy}
 use Rattle.byte_words.specs.Words.{lay}
 use Rattle.arc_heading.specs.declared.Heading.{Heading}
-use Rattle.call_heading.specs.Lent.{headingBytes}
+use Rattle.call_heading.specs.Lent.{heading_bytes}
 use Rattle.part_laws.specs.Entries.{Told, took, stopped, broken}
-use Rattle.call_told.specs.Told.{toldNumber, toldOut, headRoomy}
+use Rattle.call_told.specs.Told.{told_number, told_out, head_roomy}
 
 module _ (out : List ℕ) (t : Told) where
   abbrev Tells : ℕ → List ℕ → Type 0
-  Tells k left = (k ≡ toldNumber t) × (left ≡ toldOut t out)
+  Tells k left = (k ≡ told_number t) × (left ≡ told_out t out)
 
-  pub told-stopped : (k : ℕ) {n : ℕ} → t ≡ stopped k → n ≡ k → Tells n out
-  unfolding toldNumber toldOut
-  told-stopped k e i = rw e (i, refl)
+  pub told_stopped : (k : ℕ) {n : ℕ} → t ≡ stopped k → n ≡ k → Tells n out
+  unfolding told_number told_out
+  told_stopped k e i = rw e (i, refl)
 
   module _ (fits : 2 ≤ length out) where
-    pub told-took : (n : ℕ) {k : ℕ} {left : List ℕ} → t ≡ took n
-        → (k ≡ resultNumber (given (n ∷ 0 ∷ [])) (length out)) × (left ≡ resultLeft (given (n ∷ 0 ∷ [])) out) → Tells k left
-    unfolding toldNumber toldOut
-    told-took n e put = let f = roomy (n ∷ 0 ∷ []) out fits in rw e (put.0 ∙ sym f.0, put.1 ∙ sym f.1)
+    pub told_took : (n : ℕ) {k : ℕ} {left : List ℕ} → t ≡ took n
+        → (k ≡ result_number (given (n ∷ 0 ∷ [])) (length out)) × (left ≡ result_left (given (n ∷ 0 ∷ [])) out) → Tells k left
+    unfolding told_number told_out
+    told_took n e put = let f = roomy (n ∷ 0 ∷ []) out fits in rw e (put.0 ∙ sym f.0, put.1 ∙ sym f.1)
 
-    pub told-broken : (k place n : ℕ) {m : ℕ} {left : List ℕ} → t ≡ broken k place n → left ≡ resultLeft (given (n ∷ place ∷ [])) out → m ≡ k → Tells m left
-    unfolding toldNumber toldOut
-    told-broken k place n e put i = let f = roomy (n ∷ place ∷ []) out fits in rw e (i, put ∙ sym f.1)
+    pub told_broken : (k place n : ℕ) {m : ℕ} {left : List ℕ} → t ≡ broken k place n → left ≡ result_left (given (n ∷ place ∷ [])) out → m ≡ k → Tells m left
+    unfolding told_number told_out
+    told_broken k place n e put i = let f = roomy (n ∷ place ∷ []) out fits in rw e (i, put ∙ sym f.1)
 
 -- ---- a heading in its room, with a number
 module _ (h : Heading) (n : ℕ) (room out : List ℕ) where
   abbrev says : Told
-  says = pick (headRoomy h (length room)) (took n) (stopped 20)
+  says = pick (head_roomy h (length room)) (took n) (stopped 20)
 
   abbrev pub Puts : ℕ → List ℕ → List ℕ → Type 0
   Puts k left told =
-      (k ≡ toldNumber says)
-      × ((left ≡ pick (headRoomy h (length room)) (lay room 0 (headingBytes h)) room) × (told ≡ toldOut says out))
+      (k ≡ told_number says)
+      × ((left ≡ pick (head_roomy h (length room)) (lay room 0 (heading_bytes h)) room) × (told ≡ told_out says out))
 
-  pub head-short : headRoomy h (length room) ≡ false → Puts 20 room out
-  head-short e =
-      let t = told-stopped out says 20 (sym (no _ _ _ e refl)) refl in
+  pub head_short : head_roomy h (length room) ≡ false → Puts 20 room out
+  head_short e =
+      let t = told_stopped out says 20 (sym (no _ _ _ e refl)) refl in
       (t.0, (no _ _ _ e refl, t.1))
 
-  pub head-put : headRoomy h (length room) ≡ true → 2 ≤ length out → {k : ℕ} {left told : List ℕ} → left ≡ lay room 0 (headingBytes h)
-      → (k ≡ resultNumber (given (n ∷ 0 ∷ [])) (length out)) × (told ≡ resultLeft (given (n ∷ 0 ∷ [])) out) → Puts k left told
-  head-put e fits put two =
-      let t = told-took out says fits n (sym (yes _ _ _ e refl)) two in
+  pub head_put : head_roomy h (length room) ≡ true → 2 ≤ length out → {k : ℕ} {left told : List ℕ} → left ≡ lay room 0 (heading_bytes h)
+      → (k ≡ result_number (given (n ∷ 0 ∷ [])) (length out)) × (told ≡ result_left (given (n ∷ 0 ∷ [])) out) → Puts k left told
+  head_put e fits put two =
+      let t = told_took out says fits n (sym (yes _ _ _ e refl)) two in
       (t.0, (yes _ _ _ e put, t.1))

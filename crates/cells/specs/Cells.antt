@@ -17,43 +17,43 @@ abbrev pub cell : Letter → ℕ → ℕ → Cell
 cell letter degree order = record { letter = letter; degree = degree; order = order }
 
 -- n from 1 to 30, m from 0 to n
-unfoldable pub isCell : Cell → Bool
-isCell c = both (between 1 c.degree 30) (up_to c.order c.degree)
+unfoldable pub is_cell : Cell → Bool
+is_cell c = both (between 1 c.degree 30) (up_to c.order c.degree)
 
 -- ---- the two index rules
-abbrev pub cellRow : Letter → ℕ → ℕ
-cellRow C n = n
-cellRow S n = 31 - n
+abbrev pub cell_row : Letter → ℕ → ℕ
+cell_row C n = n
+cell_row S n = 31 - n
 
-abbrev pub cellColumn : Letter → ℕ → ℕ
-cellColumn C m = m + 1
-cellColumn S m = 33 - m
+abbrev pub cell_column : Letter → ℕ → ℕ
+cell_column C m = m + 1
+cell_column S m = 33 - m
 
-unfoldable pub cellIndex : Cell → ℕ
-cellIndex c = 33 * (cellRow c.letter c.degree - 1) + (cellColumn c.letter c.order - 1)
+unfoldable pub cell_index : Cell → ℕ
+cell_index c = 33 * (cell_row c.letter c.degree - 1) + (cell_column c.letter c.order - 1)
 
 unfoldable pub index_of : Cell → Answered ℕ
-index_of c = pick (isCell c) (given (cellIndex c)) (refused 4)
+index_of c = pick (is_cell c) (given (cell_index c)) (refused 4)
 
 -- ---- the rules read backwards: C(n,m) fills row n up to column n+1, and S has the rest
-unfoldable pub ownerOf : ℕ → ℕ → Cell
-ownerOf row column = pick (up_to column (row + 1)) (cell C row (column - 1)) (cell S (31 - row) (33 - column))
+unfoldable pub owner_of : ℕ → ℕ → Cell
+owner_of row column = pick (up_to column (row + 1)) (cell C row (column - 1)) (cell S (31 - row) (33 - column))
 
 unfoldable pub cell_of : ℕ → Cell
-cell_of index = ownerOf (index / 33 + 1) (index % 33 + 1)
+cell_of index = owner_of (index / 33 + 1) (index % 33 + 1)
 
 unfoldable pub cell_at : ℕ → Answered Cell
 cell_at index = pick (less index 990) (given (cell_of index)) (refused 4)
 
 -- a cell that may be a parameter: any but those of column 33
-unfoldable pub isParameter : ℕ → Bool
-isParameter index = both (less index 990) (not (same (index % 33 + 1) 33))
+unfoldable pub is_parameter : ℕ → Bool
+is_parameter index = both (less index 990) (not (same (index % 33 + 1) 33))
 
 -- ---- what the answers say
-abbrev pub toldCell : CellAnswer → Answered Cell
-toldCell (Cells.Is c) = given c
-toldCell (Cells.Refused r) = refused (number_of r)
+abbrev pub told_cell : CellAnswer → Answered Cell
+told_cell (Cells.Is c) = given c
+told_cell (Cells.Refused r) = refused (number_of r)
 
-abbrev pub toldIndex : IndexAnswer → Answered ℕ
-toldIndex (Index.Is n) = given n
-toldIndex (Index.Refused r) = refused (number_of r)
+abbrev pub told_index : IndexAnswer → Answered ℕ
+told_index (Index.Is n) = given n
+told_index (Index.Refused r) = refused (number_of r)

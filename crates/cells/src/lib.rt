@@ -2,7 +2,7 @@
 mod table;
 
 ghost use Rattle.std.specs.Prelude.{◌≡◌};
-ghost use Rattle.cells.specs.Cells.{isCell, index_of, cell_at, toldCell, toldIndex};
+ghost use Rattle.cells.specs.Cells.{is_cell, index_of, cell_at, told_cell, told_index};
 ghost use Rattle.cells.specs.Table.{decoded};
 
 use refusal::Refusal;
@@ -56,7 +56,7 @@ fn decode(entry: u16) -> Cell
 
 // The cell at an index, or 4 where the index is not below 990.
 pub fn cell_at(index: u32) -> CellAnswer
-    ensures { toldCell result ≡ cell_at index }
+    ensures { told_cell result ≡ cell_at index }
 {
     if index < 990 {
         CellAnswer::Is(decode(table::entry(index as usize)))
@@ -67,7 +67,7 @@ pub fn cell_at(index: u32) -> CellAnswer
 
 // Whether the degree and the order are in their limits.
 fn within(cell: Cell) -> bool
-    ensures { result ≡ isCell cell }
+    ensures { result ≡ is_cell cell }
 {
     if cell.degree < 1 {
         return false;
@@ -80,7 +80,7 @@ fn within(cell: Cell) -> bool
 
 // The index of a cell, or 4 where its degree or order is out of its limits.
 pub fn index_of(cell: Cell) -> IndexAnswer
-    ensures { toldIndex result ≡ index_of cell }
+    ensures { told_index result ≡ index_of cell }
 {
     if within(cell) {
         let letter = cell.letter;

@@ -1,17 +1,17 @@
 // Calendar days: from a date to its day number and back, for every input.
 ghost use Rattle.std.specs.Prelude.{◌≡◌, true, ◌+◌, ◌-◌, ◌≤◌};
-ghost use Rattle.num_limits.specs.Capacities.{lastDay};
+ghost use Rattle.num_limits.specs.Capacities.{last_day};
 ghost use Rattle.days.specs.Calendar.{
   leap,
-  monthLength,
-  daysOfMonths,
-  daysOfYears,
-  isDate,
-  dayNumber,
-  dayOfDate,
-  dateOfDay,
-  toldDay,
-  toldDate,
+  month_length,
+  days_of_months,
+  days_of_years,
+  is_date,
+  day_number,
+  day_of_date,
+  date_of_day,
+  told_day,
+  told_date,
 };
 ghost use Rattle.days.specs.Parts.{InYear};
 
@@ -55,7 +55,7 @@ fn is_leap(year: u32) -> bool
 
 // The days of a month.
 fn month_length(year: u32, month: u32) -> u32
-    ensures { result ≡ monthLength year month }
+    ensures { result ≡ month_length year month }
 {
     match month {
         2 => if is_leap(year) { 29 } else { 28 },
@@ -67,7 +67,7 @@ fn month_length(year: u32, month: u32) -> u32
 // The days of the first n months of a year.
 fn months_days(year: u32, n: u32) -> u32
     requires { n ≤ 12 }
-    ensures { result ≡ daysOfMonths year n }
+    ensures { result ≡ days_of_months year n }
 {
     let mut days = 0;
     let mut i = 0;
@@ -81,14 +81,14 @@ fn months_days(year: u32, n: u32) -> u32
 // The days of the n years from 1950 on: every fourth of them is a leap year, the first 1952.
 fn years_days(n: u32) -> u32
     requires { n ≤ 150 }
-    ensures { result ≡ daysOfYears n }
+    ensures { result ≡ days_of_years n }
 {
     365 * n + (n + 1) / 4
 }
 
 // Whether a date is a day of the years 1950 to 2099.
 fn is_date(date: Date) -> bool
-    ensures { result ≡ isDate date }
+    ensures { result ≡ is_date date }
 {
     let year = date.year;
     let month = date.month;
@@ -106,7 +106,7 @@ fn is_date(date: Date) -> bool
 
 // The year in which a day number lies: four years have 1,461 days.
 fn year_of(number: u32) -> u32
-    requires { (1 ≤ number) × (number ≤ lastDay) }
+    requires { (1 ≤ number) × (number ≤ last_day) }
     ensures { InYear number result }
 {
     1950 + (4 * number - 2) / 1461
@@ -114,8 +114,8 @@ fn year_of(number: u32) -> u32
 
 // The date of a day of a year, the first of which is 1.
 fn date_in_year(year: u32, number: u32) -> Date
-    requires { (1950 ≤ year) × (year ≤ 2099) × (1 ≤ number) × (number ≤ daysOfMonths year 12) }
-    ensures { (isDate result ≡ true) × (dayNumber result ≡ daysOfYears (year - 1950) + number) }
+    requires { (1950 ≤ year) × (year ≤ 2099) × (1 ≤ number) × (number ≤ days_of_months year 12) }
+    ensures { (is_date result ≡ true) × (day_number result ≡ days_of_years (year - 1950) + number) }
 {
     let mut month = 1;
     let mut day = number;
@@ -130,7 +130,7 @@ fn date_in_year(year: u32, number: u32) -> Date
 
 // The number of a date, or 4 where it is no day of the years 1950 to 2099.
 pub fn day_of_date(date: Date) -> DayAnswer
-    ensures { toldDay result ≡ dayOfDate date }
+    ensures { told_day result ≡ day_of_date date }
 {
     let year = date.year;
     let month = date.month;
@@ -145,7 +145,7 @@ pub fn day_of_date(date: Date) -> DayAnswer
 
 // The date of a day number, or 4 where it is not 1 to 54,787.
 pub fn date_of_day(number: u32) -> DateAnswer
-    ensures { toldDate result ≡ dateOfDay number }
+    ensures { told_date result ≡ date_of_day number }
 {
     if num_whole::within(1, number as u64, LAST_DAY) {
         let year = year_of(number);

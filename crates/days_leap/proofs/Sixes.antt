@@ -8,9 +8,9 @@ use native.Mathlib.Omega.{arith}
 use lib.ListN.{length}
 use Rattle.num_whole.specs.Tests.{up_to, both}
 use Rattle.num_whole.specs.Lists.{ascend}
-use Rattle.days_leap.specs.Leap.{daysBefore, listedDays, listedBefore}
-use Rattle.days_leap.proofs.Counts.{Rises, before-none, before-one, before-all, before-append}
-use Rattle.days_leap.proofs.Listed.{listing, listed-so}
+use Rattle.days_leap.specs.Leap.{days_before, listed_days, listed_before}
+use Rattle.days_leap.proofs.Counts.{Rises, before_none, before_one, before_all, before_append}
+use Rattle.days_leap.proofs.Listed.{listing, listed_so}
 
 abbrev pub six1 : List ℕ
 six1 = 8217 ∷ 8401 ∷ 8766 ∷ 9131 ∷ 9496 ∷ 9862 ∷ []
@@ -34,60 +34,60 @@ after2 = 13879 ∷ (six3 ++ 17348 ∷ six4)
 abbrev after3 : List ℕ
 after3 = 17348 ∷ six4
 
-by-sixes : listedDays ≡ six1 ++ after1
+by_sixes : listed_days ≡ six1 ++ after1
 unfolding listing
-by-sixes = listed-so
+by_sixes = listed_so
 
 module _ (d : ℕ) where
-  all_of : listedBefore d ≡ daysBefore d six1 + daysBefore d after1
-  unfolding listedBefore
-  all_of = ap (daysBefore d) by-sixes ∙ before-append d six1 after1
+  all_of : listed_before d ≡ days_before d six1 + days_before d after1
+  unfolding listed_before
+  all_of = ap (days_before d) by_sixes ∙ before_append d six1 after1
 
-  of-1 : 10227 < d → daysBefore d after1 ≡ 1 + (daysBefore d six2 + daysBefore d after2)
-  of-1 h = before-one d 10227 (six2 ++ after2) h ∙ ap (λ n. 1 + n) (before-append d six2 after2)
+  of_1 : 10227 < d → days_before d after1 ≡ 1 + (days_before d six2 + days_before d after2)
+  of_1 h = before_one d 10227 (six2 ++ after2) h ∙ ap (λ n. 1 + n) (before_append d six2 after2)
 
-  of-2 : 13879 < d → daysBefore d after2 ≡ 1 + (daysBefore d six3 + daysBefore d after3)
-  of-2 h = before-one d 13879 (six3 ++ after3) h ∙ ap (λ n. 1 + n) (before-append d six3 after3)
+  of_2 : 13879 < d → days_before d after2 ≡ 1 + (days_before d six3 + days_before d after3)
+  of_2 h = before_one d 13879 (six3 ++ after3) h ∙ ap (λ n. 1 + n) (before_append d six3 after3)
 
-  of-3 : 17348 < d → daysBefore d after3 ≡ 1 + daysBefore d six4
-  of-3 h = before-one d 17348 six4 h
+  of_3 : 17348 < d → days_before d after3 ≡ 1 + days_before d six4
+  of_3 h = before_one d 17348 six4 h
 
-  none_1 : d ≤ 10227 → daysBefore d after1 ≡ 0
+  none_1 : d ≤ 10227 → days_before d after1 ≡ 0
   unfolding ascend both up_to
-  none_1 h = before-none d 10227 h after1 refl
+  none_1 h = before_none d 10227 h after1 refl
 
-  none_2 : d ≤ 13879 → daysBefore d after2 ≡ 0
+  none_2 : d ≤ 13879 → days_before d after2 ≡ 0
   unfolding ascend both up_to
-  none_2 h = before-none d 13879 h after2 refl
+  none_2 h = before_none d 13879 h after2 refl
 
-  none-3 : d ≤ 17348 → daysBefore d after3 ≡ 0
+  none_3 : d ≤ 17348 → days_before d after3 ≡ 0
   unfolding ascend both up_to
-  none-3 h = before-none d 17348 h after3 refl
+  none_3 h = before_none d 17348 h after3 refl
 
   -- where a day between them lies before, so do the six before that
-  every-1 : 10227 < d → daysBefore d six1 ≡ 6
-  every-1 h = before-all d six1 (omega arith, (omega arith, (omega arith, (omega arith, (omega arith, (omega arith, tt))))))
+  every_1 : 10227 < d → days_before d six1 ≡ 6
+  every_1 h = before_all d six1 (omega arith, (omega arith, (omega arith, (omega arith, (omega arith, (omega arith, tt))))))
 
-  every-2 : 13879 < d → daysBefore d six2 ≡ 6
-  every-2 h = before-all d six2 (omega arith, (omega arith, (omega arith, (omega arith, (omega arith, (omega arith, tt))))))
+  every_2 : 13879 < d → days_before d six2 ≡ 6
+  every_2 h = before_all d six2 (omega arith, (omega arith, (omega arith, (omega arith, (omega arith, (omega arith, tt))))))
 
-  every-3 : 17348 < d → daysBefore d six3 ≡ 6
-  every-3 h = before-all d six3 (omega arith, (omega arith, (omega arith, (omega arith, (omega arith, (omega arith, tt))))))
+  every_3 : 17348 < d → days_before d six3 ≡ 6
+  every_3 h = before_all d six3 (omega arith, (omega arith, (omega arith, (omega arith, (omega arith, (omega arith, tt))))))
 
-  pub in-first : d ≤ 10227 → daysBefore d six1 ≡ listedBefore d
-  in-first h = omega (arith, all_of, none_1 h)
+  pub in_first : d ≤ 10227 → days_before d six1 ≡ listed_before d
+  in_first h = omega (arith, all_of, none_1 h)
 
-  pub in-second : 10227 < d → d ≤ 13879 → 7 + daysBefore d six2 ≡ listedBefore d
-  in-second l h = omega (arith, all_of, every-1 l, of-1 l, none_2 h)
+  pub in_second : 10227 < d → d ≤ 13879 → 7 + days_before d six2 ≡ listed_before d
+  in_second l h = omega (arith, all_of, every_1 l, of_1 l, none_2 h)
 
-  pub in-third : 13879 < d → d ≤ 17348 → 14 + daysBefore d six3 ≡ listedBefore d
-  in-third l h = omega (arith, all_of, every-1 (omega arith), every-2 l, of-1 (omega arith), of-2 l, none-3 h)
+  pub in_third : 13879 < d → d ≤ 17348 → 14 + days_before d six3 ≡ listed_before d
+  in_third l h = omega (arith, all_of, every_1 (omega arith), every_2 l, of_1 (omega arith), of_2 l, none_3 h)
 
-  pub in-fourth : 17348 < d → 21 + daysBefore d six4 ≡ listedBefore d
-  in-fourth l = omega (arith, all_of, every-1 (omega arith), every-2 (omega arith), every-3 l, of-1 (omega arith), of-2 (omega arith), of-3 l)
+  pub in_fourth : 17348 < d → 21 + days_before d six4 ≡ listed_before d
+  in_fourth l = omega (arith, all_of, every_1 (omega arith), every_2 (omega arith), every_3 l, of_1 (omega arith), of_2 (omega arith), of_3 l)
 
   -- after the last of them all lie before
-  pub all-before : 24472 < d → 27 ≡ listedBefore d
-  all-before l =
-      let last = before-all d six4 (omega arith, (omega arith, (omega arith, (omega arith, (omega arith, (omega arith, tt)))))) in
-      omega (arith, in-fourth (omega arith))
+  pub all_before : 24472 < d → 27 ≡ listed_before d
+  all_before l =
+      let last = before_all d six4 (omega arith, (omega arith, (omega arith, (omega arith, (omega arith, (omega arith, tt)))))) in
+      omega (arith, in_fourth (omega arith))

@@ -1,9 +1,9 @@
 // The days that end in a leap second: which they are, how many lie before a day, when a day begins and how long it lasts.
 ghost use Rattle.std.specs.Prelude.{◌≡◌, [], ◌∷◌, ◌≤◌, ◌<◌};
 ghost use Rattle.num_whole.specs.Tests.{up_to};
-ghost use Rattle.num_limits.specs.Capacities.{lastDay, dayAfterLast};
-ghost use Rattle.days_leap.specs.Leap.{daysBefore, isListed, listedBefore, lastMs, dayStart};
-ghost use Rattle.days_leap.specs.Parts.{listedMost, startMost};
+ghost use Rattle.num_limits.specs.Capacities.{last_day, day_after_last};
+ghost use Rattle.days_leap.specs.Leap.{days_before, is_listed, listed_before, last_ms, day_start};
+ghost use Rattle.days_leap.specs.Parts.{listed_most, start_most};
 
 // ---- the listed days
 
@@ -67,7 +67,7 @@ const LISTED_MOST: u32 = 27;
 // How many of six days, each after the one before it, lie before a day.
 fn of_six(day: u32, a: u32, b: u32, c: u32, d: u32, e: u32, f: u32) -> u32
     requires { (a < b) × (b < c) × (c < d) × (d < e) × (e < f) }
-    ensures { (result ≡ daysBefore day (a ∷ b ∷ c ∷ d ∷ e ∷ f ∷ [])) × (result ≤ 6) }
+    ensures { (result ≡ days_before day (a ∷ b ∷ c ∷ d ∷ e ∷ f ∷ [])) × (result ≤ 6) }
 {
     if day <= c {
         if day <= a {
@@ -92,7 +92,7 @@ fn of_six(day: u32, a: u32, b: u32, c: u32, d: u32, e: u32, f: u32) -> u32
 
 // How many listed days lie before a day: five comparisons, by sixes and the days between them.
 fn listed_among(day: u32) -> u32
-    ensures { (result ≡ listedBefore day) × (result ≤ listedMost) }
+    ensures { (result ≡ listed_before day) × (result ≤ listed_most) }
 {
     if day <= DECEMBER_1987 {
         if day <= DECEMBER_1977 {
@@ -142,7 +142,7 @@ fn listed_among(day: u32) -> u32
 
 // The same: before the first and after the last of them one comparison tells.
 fn listed_before(day: u32) -> u32
-    ensures { (result ≡ listedBefore day) × (result ≤ listedMost) }
+    ensures { (result ≡ listed_before day) × (result ≤ listed_most) }
 {
     if day <= JUNE_1972 {
         return 0;
@@ -161,16 +161,16 @@ const COMMON_LENGTH: u64 = 86400000;
 const SECOND: u64 = 1000;
 
 fn is_listed(day: u32) -> bool
-    requires { day ≤ lastDay }
-    ensures { result ≡ isListed day }
+    requires { day ≤ last_day }
+    ensures { result ≡ is_listed day }
 {
     listed_before(day) < listed_before(day + 1)
 }
 
 // Whether a day has such a millisecond: the list is looked at only where a second more decides.
 pub fn in_day(day: u32, ms: u32) -> bool
-    requires { day ≤ lastDay }
-    ensures { result ≡ up_to ms (lastMs day) }
+    requires { day ≤ last_day }
+    ensures { result ≡ up_to ms (last_ms day) }
 {
     if (ms as u64) < COMMON_LENGTH {
         return true;
@@ -183,8 +183,8 @@ pub fn in_day(day: u32, ms: u32) -> bool
 
 // The time at which a day begins.
 pub fn start(day: u32) -> u64
-    requires { day ≤ dayAfterLast }
-    ensures { (result ≡ dayStart day) × (result ≤ startMost) }
+    requires { day ≤ day_after_last }
+    ensures { (result ≡ day_start day) × (result ≤ start_most) }
 {
     day as u64 * COMMON_LENGTH + SECOND * listed_before(day) as u64
 }

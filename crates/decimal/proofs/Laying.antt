@@ -7,26 +7,26 @@ use native.Mathlib.Omega.{arith}
 use lib.ListN.{length, get_or, set, take, drop, length-append, length-drop, drop_of_length-le}
 use lib.Seq.{drop-cons, take_all}
 use Rattle.num_whole.specs.Tests.{less}
-use Rattle.num_whole.proofs.Cases.{by_cases, less-true, less-false}
+use Rattle.num_whole.proofs.Cases.{by_cases, less_true, less_false}
 use Rattle.byte_words.specs.Words.{lay}
-use Rattle.byte_words.proofs.Words.{length-lay, lay-out, lay-append}
+use Rattle.byte_words.proofs.Words.{length_lay, lay_out, lay_append}
 use Rattle.decimal.specs.Laid.{laid}
 
 -- ---- a piece after a piece
 module _ (s : List ℕ) (at : ℕ) (xs ys : List ℕ) where
-  then-lay : lay (lay s at xs) (min (at + length xs) (length s)) ys ≡ lay s at (xs ++ ys)
-  then-lay =
+  then_lay : lay (lay s at xs) (min (at + length xs) (length s)) ys ≡ lay s at (xs ++ ys)
+  then_lay =
       by_cases (less (length s) (at + length xs))
-      (λ t. let m : min (at + length xs) (length s) ≡ length s = omega (arith, less-true _ _ t) in
-      let l : length (lay s at xs) ≡ length s = length-lay s at xs in
-      rw m (lay-out (lay s at xs) (length s) ys (omega arith)
-      ∙ sym (sym (lay-append s at (at + length xs) xs ys refl) ∙ lay-out (lay s at xs) (at + length xs) ys (omega (arith, less-true _ _ t)))))
-      (λ t. let m : min (at + length xs) (length s) ≡ at + length xs = omega (arith, less-false _ _ t) in
-      rw m (lay-append s at (at + length xs) xs ys refl))
+      (λ t. let m : min (at + length xs) (length s) ≡ length s = omega (arith, less_true _ _ t) in
+      let l : length (lay s at xs) ≡ length s = length_lay s at xs in
+      rw m (lay_out (lay s at xs) (length s) ys (omega arith)
+      ∙ sym (sym (lay_append s at (at + length xs) xs ys refl) ∙ lay_out (lay s at xs) (at + length xs) ys (omega (arith, less_true _ _ t)))))
+      (λ t. let m : min (at + length xs) (length s) ≡ at + length xs = omega (arith, less_false _ _ t) in
+      rw m (lay_append s at (at + length xs) xs ys refl))
 
-  then-place : min (min (at + length xs) (length s) + length ys) (length (lay s at xs)) ≡ min (at + length (xs ++ ys)) (length s)
-  then-place =
-      let l : length (lay s at xs) ≡ length s = length-lay s at xs in
+  then_place : min (min (at + length xs) (length s) + length ys) (length (lay s at xs)) ≡ min (at + length (xs ++ ys)) (length s)
+  then_place =
+      let l : length (lay s at xs) ≡ length s = length_lay s at xs in
       let a : length (xs ++ ys) ≡ length xs + length ys = length-append xs ys in
       rw (l, a) (omega arith)
 
@@ -35,7 +35,7 @@ pub laid_then : (s : List ℕ) (at : ℕ) (xs ys : List ℕ) {t : List ℕ} {n :
 unfolding laid
 laid_then s at xs ys e =
     ap (λ p. (lay p.0 p.1 ys, min (p.1 + length ys) (length p.0))) e
-    ∙ ap₂ (λ a b. (a, b)) (then-lay s at xs ys) (then-place s at xs ys)
+    ∙ ap₂ (λ a b. (a, b)) (then_lay s at xs ys) (then_place s at xs ys)
 
 -- and what is laid after them
 pub laid_on : (s : List ℕ) (at : ℕ) (xs ys : List ℕ) {t : List ℕ} {n : ℕ} {p : List ℕ × ℕ} → (t, n) ≡ laid s at xs → p ≡ laid t n ys → p ≡ laid s at (xs ++ ys)
@@ -55,16 +55,16 @@ pub part_to_end : (n : ℕ) (l : List ℕ) → take (length l - n) (drop n l) �
 part_to_end n l = take_all (length l - n) (drop n l) (simp length-drop (omega arith))
 
 -- ---- the loop that copies: what is laid and the bytes still to come are the whole
-pub copy-turn : (s text : List ℕ) (at i : ℕ) → i < length text → lay s (at + i) (drop i text) ≡ lay (set s (at + i) (get_or text i 0)) (at + (i + 1)) (drop (i + 1) text)
+pub copy_turn : (s text : List ℕ) (at i : ℕ) → i < length text → lay s (at + i) (drop i text) ≡ lay (set s (at + i) (get_or text i 0)) (at + (i + 1)) (drop (i + 1) text)
 unfolding lay
-copy-turn s text at i h =
+copy_turn s text at i h =
     let next : at + (i + 1) ≡ suc (at + i) = omega arith in
     let one : i + 1 ≡ suc i = omega arith in
     rw (drop-cons text i 0 h, next, one)
 
-pub copy-end : (s text : List ℕ) (at i : ℕ) → min (length text) (length s - at) ≤ i → lay s (at + i) (drop i text) ≡ s
+pub copy_end : (s text : List ℕ) (at i : ℕ) → min (length text) (length s - at) ≤ i → lay s (at + i) (drop i text) ≡ s
 unfolding lay
-copy-end s text at i h =
+copy_end s text at i h =
     by_cases (less i (length text))
-    (λ t. lay-out s (at + i) (drop i text) (omega (arith, less-true _ _ t)))
-    (λ t. rw (drop_of_length-le text (less-false _ _ t)))
+    (λ t. lay_out s (at + i) (drop i text) (omega (arith, less_true _ _ t)))
+    (λ t. rw (drop_of_length-le text (less_false _ _ t)))

@@ -4,19 +4,19 @@ use Rattle.std.specs.Prelude.{ℕ, zero, suc, ◌+◌, ◌-◌, ◌*◌, ◌/◌
 use Rattle.num_whole.specs.Tests.{less, pick}
 
 -- the digits of n before those that stand already, at most so many
-unfoldable pub digitsOf : ℕ → ℕ → List ℕ → List ℕ
-digitsOf zero n rest = rest
-digitsOf (suc k) n rest = pick (less n 10) ((48 + n) ∷ rest) (digitsOf k (n / 10) ((48 + n % 10) ∷ rest))
+unfoldable pub digits_of : ℕ → ℕ → List ℕ → List ℕ
+digits_of zero n rest = rest
+digits_of (suc k) n rest = pick (less n 10) ((48 + n) ∷ rest) (digits_of k (n / 10) ((48 + n % 10) ∷ rest))
 
 -- twenty digits are enough for every number of 64 bits
 unfoldable pub decimal : ℕ → List ℕ
-decimal n = digitsOf 20 n []
+decimal n = digits_of 20 n []
 
-unfoldable pub signedDecimal : ℤ → List ℕ
-signedDecimal (pos n) = decimal n
-signedDecimal (negsuc n) = 45 ∷ decimal (suc n)
+unfoldable pub signed_decimal : ℤ → List ℕ
+signed_decimal (pos n) = decimal n
+signed_decimal (negsuc n) = 45 ∷ decimal (suc n)
 
 -- the number that digits stand for, behind the number n
-unfoldable pub numberBehind : ℕ → List ℕ → ℕ
-numberBehind n [] = n
-numberBehind n (d ∷ l) = numberBehind (n * 10 + (d - 48)) l
+unfoldable pub number_behind : ℕ → List ℕ → ℕ
+number_behind n [] = n
+number_behind n (d ∷ l) = number_behind (n * 10 + (d - 48)) l

@@ -1,6 +1,6 @@
 // Numbers and texts in ASCII, written into lent room one after another: each entry gives the place after what it wrote, where the next begins.
 ghost use Rattle.std.specs.Prelude.{◌≡◌, ◌+◌, ◌≤◌, ◌<◌, min, length, drop};
-ghost use Rattle.decimal.specs.Decimal.{decimal, signedDecimal};
+ghost use Rattle.decimal.specs.Decimal.{decimal, signed_decimal};
 ghost use Rattle.decimal.specs.Laid.{laid};
 
 // The place k after another, at most the end.
@@ -70,7 +70,7 @@ pub fn put_decimal(room: &mut [u8], at: usize, n: u64) -> usize
 
 // The digits of a number, behind a minus where it is below 0.
 pub fn put_signed(room: &mut [u8], at: usize, z: i64) -> usize
-    ensures { (room.new, result) ≡ laid room.old at (signedDecimal z) }
+    ensures { (room.new, result) ≡ laid room.old at (signed_decimal z) }
 {
     let n = num_signs::magnitude(z);
     if z < 0 {

@@ -1,8 +1,8 @@
 // What the programs share of arc files: one is read from a descriptor in parts of 64 KiB, and its records are taken as they complete.
 ghost use Rattle.std.specs.Prelude.{◌≡◌, [], length};
-ghost use Rattle.num_limits.specs.Capacities.{arcSumsMost, parametersMost};
-ghost use Rattle.list_lines.specs.Lines.{talliesOf};
-ghost use Rattle.list_run.specs.Rooms.{partMost};
+ghost use Rattle.num_limits.specs.Capacities.{arc_sums_most, parameters_most};
+ghost use Rattle.list_lines.specs.Lines.{tallies_of};
+ghost use Rattle.list_run.specs.Rooms.{part_most};
 ghost use Rattle.list_run.specs.Course.{Ended};
 
 use byte_section::ReadAnswer;
@@ -15,7 +15,7 @@ const ARC_BYTES_MOST: usize = OPENED_MOST + RECORDS_MOST * RECORD_SIZE_MOST;
 
 // Room for a part.
 pub fn part_room() -> [u8; PART_MOST]
-    ensures { partMost ≡ length result }
+    ensures { part_most ≡ length result }
 {
     [0; PART_MOST]
 }
@@ -36,7 +36,7 @@ pub fn follow(
     rights: &mut [i64],
     table: &mut [u64],
 ) -> Followed
-    requires { (length buf.old ≡ partMost) × (length matrix.old ≡ arcSumsMost) × (length rights.old ≡ parametersMost) × (table.old ≡ talliesOf []) }
+    requires { (length buf.old ≡ part_most) × (length matrix.old ≡ arc_sums_most) × (length rights.old ≡ parameters_most) × (table.old ≡ tallies_of []) }
     ensures { Ended result.answer result.course matrix.new rights.new table.new }
 {
     let mut c = list_run::begin(matrix, rights, table);

@@ -4,8 +4,8 @@
 // several places: a function that is called from one place only becomes a part of its caller.
 ghost use Rattle.std.specs.Prelude.{◌≡◌, length};
 ghost use Rattle.io.specs.Counts.{IsPrefixLen};
-ghost use Rattle.num_limits.specs.Capacities.{arcSumsMost, parametersMost};
-ghost use Rattle.list_run.specs.Rooms.{partMost};
+ghost use Rattle.num_limits.specs.Capacities.{arc_sums_most, parameters_most};
+ghost use Rattle.list_run.specs.Rooms.{part_most};
 ghost use Rattle.list_run.specs.Course.{Open, Ended};
 
 use arc_heading::Heading;
@@ -76,7 +76,7 @@ fn tell_arc(path: &[u8], h: Heading, records: usize) {
 
 // The listing of an accepted arc file.
 fn list_arc(c: Course, matrix: &[i64], rights: &[i64], table: &[u64])
-    requires { Open c matrix.now rights.now table.now × (length matrix.now ≡ arcSumsMost) × (length rights.now ≡ parametersMost) }
+    requires { Open c matrix.now rights.now table.now × (length matrix.now ≡ arc_sums_most) × (length rights.now ≡ parameters_most) }
 {
     let mut out = list_run::text_room();
     let n = list_run::put_text(c, matrix, rights, table, &mut out);
@@ -124,7 +124,7 @@ fn use_arc(
     to: &[u8],
     asked: Asked,
 )
-    requires { Open c matrix.now rights.now table.now × (length matrix.now ≡ arcSumsMost) × (length rights.now ≡ parametersMost) }
+    requires { Open c matrix.now rights.now table.now × (length matrix.now ≡ arc_sums_most) × (length rights.now ≡ parameters_most) }
 {
     let p = c.position;
     let t = c.tally;
@@ -148,7 +148,7 @@ fn end_arc(
     to: &[u8],
     asked: Asked,
 )
-    requires { Open c matrix.now rights.now table.now × (length matrix.now ≡ arcSumsMost) × (length rights.now ≡ parametersMost) }
+    requires { Open c matrix.now rights.now table.now × (length matrix.now ≡ arc_sums_most) × (length rights.now ≡ parameters_most) }
 {
     let p = c.position;
     let f = part::finish(p);
@@ -170,7 +170,7 @@ fn judge_arc(
     to: &[u8],
     asked: Asked,
 )
-    requires { Ended f.answer f.course matrix.now rights.now table.now × (length matrix.now ≡ arcSumsMost) × (length rights.now ≡ parametersMost) }
+    requires { Ended f.answer f.course matrix.now rights.now table.now × (length matrix.now ≡ arc_sums_most) × (length rights.now ≡ parameters_most) }
 {
     let answer = f.answer;
     let c = f.course;
@@ -182,7 +182,7 @@ fn judge_arc(
 
 // The parts of an open file, judged once all of them could be read; else it is told why not.
 fn read_arc(fd: i32, path: &[u8], to: &[u8], asked: Asked, buf: &mut [u8])
-    requires { length buf.old ≡ partMost }
+    requires { length buf.old ≡ part_most }
 {
     let mut matrix = list_run::sums_room();
     let mut rights: [i64; PARAMETERS_MOST] = [0; PARAMETERS_MOST];

@@ -1,7 +1,7 @@
 // What the desk program says of a file: its name, the refusal's number and place, and the sentence of the paper's table, in one line; and what an
 // arc's records came to, with the stations of each parameter.
 ghost use Rattle.std.specs.Prelude.{◌≡◌, ◌+◌, ◌<◌, ◌≤◌, length};
-ghost use Rattle.num_limits.specs.Capacities.{parametersMost, stationsMost};
+ghost use Rattle.num_limits.specs.Capacities.{parameters_most, stations_most};
 
 use arc_heading::Heading;
 use arc_limits::Label;
@@ -107,7 +107,7 @@ pub fn tell_records(records: usize, table: &[u64]) {
 
 // Whether parameter i of an arc is unseen: its diagonal sum is 0.
 fn is_unseen(matrix: &[i64], i: usize) -> bool
-    requires { i < parametersMost }
+    requires { i < parameters_most }
 {
     let k = num_packed::place(i, i);
     if k < matrix.len() {
@@ -130,7 +130,7 @@ fn tell_label(before: usize, kind: u16, index: u16) {
 
 // Tells parameter i of an arc with so many, so many told before it, where it is unseen: how many are told then.
 fn tell_silent(parameters: usize, matrix: &[i64], i: usize, before: usize, l: Label) -> usize
-    requires { (i < parametersMost) × (before < parametersMost) }
+    requires { (i < parameters_most) × (before < parameters_most) }
     ensures { result ≤ before + 1 }
 {
     if i < parameters {
@@ -163,7 +163,7 @@ pub fn tell_unseen(h: Heading, matrix: &[i64]) {
 
 // The number of the station of row k, where a word has its mark.
 fn tell_station(word: u16, k: u16, number: u16)
-    requires { k < stationsMost }
+    requires { k < stations_most }
 {
     if take_marks::has(word, k) {
         desk_lines::put(b" ");

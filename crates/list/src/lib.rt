@@ -1,12 +1,12 @@
 // The arc program's whole output: an arc file read, its records taken from the empty state, and what came of it as text in lent room.
 ghost use Rattle.std.specs.Prelude.{◌≡◌, [], length};
-ghost use Rattle.num_limits.specs.Capacities.{arcSumsMost, parametersMost};
-ghost use Rattle.byte_section.specs.Told.{toldWrite};
+ghost use Rattle.num_limits.specs.Capacities.{arc_sums_most, parameters_most};
+ghost use Rattle.byte_section.specs.Told.{told_write};
 ghost use Rattle.decimal.specs.Laid.{laid};
-ghost use Rattle.list_lines.specs.Lines.{talliesOf};
-ghost use Rattle.list_run.specs.Rooms.{textMost};
+ghost use Rattle.list_lines.specs.Lines.{tallies_of};
+ghost use Rattle.list_run.specs.Rooms.{text_most};
 ghost use Rattle.list_run.specs.Runs.{listing};
-ghost use Rattle.list.specs.Listing.{listAnswer, listLeft};
+ghost use Rattle.list.specs.Listing.{list_answer, list_left};
 
 use byte_section::{ReadAnswer, WriteAnswer};
 use list_run::PART_MOST;
@@ -22,7 +22,7 @@ fn put_parts(
     rights: &mut [i64],
     table: &mut [u64],
 ) -> usize
-    requires { (length matrix.old ≡ arcSumsMost) × (length rights.old ≡ parametersMost) × (table.old ≡ talliesOf []) }
+    requires { (length matrix.old ≡ arc_sums_most) × (length rights.old ≡ parameters_most) × (table.old ≡ tallies_of []) }
     ensures { (room.new, result) ≡ laid room.old 0 (listing file.now) }
 {
     let mut c = list_run::begin(matrix, rights, table);
@@ -59,9 +59,9 @@ fn put_listing(room: &mut [u8], file: &[u8]) -> usize
 
 // The listing by way of room for the longest.
 fn list_by(file: &[u8], room: &mut [u8], out: &mut [u8]) -> WriteAnswer
-    requires { length room.old ≡ textMost }
-    ensures answer { toldWrite result ≡ listAnswer file.now (length out.old) }
-    ensures left { out.new ≡ listLeft file.now out.old }
+    requires { length room.old ≡ text_most }
+    ensures answer { told_write result ≡ list_answer file.now (length out.old) }
+    ensures left { out.new ≡ list_left file.now out.old }
 {
     let n = put_listing(room, file);
     if out.len() < n {
@@ -73,8 +73,8 @@ fn list_by(file: &[u8], room: &mut [u8], out: &mut [u8]) -> WriteAnswer
 
 // The listing of a file at the start of lent room, which keeps its rest; 20 where the room is too short, which then is as it was.
 pub fn list(file: &[u8], out: &mut [u8]) -> WriteAnswer
-    ensures answer { toldWrite result ≡ listAnswer file.now (length out.old) }
-    ensures left { out.new ≡ listLeft file.now out.old }
+    ensures answer { told_write result ≡ list_answer file.now (length out.old) }
+    ensures left { out.new ≡ list_left file.now out.old }
 {
     let mut room = list_run::text_room();
     list_by(file, &mut room, out)

@@ -1,9 +1,9 @@
 // Inner to `list`: the whole listing of an arc, written into lent room.
 ghost use Rattle.std.specs.Prelude.{◌≡◌, ◌≤◌, length};
-ghost use Rattle.num_limits.specs.Capacities.{parametersMost};
+ghost use Rattle.num_limits.specs.Capacities.{parameters_most};
 ghost use Rattle.decimal.specs.Laid.{laid};
 ghost use Rattle.num_packed.specs.Triangle.{tri};
-ghost use Rattle.list_lines.specs.Lines.{arcLines};
+ghost use Rattle.list_lines.specs.Lines.{arc_lines};
 
 use arc_heading::Heading;
 use take_tally::Tally;
@@ -18,8 +18,8 @@ pub fn put_arc(
     matrix: &[i64],
     rights: &[i64],
 ) -> usize
-    requires { (h.parameters ≤ parametersMost) × (tri h.parameters ≤ length matrix.now) × (h.parameters ≤ length rights.now) }
-    ensures { (room.new, result) ≡ laid room.old 0 (arcLines h count table.now matrix.now rights.now t) }
+    requires { (h.parameters ≤ parameters_most) × (tri h.parameters ≤ length matrix.now) × (h.parameters ≤ length rights.now) }
+    ensures { (room.new, result) ≡ laid room.old 0 (arc_lines h count table.now matrix.now rights.now t) }
 {
     let settings = h.settings;
     let a = list_lines::put_one(room, 0, b"arc ", settings.arc as u64);

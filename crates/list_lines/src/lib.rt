@@ -1,14 +1,14 @@
 // The lines of the arc program's listing, each written into lent room at a place; each function gives the place after its lines. What was
 // answered is `list_tallies`, the whole listing of an arc `list_arc`.
 ghost use Rattle.std.specs.Prelude.{◌≡◌, not, ◌≤◌, length};
-ghost use Rattle.num_limits.specs.Capacities.{parametersMost};
+ghost use Rattle.num_limits.specs.Capacities.{parameters_most};
 ghost use Rattle.num_whole.specs.Tests.{pick};
 ghost use Rattle.decimal.specs.Laid.{laid};
-ghost use Rattle.arc_heading.specs.Judge.{labelsOf};
+ghost use Rattle.arc_heading.specs.Judge.{labels_of};
 ghost use Rattle.num_packed.specs.Triangle.{tri};
 ghost use Rattle.num_packed.specs.Sound.{is_zero};
-ghost use Rattle.take_marks.specs.Marks.{markCount};
-ghost use Rattle.list_lines.specs.Lines.{oneLine, twoLine, refusedLine, seenText, unseenText, labelText, sumsText, parameterLine, parameterLines};
+ghost use Rattle.take_marks.specs.Marks.{mark_count};
+ghost use Rattle.list_lines.specs.Lines.{one_line, two_line, refused_line, seen_text, unseen_text, label_text, sums_text, parameter_line, parameter_lines};
 
 use arc_heading::Heading;
 use arc_limits::Label;
@@ -16,7 +16,7 @@ use take_tally::Tally;
 
 // A text and a number.
 pub fn put_one(room: &mut [u8], at: usize, text: &[u8], n: u64) -> usize
-    ensures { (room.new, result) ≡ laid room.old at (oneLine text.now n) }
+    ensures { (room.new, result) ≡ laid room.old at (one_line text.now n) }
 {
     let a = decimal::put_text(room, at, text);
     let b = decimal::put_decimal(room, a, n);
@@ -25,7 +25,7 @@ pub fn put_one(room: &mut [u8], at: usize, text: &[u8], n: u64) -> usize
 
 // A number behind a text, twice.
 pub fn put_two(room: &mut [u8], at: usize, before: &[u8], m: u64, between: &[u8], n: u64) -> usize
-    ensures { (room.new, result) ≡ laid room.old at (twoLine before.now m between.now n) }
+    ensures { (room.new, result) ≡ laid room.old at (two_line before.now m between.now n) }
 {
     let a = decimal::put_text(room, at, before);
     let b = decimal::put_decimal(room, a, m);
@@ -33,7 +33,7 @@ pub fn put_two(room: &mut [u8], at: usize, before: &[u8], m: u64, between: &[u8]
 }
 
 pub fn put_refused(room: &mut [u8], at: usize, number: u64, place: u64) -> usize
-    ensures { (room.new, result) ≡ laid room.old at (refusedLine number place) }
+    ensures { (room.new, result) ≡ laid room.old at (refused_line number place) }
 {
     put_two(room, at, b"refused ", number, b" at ", place)
 }
@@ -41,7 +41,7 @@ pub fn put_refused(room: &mut [u8], at: usize, number: u64, place: u64) -> usize
 // ---- parameters
 
 fn put_seen(room: &mut [u8], at: usize, seen: bool) -> usize
-    ensures { (room.new, result) ≡ laid room.old at (pick seen seenText unseenText) }
+    ensures { (room.new, result) ≡ laid room.old at (pick seen seen_text unseen_text) }
 {
     if seen {
         decimal::put_text(room, at, b" seen ")
@@ -51,7 +51,7 @@ fn put_seen(room: &mut [u8], at: usize, seen: bool) -> usize
 }
 
 fn put_label(room: &mut [u8], at: usize, l: Label) -> usize
-    ensures { (room.new, result) ≡ laid room.old at (labelText l) }
+    ensures { (room.new, result) ≡ laid room.old at (label_text l) }
 {
     let a = decimal::put_decimal(room, at, l.kind as u64);
     let b = decimal::put_text(room, a, b" ");
@@ -59,7 +59,7 @@ fn put_label(room: &mut [u8], at: usize, l: Label) -> usize
 }
 
 fn put_sums(room: &mut [u8], at: usize, diagonal: i64, right: i64, n: u64) -> usize
-    ensures { (room.new, result) ≡ laid room.old at (sumsText diagonal right n) }
+    ensures { (room.new, result) ≡ laid room.old at (sums_text diagonal right n) }
 {
     let a = decimal::put_signed(room, at, diagonal);
     let b = decimal::put_text(room, a, b" ");
@@ -76,7 +76,7 @@ fn put_parameter(
     right: i64,
     word: u16,
 ) -> usize
-    ensures { (room.new, result) ≡ laid room.old at (parameterLine l (not (is_zero diagonal)) diagonal right (markCount word)) }
+    ensures { (room.new, result) ≡ laid room.old at (parameter_line l (not (is_zero diagonal)) diagonal right (mark_count word)) }
 {
     let a = put_label(room, at, l);
     let b = put_seen(room, a, diagonal != 0);
@@ -92,8 +92,8 @@ pub fn put_parameters(
     matrix: &[i64],
     rights: &[i64],
 ) -> usize
-    requires { (h.parameters ≤ parametersMost) × (tri h.parameters ≤ length matrix.now) × (h.parameters ≤ length rights.now) }
-    ensures { (room.new, result) ≡ laid room.old start (parameterLines matrix.now rights.now t.marks 0 (labelsOf h)) }
+    requires { (h.parameters ≤ parameters_most) × (tri h.parameters ≤ length matrix.now) × (h.parameters ≤ length rights.now) }
+    ensures { (room.new, result) ≡ laid room.old start (parameter_lines matrix.now rights.now t.marks 0 (labels_of h)) }
 {
     let n = h.parameters;
     let mut at = start;

@@ -1,12 +1,12 @@
 // Inner to `list` and the programs: the listing of an arc file as the file arrives, part by part. What is put is a function of the bytes handed over.
 ghost use Rattle.std.specs.Prelude.{◌≡◌, [], ◌≤◌, length};
-ghost use Rattle.num_limits.specs.Capacities.{arcSumsMost, parametersMost};
-ghost use Rattle.byte_section.specs.Told.{toldAnswer};
-ghost use Rattle.part_laws.specs.Entries.{toldPart};
+ghost use Rattle.num_limits.specs.Capacities.{arc_sums_most, parameters_most};
+ghost use Rattle.byte_section.specs.Told.{told_answer};
+ghost use Rattle.part_laws.specs.Entries.{told_part};
 ghost use Rattle.part_laws.specs.Sequence.{form_of};
-ghost use Rattle.list_lines.specs.Lines.{talliesOf};
-ghost use Rattle.list_run.specs.Rooms.{partMost, toldMost, textMost};
-ghost use Rattle.list_run.specs.Course.{Follows, Open, Leads, Texts, Ended, EndTexts, countedBy, Countable};
+ghost use Rattle.list_lines.specs.Lines.{tallies_of};
+ghost use Rattle.list_run.specs.Rooms.{part_most, told_most, text_most};
+ghost use Rattle.list_run.specs.Course.{Follows, Open, Leads, Texts, Ended, EndTexts, counted_by, Countable};
 
 use byte_section::ReadAnswer;
 use num_limits::ARC_SUMS_MOST;
@@ -38,28 +38,28 @@ pub struct Heard {
 }
 
 fn told_room() -> [u8; TOLD_MOST]
-    ensures { toldMost ≡ length result }
+    ensures { told_most ≡ length result }
 {
     [0; TOLD_MOST]
 }
 
 // Room for the matrix sums of fifty parameters.
 pub fn sums_room() -> [i64; ARC_SUMS_MOST]
-    ensures { arcSumsMost ≡ length result }
+    ensures { arc_sums_most ≡ length result }
 {
     [0; ARC_SUMS_MOST]
 }
 
 // Room for the longest listing.
 pub fn text_room() -> [u8; TEXT_MOST]
-    ensures { textMost ≡ length result }
+    ensures { text_most ≡ length result }
 {
     [0; TEXT_MOST]
 }
 
 // Before the first part; the sums are cleared, and the table has counted nothing.
 pub fn begin(matrix: &mut [i64], rights: &mut [i64], table: &[u64]) -> Course
-    requires { (length matrix.old ≡ arcSumsMost) × (length rights.old ≡ parametersMost) × (table.now ≡ talliesOf []) }
+    requires { (length matrix.old ≡ arc_sums_most) × (length rights.old ≡ parameters_most) × (table.now ≡ tallies_of []) }
     ensures { Follows [] result matrix.new rights.new table.now }
 {
     let b = part::begin(matrix, rights);
@@ -76,10 +76,10 @@ fn note(
     table: &mut [u64],
     told: &[u8],
 ) -> Heard
-    requires { Countable (toldPart answer) table.old told.now }
-    ensures answer { toldAnswer result.answer ≡ form_of (toldPart answer) }
+    requires { Countable (told_part answer) table.old told.now }
+    ensures answer { told_answer result.answer ≡ form_of (told_part answer) }
     ensures course { (result.course.position ≡ position) × (result.course.tally ≡ tally) }
-    ensures table { table.new ≡ countedBy (toldPart answer) table.old told.now }
+    ensures table { table.new ≡ counted_by (told_part answer) table.old told.now }
 {
     let course = Course { position, tally };
     match answer {
@@ -109,7 +109,7 @@ pub fn hear(
     table: &mut [u64],
     bytes: &[u8],
 ) -> Heard
-    requires { Open c matrix.old rights.old table.old × (length bytes.now ≤ partMost) }
+    requires { Open c matrix.old rights.old table.old × (length bytes.now ≤ part_most) }
     ensures { Leads c matrix.old rights.old table.old bytes.now result matrix.new rights.new table.new }
 {
     let mut told = told_room();
@@ -124,7 +124,7 @@ pub fn hear(
 
 // The listing of the bytes handed over, where the file is over.
 pub fn put_text(c: Course, matrix: &[i64], rights: &[i64], table: &[u64], room: &mut [u8]) -> usize
-    requires { Open c matrix.now rights.now table.now × (length matrix.now ≡ arcSumsMost) × (length rights.now ≡ parametersMost) }
+    requires { Open c matrix.now rights.now table.now × (length matrix.now ≡ arc_sums_most) × (length rights.now ≡ parameters_most) }
     ensures { Texts c matrix.now rights.now table.now room.old room.new result }
 {
     let p = c.position;
@@ -156,7 +156,7 @@ pub fn put_end(
     table: &[u64],
     room: &mut [u8],
 ) -> usize
-    requires { Ended answer c matrix.now rights.now table.now × (length matrix.now ≡ arcSumsMost) × (length rights.now ≡ parametersMost) }
+    requires { Ended answer c matrix.now rights.now table.now × (length matrix.now ≡ arc_sums_most) × (length rights.now ≡ parameters_most) }
     ensures { EndTexts answer c matrix.now rights.now table.now room.old room.new result }
 {
     match answer {

@@ -1,7 +1,7 @@
 // Inner to the listing: the table of what records were answered, kept as they are taken, and the lines of the refusals.
 ghost use Rattle.std.specs.Prelude.{◌≡◌, ◌+◌, ◌<◌, ◌^◌, length, get_or, set};
 ghost use Rattle.decimal.specs.Laid.{laid};
-ghost use Rattle.list_lines.specs.Lines.{tallyLine, tallyLines};
+ghost use Rattle.list_lines.specs.Lines.{tally_line, tally_lines};
 ghost use Rattle.list_tallies.specs.Tables.{counted, CountsFit};
 
 // A table has a place for each answer that a record can have: 0, accepted, and the refusals from 1 to 19. list_lines/specs/Lines.antt has the number
@@ -42,7 +42,7 @@ pub fn tally(table: &[u64], k: u8) -> u64
 }
 
 fn put_tally(room: &mut [u8], at: usize, table: &[u64], k: u8) -> usize
-    ensures { (room.new, result) ≡ laid room.old at (tallyLine table.now k) }
+    ensures { (room.new, result) ≡ laid room.old at (tally_line table.now k) }
 {
     let n = tally(table, k);
     if n == 0 {
@@ -54,7 +54,7 @@ fn put_tally(room: &mut [u8], at: usize, table: &[u64], k: u8) -> usize
 
 // A line for each refusal number from 1 to 19 that a record has.
 pub fn put_tallies(room: &mut [u8], start: usize, table: &[u64]) -> usize
-    ensures { (room.new, result) ≡ laid room.old start (tallyLines table.now 19 1) }
+    ensures { (room.new, result) ≡ laid room.old start (tally_lines table.now 19 1) }
 {
     let mut at = start;
     let mut k: u8 = 1;

@@ -7,93 +7,93 @@ use native.Mathlib.Omega.{arith}
 use lib.ListN.{length}
 use Rattle.num_whole.specs.Tests.{less, same}
 use Rattle.num_whole.specs.Answer.{Judged, good, bad}
-use Rattle.num_whole.proofs.Cases.{yes, no, is_same, not_same, is-less, not-less}
+use Rattle.num_whole.proofs.Cases.{yes, no, is_same, not_same, is_less, not_less}
 use Rattle.byte_words.specs.Words.{lay}
 use Rattle.refusal.specs.Number.{number_of}
 use Rattle.refusal.specs.First.{when}
-use Rattle.refusal.proofs.Firsts.{when_true, when_false, first-pass, first-stop, first_one}
+use Rattle.refusal.proofs.Firsts.{when_true, when_false, first_pass, first_stop, first_one}
 use Rattle.refusal.specs.declared.Refusal.{Refusal}
-use Rattle.byte_section.proofs.Walk.{not-bad}
-use Rattle.byte_section.proofs.Writing.{left-old, left-new}
+use Rattle.byte_section.proofs.Walk.{not_bad}
+use Rattle.byte_section.proofs.Writing.{left_old, left_new}
 use Rattle.norm_system.specs.System.{System}
-use Rattle.norm_read.specs.Normal.{Normal, readNormal, shownNormal, toldNormalRead}
-use Rattle.byte_section.specs.Told.{toldAnswer}
+use Rattle.norm_read.specs.Normal.{Normal, read_normal, shown_normal, told_normal_read}
+use Rattle.byte_section.specs.Told.{told_answer}
 use Rattle.norm_read.specs.declared.NormalRead.{NormalRead}
 use Rattle.byte_section.specs.declared.ReadAnswer.TheVariants.{Refused}
-use Rattle.merge_laws.specs.Merge.{mergeNumber}
-use Rattle.merge.specs.Files.{Merging, wrote, inFile, refusing, mergedBytes, pairNumber, pairAnswer, pairLeft, fromFile, mergeAnswer, mergeLeft}
-use Rattle.merge_put.specs.Parts.{normalIn, systemInFile, AsRead}
-use Rattle.byte_section.proofs.Walk.{by-judged}
+use Rattle.merge_laws.specs.Merge.{merge_number}
+use Rattle.merge.specs.Files.{Merging, wrote, in_file, refusing, merged_bytes, pair_number, pair_answer, pair_left, from_file, merge_answer, merge_left}
+use Rattle.merge_put.specs.Parts.{normal_in, system_in_file, AsRead}
+use Rattle.byte_section.proofs.Walk.{by_judged}
 
 -- ---- two systems
 module _ (x y : System) where
-  module _ (room k : ℕ) (e : mergeNumber x y ≡ k) where
-    stops : (k ≡ 0 → ⊥) → pairNumber x y room ≡ k
-    unfolding pairNumber
-    stops h = first-stop _ _ (λ z. h (sym e ∙ z)) ∙ e
+  module _ (room k : ℕ) (e : merge_number x y ≡ k) where
+    stops : (k ≡ 0 → ⊥) → pair_number x y room ≡ k
+    unfolding pair_number
+    stops h = first_stop _ _ (λ z. h (sym e ∙ z)) ∙ e
 
-    passes : k ≡ 0 → pairNumber x y room ≡ when 20 (less room (length (mergedBytes x y)))
-    unfolding pairNumber
-    passes h = first-pass _ _ (e ∙ h) ∙ first_one _
+    passes : k ≡ 0 → pair_number x y room ≡ when 20 (less room (length (merged_bytes x y)))
+    unfolding pair_number
+    passes h = first_pass _ _ (e ∙ h) ∙ first_one _
 
   -- nothing is written, and the room is as it was
-  refused-by : (out : List ℕ) (k : ℕ) → pairNumber x y (length out) ≡ k → (k ≡ 0 → ⊥) → (refusing k ≡ pairAnswer x y (length out)) × (out ≡ pairLeft x y out)
-  unfolding pairAnswer pairLeft pairNumber
-  refused-by out k e h = (
+  refused_by : (out : List ℕ) (k : ℕ) → pair_number x y (length out) ≡ k → (k ≡ 0 → ⊥) → (refusing k ≡ pair_answer x y (length out)) × (out ≡ pair_left x y out)
+  unfolding pair_answer pair_left pair_number
+  refused_by out k e h = (
     no _ _ _ (not_same _ 0 (λ z. h (sym e ∙ z))) (ap refusing (sym e)),
-    left-old (mergeNumber x y) (mergedBytes x y) out (λ z. h (sym e ∙ z)),
+    left_old (merge_number x y) (merged_bytes x y) out (λ z. h (sym e ∙ z)),
   )
 
-  pub pair-refused : (out : List ℕ) (k : ℕ) → mergeNumber x y ≡ k → (k ≡ 0 → ⊥) → (refusing k ≡ pairAnswer x y (length out)) × (out ≡ pairLeft x y out)
-  pair-refused out k e h = refused-by out k (stops (length out) k e h) h
+  pub pair_refused : (out : List ℕ) (k : ℕ) → merge_number x y ≡ k → (k ≡ 0 → ⊥) → (refusing k ≡ pair_answer x y (length out)) × (out ≡ pair_left x y out)
+  pair_refused out k e h = refused_by out k (stops (length out) k e h) h
 
-  module _ (accepted : mergeNumber x y ≡ 0) (out : List ℕ) where
-    pub pair-short : length out < length (mergedBytes x y) → (refusing 20 ≡ pairAnswer x y (length out)) × (out ≡ pairLeft x y out)
-    pair-short h =
-        refused-by out 20 (passes (length out) 0 accepted refl ∙ when_true 20 _ (is-less (length out) (length (mergedBytes x y)) h)) (λ z. wrong z)
+  module _ (accepted : merge_number x y ≡ 0) (out : List ℕ) where
+    pub pair_short : length out < length (merged_bytes x y) → (refusing 20 ≡ pair_answer x y (length out)) × (out ≡ pair_left x y out)
+    pair_short h =
+        refused_by out 20 (passes (length out) 0 accepted refl ∙ when_true 20 _ (is_less (length out) (length (merged_bytes x y)) h)) (λ z. wrong z)
       where
         wrong : ◌≡◌ {A = ℕ} 20 0 → ⊥
         wrong z = omega arith
 
-    pub pair-written : (n : ℕ) (left : List ℕ) → length (mergedBytes x y) ≤ length out → n ≡ length (mergedBytes x y) → left ≡ lay out 0 (mergedBytes x y)
-        → (wrote n ≡ pairAnswer x y (length out)) × (left ≡ pairLeft x y out)
-    unfolding pairAnswer pairLeft pairNumber
-    pair-written n left h e f =
-        let z : pairNumber x y (length out) ≡ 0 = passes (length out) 0 accepted refl ∙ when_false 20 _ (not-less (length out) (length (mergedBytes x y)) h) in
-        (yes _ _ _ (is_same _ 0 z) (ap wrote e), f ∙ left-new (mergeNumber x y) (mergedBytes x y) out z)
+    pub pair_written : (n : ℕ) (left : List ℕ) → length (merged_bytes x y) ≤ length out → n ≡ length (merged_bytes x y) → left ≡ lay out 0 (merged_bytes x y)
+        → (wrote n ≡ pair_answer x y (length out)) × (left ≡ pair_left x y out)
+    unfolding pair_answer pair_left pair_number
+    pair_written n left h e f =
+        let z : pair_number x y (length out) ≡ 0 = passes (length out) 0 accepted refl ∙ when_false 20 _ (not_less (length out) (length (merged_bytes x y)) h) in
+        (yes _ _ _ (is_same _ 0 z) (ap wrote e), f ∙ left_new (merge_number x y) (merged_bytes x y) out z)
 
 -- ---- two files
 -- what the reader's refusal says
-pub read-bad : (s : List ℕ) (r : NormalRead) (why : Refusal) (place : ℕ) → toldNormalRead r ≡ shownNormal (readNormal s) → r.answer ≡ Refused why place
-    → readNormal s ≡ bad (number_of why) place
-read-bad s r why place t e =
-    let told : bad (number_of why) place ≡ (shownNormal (readNormal s)).verdict = sym (ap toldAnswer e) ∙ ap (λ d. d.verdict) t in
-    by-judged (readNormal s)
-    (λ x h. absurd (not-bad (sym (told ∙ ap (λ j. (shownNormal j).verdict) h))))
-    (λ number at h. h ∙ sym (same (told ∙ ap (λ j. (shownNormal j).verdict) h)))
+pub read_bad : (s : List ℕ) (r : NormalRead) (why : Refusal) (place : ℕ) → told_normal_read r ≡ shown_normal (read_normal s) → r.answer ≡ Refused why place
+    → read_normal s ≡ bad (number_of why) place
+read_bad s r why place t e =
+    let told : bad (number_of why) place ≡ (shown_normal (read_normal s)).verdict = sym (ap told_answer e) ∙ ap (λ d. d.verdict) t in
+    by_judged (read_normal s)
+    (λ x h. absurd (not_bad (sym (told ∙ ap (λ j. (shown_normal j).verdict) h))))
+    (λ number at h. h ∙ sym (same (told ∙ ap (λ j. (shown_normal j).verdict) h)))
   where
     same : {n p m q : ℕ} → ◌≡◌ {A = Judged (Unit {0})} (bad n p) (bad m q) → ◌≡◌ {A = Judged Normal} (bad n p) (bad m q)
     same e = cc
 
 module _ (a b : List ℕ) where
-  pub first-bad : (number place : ℕ) (out : List ℕ) → readNormal a ≡ bad number place
-      → (inFile 1 number place ≡ mergeAnswer a b (length out)) × (out ≡ mergeLeft a b out)
-  unfolding mergeAnswer mergeLeft fromFile
-  first-bad number place out e = (rw e, rw e)
+  pub first_bad : (number place : ℕ) (out : List ℕ) → read_normal a ≡ bad number place
+      → (in_file 1 number place ≡ merge_answer a b (length out)) × (out ≡ merge_left a b out)
+  unfolding merge_answer merge_left from_file
+  first_bad number place out e = (rw e, rw e)
 
-  pub second-bad : (x : Normal) (number place : ℕ) (out : List ℕ) → readNormal a ≡ good x → readNormal b ≡ bad number place
-      → (inFile 2 number place ≡ mergeAnswer a b (length out)) × (out ≡ mergeLeft a b out)
-  unfolding mergeAnswer mergeLeft fromFile
-  second-bad x number place out e f = (rw (e, f), rw (e, f))
+  pub second_bad : (x : Normal) (number place : ℕ) (out : List ℕ) → read_normal a ≡ good x → read_normal b ≡ bad number place
+      → (in_file 2 number place ≡ merge_answer a b (length out)) × (out ≡ merge_left a b out)
+  unfolding merge_answer merge_left from_file
+  second_bad x number place out e f = (rw (e, f), rw (e, f))
 
-  pub both-good : (out : List ℕ) → readNormal a ≡ good (normalIn a) → readNormal b ≡ good (normalIn b)
-      → (pairAnswer (systemInFile a) (systemInFile b) (length out) ≡ mergeAnswer a b (length out)) × (pairLeft (systemInFile a) (systemInFile b) out ≡ mergeLeft a b out)
-  unfolding mergeAnswer mergeLeft fromFile systemInFile
-  both-good out e f = (rw (e, f), rw (e, f))
+  pub both_good : (out : List ℕ) → read_normal a ≡ good (normal_in a) → read_normal b ≡ good (normal_in b)
+      → (pair_answer (system_in_file a) (system_in_file b) (length out) ≡ merge_answer a b (length out)) × (pair_left (system_in_file a) (system_in_file b) out ≡ merge_left a b out)
+  unfolding merge_answer merge_left from_file system_in_file
+  both_good out e f = (rw (e, f), rw (e, f))
 
-  pub both-taken : (x y : NormalRead) (out left : List ℕ) (told : Merging) → AsRead a x → AsRead b y
-      → (told ≡ pairAnswer (systemInFile a) (systemInFile b) (length out)) × (left ≡ pairLeft (systemInFile a) (systemInFile b) out)
-      → (told ≡ mergeAnswer a b (length out)) × (left ≡ mergeLeft a b out)
-  both-taken x y out left told t u e =
-      let same = both-good out t.is u.is in
+  pub both_taken : (x y : NormalRead) (out left : List ℕ) (told : Merging) → AsRead a x → AsRead b y
+      → (told ≡ pair_answer (system_in_file a) (system_in_file b) (length out)) × (left ≡ pair_left (system_in_file a) (system_in_file b) out)
+      → (told ≡ merge_answer a b (length out)) × (left ≡ merge_left a b out)
+  both_taken x y out left told t u e =
+      let same = both_good out t.is u.is in
       (e.0 ∙ same.0, e.1 ∙ same.1)

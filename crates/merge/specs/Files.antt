@@ -5,56 +5,56 @@ use Rattle.std.specs.Prelude.{List, ℕ, length}
 use Rattle.num_whole.specs.Tests.{same, pick}
 use Rattle.num_whole.specs.Answer.{Judged, good, bad}
 use Rattle.refusal.specs.Number.{number_of}
-use Rattle.byte_section.specs.Writing.{writingNumber, writtenIn}
+use Rattle.byte_section.specs.Writing.{writing_number, written_in}
 use Rattle.norm_system.specs.System.{System}
-use Rattle.norm_kinds.specs.Bytes.{normalBytes}
-use Rattle.norm_read.specs.Normal.{Normal, readNormal}
-use Rattle.merge_laws.specs.Merge.{mergedOf, mergeNumber}
+use Rattle.norm_kinds.specs.Bytes.{normal_bytes}
+use Rattle.norm_read.specs.Normal.{Normal, read_normal}
+use Rattle.merge_laws.specs.Merge.{merged_of, merge_number}
 use Rattle.merge.specs.declared.MergeAnswer.{MergeAnswer}
 use Rattle.merge.specs.declared.MergeAnswer.TheVariants as Answers
 
 -- the length of the file that was written; a file that is refused (the first or the second), its number and place; or 20 to 24
 pub data Merging : Type 0 where
   wrote : ℕ → Merging
-  inFile : ℕ → ℕ → ℕ → Merging
+  in_file : ℕ → ℕ → ℕ → Merging
   refusing : ℕ → Merging
 
 -- ---- two systems that were read
 -- the bytes of the merged file
-unfoldable pub mergedBytes : System → System → List ℕ
-mergedBytes x y = normalBytes (mergedOf x y)
+unfoldable pub merged_bytes : System → System → List ℕ
+merged_bytes x y = normal_bytes (merged_of x y)
 
 -- 21 to 24, then 20 for a room that is shorter
-unfoldable pub pairNumber : System → System → ℕ → ℕ
-pairNumber x y room = writingNumber (mergeNumber x y) (mergedBytes x y) room
+unfoldable pub pair_number : System → System → ℕ → ℕ
+pair_number x y room = writing_number (merge_number x y) (merged_bytes x y) room
 
-unfoldable pub pairAnswer : System → System → ℕ → Merging
-pairAnswer x y room = pick (same (pairNumber x y room) 0) (wrote (length (mergedBytes x y))) (refusing (pairNumber x y room))
+unfoldable pub pair_answer : System → System → ℕ → Merging
+pair_answer x y room = pick (same (pair_number x y room) 0) (wrote (length (merged_bytes x y))) (refusing (pair_number x y room))
 
-unfoldable pub pairLeft : System → System → List ℕ → List ℕ
-pairLeft x y out = writtenIn (mergeNumber x y) (mergedBytes x y) out
+unfoldable pub pair_left : System → System → List ℕ → List ℕ
+pair_left x y out = written_in (merge_number x y) (merged_bytes x y) out
 
 -- ---- two files
 -- what follows from the system that a file holds, or from its refusal
-unfoldable pub fromFile : {A : Type 0} → Judged Normal → (ℕ → ℕ → A) → (System → A) → A
-fromFile (good x) refused f = f x.holds
-fromFile (bad number place) refused f = refused number place
+unfoldable pub from_file : {A : Type 0} → Judged Normal → (ℕ → ℕ → A) → (System → A) → A
+from_file (good x) refused f = f x.holds
+from_file (bad number place) refused f = refused number place
 
-unfoldable pub mergeAnswer : List ℕ → List ℕ → ℕ → Merging
-mergeAnswer a b room =
-    fromFile (readNormal a) (inFile 1) λ x.
-    fromFile (readNormal b) (inFile 2) λ y.
-    pairAnswer x y room
+unfoldable pub merge_answer : List ℕ → List ℕ → ℕ → Merging
+merge_answer a b room =
+    from_file (read_normal a) (in_file 1) λ x.
+    from_file (read_normal b) (in_file 2) λ y.
+    pair_answer x y room
 
-unfoldable pub mergeLeft : List ℕ → List ℕ → List ℕ → List ℕ
-mergeLeft a b out =
-    fromFile (readNormal a) (λ number place. out) λ x.
-    fromFile (readNormal b) (λ number place. out) λ y.
-    pairLeft x y out
+unfoldable pub merge_left : List ℕ → List ℕ → List ℕ → List ℕ
+merge_left a b out =
+    from_file (read_normal a) (λ number place. out) λ x.
+    from_file (read_normal b) (λ number place. out) λ y.
+    pair_left x y out
 
 -- ---- what the answer says
-abbrev pub toldMerge : MergeAnswer → Merging
-toldMerge (Answers.Is n) = wrote n
-toldMerge (Answers.First r place) = inFile 1 (number_of r) place
-toldMerge (Answers.Second r place) = inFile 2 (number_of r) place
-toldMerge (Answers.Refused r) = refusing (number_of r)
+abbrev pub told_merge : MergeAnswer → Merging
+told_merge (Answers.Is n) = wrote n
+told_merge (Answers.First r place) = in_file 1 (number_of r) place
+told_merge (Answers.Second r place) = in_file 2 (number_of r) place
+told_merge (Answers.Refused r) = refusing (number_of r)

@@ -2,8 +2,8 @@
 -- What the code's answer on two systems that were read comes to: what is answered, and what is left of the room.
 use Rattle.std.specs.Prelude.{◌≡◌, List, ℕ, length}
 use Rattle.norm_system.specs.System.{System}
-use Rattle.merge.specs.Files.{pairAnswer, pairLeft, toldMerge}
+use Rattle.merge.specs.Files.{pair_answer, pair_left, told_merge}
 use Rattle.merge.specs.declared.MergeAnswer.{MergeAnswer}
 
 abbrev pub Merges : MergeAnswer → System → System → List ℕ → List ℕ → Type 0
-Merges r x y out left = (toldMerge r ≡ pairAnswer x y (length out)) × (left ≡ pairLeft x y out)
+Merges r x y out left = (told_merge r ≡ pair_answer x y (length out)) × (left ≡ pair_left x y out)

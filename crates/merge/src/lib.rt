@@ -1,9 +1,9 @@
 // Two normal files of either form merged: the bytes of the merged file, in the old form, into lent room, or the first refusal, which changes nothing.
 ghost use Rattle.std.specs.Prelude.{◌≡◌, ◌≤◌, length};
-ghost use Rattle.num_limits.specs.Capacities.{labelsMost};
-ghost use Rattle.merge_laws.specs.Merge.{mergeNumber};
-ghost use Rattle.merge_put.specs.Parts.{systemInFile, AsRead, Joined, ArcsFit};
-ghost use Rattle.merge.specs.Files.{mergeAnswer, mergeLeft, toldMerge};
+ghost use Rattle.num_limits.specs.Capacities.{labels_most};
+ghost use Rattle.merge_laws.specs.Merge.{merge_number};
+ghost use Rattle.merge_put.specs.Parts.{system_in_file, AsRead, Joined, ArcsFit};
+ghost use Rattle.merge.specs.Files.{merge_answer, merge_left, told_merge};
 ghost use Rattle.merge.specs.Pairs.{Merges};
 
 use byte_section::ReadAnswer;
@@ -34,8 +34,8 @@ fn merge_room(
 ) -> MergeAnswer
     requires as_read { AsRead a.now x × AsRead b.now y }
     requires arcs_fit { ArcsFit a.now b.now m × Joined a.now b.now n left.now right.now }
-    requires b_value { (mergeNumber (systemInFile a.now) (systemInFile b.now) ≡ 0) × (n ≤ labelsMost) }
-    ensures { Merges result (systemInFile a.now) (systemInFile b.now) out.old out.new }
+    requires b_value { (merge_number (system_in_file a.now) (system_in_file b.now) ≡ 0) × (n ≤ labels_most) }
+    ensures { Merges result (system_in_file a.now) (system_in_file b.now) out.old out.new }
 {
     let length = norm_room::needed(m, n);
     if out.len() < length {
@@ -59,8 +59,8 @@ fn merge_agreed(
 ) -> MergeAnswer
     requires as_read { AsRead a.now x × AsRead b.now y }
     requires arcs_fit { ArcsFit a.now b.now m × Joined a.now b.now n left.now right.now }
-    requires n_le_labels_most { n ≤ labelsMost }
-    ensures { Merges result (systemInFile a.now) (systemInFile b.now) out.old out.new }
+    requires n_le_labels_most { n ≤ labels_most }
+    ensures { Merges result (system_in_file a.now) (system_in_file b.now) out.old out.new }
 {
     let begin = 8 + 4 * x.arcs;
     let start = 8 + 4 * y.arcs;
@@ -91,7 +91,7 @@ fn merge_labels(
     out: &mut [u8],
 ) -> MergeAnswer
     requires { AsRead a.now x × AsRead b.now y × ArcsFit a.now b.now m }
-    ensures { Merges result (systemInFile a.now) (systemInFile b.now) out.old out.new }
+    ensures { Merges result (system_in_file a.now) (system_in_file b.now) out.old out.new }
 {
     let mut left: [usize; 1000] = [0; 1000];
     let mut right: [usize; 1000] = [0; 1000];
@@ -105,7 +105,7 @@ fn merge_labels(
 // Two files that were read: 21, 22, else what follows.
 fn merge_read(a: &[u8], x: NormalRead, b: &[u8], y: NormalRead, out: &mut [u8]) -> MergeAnswer
     requires { AsRead a.now x × AsRead b.now y }
-    ensures { Merges result (systemInFile a.now) (systemInFile b.now) out.old out.new }
+    ensures { Merges result (system_in_file a.now) (system_in_file b.now) out.old out.new }
 {
     let m = merge_put::count_arcs(a, x, b, y);
     if m < x.arcs + y.arcs {
@@ -120,7 +120,7 @@ fn merge_read(a: &[u8], x: NormalRead, b: &[u8], y: NormalRead, out: &mut [u8]) 
 // A first file that was read, and the second.
 fn merge_second(a: &[u8], x: NormalRead, b: &[u8], out: &mut [u8]) -> MergeAnswer
     requires { AsRead a.now x }
-    ensures { (toldMerge result ≡ mergeAnswer a.now b.now (length out.old)) × (out.new ≡ mergeLeft a.now b.now out.old) }
+    ensures { (told_merge result ≡ merge_answer a.now b.now (length out.old)) × (out.new ≡ merge_left a.now b.now out.old) }
 {
     let y = norm_read::read(b);
     let answer = y.answer;
@@ -132,7 +132,7 @@ fn merge_second(a: &[u8], x: NormalRead, b: &[u8], out: &mut [u8]) -> MergeAnswe
 
 // The first file is read, then the second; then 21 to 24, then 20; then the merged file is written.
 pub fn merge(first: &[u8], second: &[u8], out: &mut [u8]) -> MergeAnswer
-    ensures { (toldMerge result ≡ mergeAnswer first.now second.now (length out.old)) × (out.new ≡ mergeLeft first.now second.now out.old) }
+    ensures { (told_merge result ≡ merge_answer first.now second.now (length out.old)) × (out.new ≡ merge_left first.now second.now out.old) }
 {
     let x = norm_read::read(first);
     let answer = x.answer;

@@ -3,22 +3,22 @@
 use Rattle.std.specs.Prelude.{List, ℕ, ◌+◌, ◌*◌, ◌^◌, ◌≤◌, ◌<◌, length, get_or}
 use Rattle.num_whole.specs.Tests.{less, pick}
 use Rattle.norm_system.specs.declared.NormalLabel.{NormalLabel}
-use Rattle.norm_kinds.specs.Kinds.{normalLabelAt}
+use Rattle.norm_kinds.specs.Kinds.{normal_label_at}
 
 -- a number of two lists united, by its places in them: of the first where it is within it
-unfoldable pub numberOfTwo : List ℕ → List ℕ → ℕ → ℕ → ℕ
-numberOfTwo xs ys p q = pick (less p (length xs)) (get_or xs p 0) (get_or ys q 0)
+unfoldable pub number_of_two : List ℕ → List ℕ → ℕ → ℕ → ℕ
+number_of_two xs ys p q = pick (less p (length xs)) (get_or xs p 0) (get_or ys q 0)
 
 -- the ith, whose places are the ith of two lists
 unfoldable pub number_at : List ℕ → List ℕ → List ℕ → List ℕ → ℕ → ℕ
-number_at xs left ys right i = numberOfTwo xs ys (get_or left i 0) (get_or right i 0)
+number_at xs left ys right i = number_of_two xs ys (get_or left i 0) (get_or right i 0)
 
 -- a label of two files united, by its places in them: of the first where it is within its n labels
-unfoldable pub labelOfTwo : List ℕ → ℕ → ℕ → List ℕ → ℕ → ℕ → ℕ → NormalLabel
-labelOfTwo a start n b begin p q = pick (less p n) (normalLabelAt a (start + 24 * p)) (normalLabelAt b (begin + 24 * q))
+unfoldable pub label_of_two : List ℕ → ℕ → ℕ → List ℕ → ℕ → ℕ → ℕ → NormalLabel
+label_of_two a start n b begin p q = pick (less p n) (normal_label_at a (start + 24 * p)) (normal_label_at b (begin + 24 * q))
 
-unfoldable pub labelOfUnion : List ℕ → ℕ → ℕ → List ℕ → List ℕ → ℕ → List ℕ → ℕ → NormalLabel
-labelOfUnion a start n left b begin right i = labelOfTwo a start n b begin (get_or left i 0) (get_or right i 0)
+unfoldable pub label_of_union : List ℕ → ℕ → ℕ → List ℕ → List ℕ → ℕ → List ℕ → ℕ → NormalLabel
+label_of_union a start n left b begin right i = label_of_two a start n b begin (get_or left i 0) (get_or right i 0)
 
 -- each of the first places past the end of the first list is within the second
 abbrev pub Somewhere : ℕ → List ℕ → ℕ → List ℕ → ℕ → Type 0

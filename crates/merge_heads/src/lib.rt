@@ -2,15 +2,15 @@
 ghost use Rattle.std.specs.Prelude.{◌≡◌, ◌+◌, ◌*◌, ◌^◌, ◌≤◌, ◌<◌, length};
 ghost use Rattle.byte_words.specs.Words.{lay};
 ghost use Rattle.byte_section.specs.Section.{encoded};
-ghost use Rattle.norm_kinds.specs.Kinds.{arcNumberBytes, normalLabelBytes};
+ghost use Rattle.norm_kinds.specs.Kinds.{arc_number_bytes, normal_label_bytes};
 ghost use Rattle.norm_labels.specs.Table.{rows_of};
-ghost use Rattle.merge_heads.specs.Heads.{numberOfTwo, number_at, labelOfTwo, labelOfUnion, Somewhere, Short};
+ghost use Rattle.merge_heads.specs.Heads.{number_of_two, number_at, label_of_two, label_of_union, Somewhere, Short};
 
 use norm_system::NormalLabel;
 
 fn number_in(xs: &[u64], ys: &[u64], p: usize, q: usize) -> u64
     requires { length xs.now ≤ p → q < length ys.now }
-    ensures { result ≡ numberOfTwo xs.now ys.now p q }
+    ensures { result ≡ number_of_two xs.now ys.now p q }
 {
     if p < xs.len() {
         return xs[p];
@@ -21,7 +21,7 @@ fn number_in(xs: &[u64], ys: &[u64], p: usize, q: usize) -> u64
 // An arc as the four bytes of a file.
 fn put_arc(out: &mut [u8], at: usize, a: u64)
     requires { a < 256 ^ 4 }
-    ensures { out.new ≡ lay out.old at (arcNumberBytes a) }
+    ensures { out.new ≡ lay out.old at (arc_number_bytes a) }
 {
     byte_write::write_u32(out, at, a as u32);
 }
@@ -39,7 +39,7 @@ pub fn put_arcs(
     requires short { Short xs.now × Short ys.now }
     requires count_in_bounds { (count ≤ length left.now) × (count ≤ length right.now) × (at + 4 * count ≤ length out.old) }
     requires somewhere { Somewhere (length xs.now) left.now (length ys.now) right.now count }
-    ensures { out.new ≡ lay out.old at (encoded arcNumberBytes (rows_of (number_at xs.now left.now ys.now right.now) 0 count)) }
+    ensures { out.new ≡ lay out.old at (encoded arc_number_bytes (rows_of (number_at xs.now left.now ys.now right.now) 0 count)) }
 {
     let mut k = at;
     let mut i: usize = 0;
@@ -62,7 +62,7 @@ fn label_in(
     q: usize,
 ) -> NormalLabel
     requires { (start + 24 * n ≤ length a.now) × (begin + 24 * m ≤ length b.now) × (n ≤ p → q < m) }
-    ensures { result ≡ labelOfTwo a.now start n b.now begin p q }
+    ensures { result ≡ label_of_two a.now start n b.now begin p q }
 {
     if p < n {
         return merge_read::label_at(a, start + 24 * p);
@@ -73,7 +73,7 @@ fn label_in(
 // A label's six fields, one after the other.
 fn put_fields(out: &mut [u8], at: usize, l: NormalLabel)
     requires { at + 24 ≤ length out.old }
-    ensures { out.new ≡ lay out.old at (normalLabelBytes l) }
+    ensures { out.new ≡ lay out.old at (normal_label_bytes l) }
 {
     byte_write::write_u16(out, at, l.kind);
     byte_write::write_u16(out, at + 2, l.index);
@@ -86,7 +86,7 @@ fn put_fields(out: &mut [u8], at: usize, l: NormalLabel)
 // The same into a part of just the label's bytes, so that nothing is tested.
 fn put_label(out: &mut [u8], at: usize, l: NormalLabel)
     requires { at + 24 ≤ length out.old }
-    ensures { out.new ≡ lay out.old at (normalLabelBytes l) }
+    ensures { out.new ≡ lay out.old at (normal_label_bytes l) }
 {
     let e = at + 24;
     put_fields(&mut out[at..e], 0, l);
@@ -109,7 +109,7 @@ pub fn put_labels(
     requires n_in_bounds { (start + 24 * n ≤ length a.now) × (begin + 24 * m ≤ length b.now) }
     requires count_in_bounds { (count ≤ length left.now) × (count ≤ length right.now) × (at + 24 * count ≤ length out.old) }
     requires somewhere { Somewhere n left.now m right.now count }
-    ensures { out.new ≡ lay out.old at (encoded normalLabelBytes (rows_of (labelOfUnion a.now start n left.now b.now begin right.now) 0 count)) }
+    ensures { out.new ≡ lay out.old at (encoded normal_label_bytes (rows_of (label_of_union a.now start n left.now b.now begin right.now) 0 count)) }
 {
     let mut k = at;
     let mut i: usize = 0;

@@ -11,8 +11,8 @@ ahead xs ys i j = map (λ k. i + seat (drop i xs) k) (union (drop i xs) (drop j 
 
 -- a step takes one number of the union: its place in each list, and how many of each are then done
 pub record Stepped (xs ys : List ℕ) (i j : ℕ) (t : Turn) : Type 0 where
-  pub takes-left : ahead xs ys i j ≡ t.left ∷ ahead xs ys t.i t.j
-  pub takes-right : ahead ys xs j i ≡ t.right ∷ ahead ys xs t.j t.i
-  pub within-left : t.i ≤ length xs
-  pub within-right : t.j ≤ length ys
+  pub takes_left : ahead xs ys i j ≡ t.left ∷ ahead xs ys t.i t.j
+  pub takes_right : ahead ys xs j i ≡ t.right ∷ ahead ys xs t.j t.i
+  pub within_left : t.i ≤ length xs
+  pub within_right : t.j ≤ length ys
   pub on : suc (i + j) ≤ t.i + t.j

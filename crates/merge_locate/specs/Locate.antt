@@ -9,10 +9,10 @@ unfoldable pub stored_at : List ℕ → ℕ → ℕ → ℕ → Bool
 stored_at s labels p q = both (less q p) (not (same (word 4 s (labels + 24 * q + 12)) 2))
 
 -- the ith united one, where a list has the places of all in the file
-unfoldable pub storedFor : List ℕ → ℕ → ℕ → List ℕ → ℕ → Bool
-storedFor s labels p left i = stored_at s labels p (get_or left i 0)
+unfoldable pub stored_for : List ℕ → ℕ → ℕ → List ℕ → ℕ → Bool
+stored_for s labels p left i = stored_at s labels p (get_or left i 0)
 
 -- the numbers from i on, of m, at which a test holds
-unfoldable pub numbersWhere : (ℕ → Bool) → ℕ → ℕ → List ℕ
-numbersWhere f i zero = []
-numbersWhere f i (suc m) = pick (f i) (i ∷ numbersWhere f (suc i) m) (numbersWhere f (suc i) m)
+unfoldable pub numbers_where : (ℕ → Bool) → ℕ → ℕ → List ℕ
+numbers_where f i zero = []
+numbers_where f i (suc m) = pick (f i) (i ∷ numbers_where f (suc i) m) (numbers_where f (suc i) m)

@@ -1,7 +1,7 @@
 // Inner to `merge_put`: where the labels whose sums one file stores stand among united ones, found once.
 ghost use Rattle.std.specs.Prelude.{◌≡◌, ◌+◌, ◌*◌, ◌≤◌, length};
 ghost use Rattle.byte_words.specs.Words.{lay};
-ghost use Rattle.merge_locate.specs.Locate.{stored_at, storedFor, numbersWhere};
+ghost use Rattle.merge_locate.specs.Locate.{stored_at, stored_for, numbers_where};
 
 // Whether the qth of the p labels that stand at a place has its sums stored; one past them has not.
 fn is_stored(s: &[u8], labels: usize, p: usize, q: usize) -> bool
@@ -18,7 +18,7 @@ fn is_stored(s: &[u8], labels: usize, p: usize, q: usize) -> bool
 // the file lacks it; which they are goes into the lent room.
 pub fn locate(s: &[u8], labels: usize, p: usize, left: &[usize], n: usize, t: &mut [usize]) -> usize
     requires { (labels + 24 * p ≤ length s.now) × (n ≤ length left.now) × (n ≤ length t.old) }
-    ensures { (result ≡ length (numbersWhere (storedFor s.now labels p left.now) 0 n)) × (t.new ≡ lay t.old 0 (numbersWhere (storedFor s.now labels p left.now) 0 n)) }
+    ensures { (result ≡ length (numbers_where (stored_for s.now labels p left.now) 0 n)) × (t.new ≡ lay t.old 0 (numbers_where (stored_for s.now labels p left.now) 0 n)) }
 {
     let mut m: usize = 0;
     let mut i: usize = 0;

@@ -1,14 +1,14 @@
 // Inner to `merge`: the arcs and labels of two normal files that were read, joined, and the merged file written into lent bytes.
 ghost use Rattle.std.specs.Prelude.{◌≡◌, ◌+◌, ◌*◌, ◌≤◌, length};
-ghost use Rattle.num_limits.specs.Capacities.{labelsMost};
+ghost use Rattle.num_limits.specs.Capacities.{labels_most};
 ghost use Rattle.byte_words.specs.Words.{lay};
 ghost use Rattle.byte_section.specs.Section.{encoded};
 ghost use Rattle.num_packed.specs.Triangle.{tri};
-ghost use Rattle.norm_kinds.specs.Kinds.{arcNumberBytes};
-ghost use Rattle.norm_kinds.specs.Bytes.{normalBytes};
+ghost use Rattle.norm_kinds.specs.Kinds.{arc_number_bytes};
+ghost use Rattle.norm_kinds.specs.Bytes.{normal_bytes};
 ghost use Rattle.merge_join.specs.Join.{union};
-ghost use Rattle.merge_laws.specs.Merge.{mergedOf, mergeNumber};
-ghost use Rattle.merge_put.specs.Parts.{systemInFile, AsRead, Joined, Located, ArcsFit, headBytes, middleBytes, lastBytes};
+ghost use Rattle.merge_laws.specs.Merge.{merged_of, merge_number};
+ghost use Rattle.merge_put.specs.Parts.{system_in_file, AsRead, Joined, Located, ArcsFit, head_bytes, middle_bytes, last_bytes};
 
 use norm_add::Column;
 use norm_read::NormalRead;
@@ -19,7 +19,7 @@ use num_limits::{ARCS_MOST, LABELS_MOST};
 // How many arcs the two list, each counted once.
 pub fn count_arcs(a: &[u8], x: NormalRead, b: &[u8], y: NormalRead) -> usize
     requires { AsRead a.now x × AsRead b.now y }
-    ensures { result ≡ length (union (systemInFile a.now).arcs (systemInFile b.now).arcs) }
+    ensures { result ≡ length (union (system_in_file a.now).arcs (system_in_file b.now).arcs) }
 {
     let mut us: [u64; ARCS_MOST] = [0; ARCS_MOST];
     let mut vs: [u64; ARCS_MOST] = [0; ARCS_MOST];
@@ -35,8 +35,8 @@ pub fn count_arcs(a: &[u8], x: NormalRead, b: &[u8], y: NormalRead) -> usize
 // The arcs that the two list, united, from a place of the room on.
 fn put_arcs(out: &mut [u8], at: usize, a: &[u8], x: NormalRead, b: &[u8], y: NormalRead)
     requires as_read { AsRead a.now x × AsRead b.now y }
-    requires b_in_bounds { at + 4 * length (union (systemInFile a.now).arcs (systemInFile b.now).arcs) ≤ length out.old }
-    ensures { out.new ≡ lay out.old at (encoded arcNumberBytes (union (systemInFile a.now).arcs (systemInFile b.now).arcs)) }
+    requires b_in_bounds { at + 4 * length (union (system_in_file a.now).arcs (system_in_file b.now).arcs) ≤ length out.old }
+    ensures { out.new ≡ lay out.old at (encoded arc_number_bytes (union (system_in_file a.now).arcs (system_in_file b.now).arcs)) }
 {
     let mut us: [u64; ARCS_MOST] = [0; ARCS_MOST];
     let mut vs: [u64; ARCS_MOST] = [0; ARCS_MOST];
@@ -88,8 +88,8 @@ fn put_heads(
 )
     requires as_read { AsRead a.now x × AsRead b.now y }
     requires arcs_fit { ArcsFit a.now b.now m × Joined a.now b.now n left.now right.now }
-    requires n_le_labels_most { (n ≤ labelsMost) × (8 + 4 * m + 24 * n ≤ length out.old) }
-    ensures { out.new ≡ lay out.old 0 (headBytes (mergedOf (systemInFile a.now) (systemInFile b.now))) }
+    requires n_le_labels_most { (n ≤ labels_most) × (8 + 4 * m + 24 * n ≤ length out.old) }
+    ensures { out.new ≡ lay out.old 0 (head_bytes (merged_of (system_in_file a.now) (system_in_file b.now))) }
 {
     byte_write::write_u32(out, 0, m as u32);
     put_arcs(out, 4, a, x, b, y);
@@ -124,9 +124,9 @@ fn put_added(
     n: usize,
 )
     requires as_read { AsRead a.now x × AsRead b.now y }
-    requires b_value { (mergeNumber (systemInFile a.now) (systemInFile b.now) ≡ 0) × Located a.now b.now n ta.now tb.now }
+    requires b_value { (merge_number (system_in_file a.now) (system_in_file b.now) ≡ 0) × Located a.now b.now n ta.now tb.now }
     requires n_in_bounds { at + 8 + 8 * tri n + 8 * n ≤ length out.old }
-    ensures { out.new ≡ lay out.old at (middleBytes (mergedOf (systemInFile a.now) (systemInFile b.now))) }
+    ensures { out.new ≡ lay out.old at (middle_bytes (merged_of (system_in_file a.now) (system_in_file b.now))) }
 {
     let mut room: [i64; LABELS_MOST] = [0; LABELS_MOST];
     let sums = num_packed::triangle(n);
@@ -158,9 +158,9 @@ fn put_middle(
     n: usize,
 )
     requires as_read { AsRead a.now x × AsRead b.now y }
-    requires b_value { (mergeNumber (systemInFile a.now) (systemInFile b.now) ≡ 0) × Joined a.now b.now n left.now right.now }
+    requires b_value { (merge_number (system_in_file a.now) (system_in_file b.now) ≡ 0) × Joined a.now b.now n left.now right.now }
     requires n_in_bounds { at + 8 + 8 * tri n + 8 * n ≤ length out.old }
-    ensures { out.new ≡ lay out.old at (middleBytes (mergedOf (systemInFile a.now) (systemInFile b.now))) }
+    ensures { out.new ≡ lay out.old at (middle_bytes (merged_of (system_in_file a.now) (system_in_file b.now))) }
 {
     let mut ta: [usize; LABELS_MOST] = [0; LABELS_MOST];
     let mut tb: [usize; LABELS_MOST] = [0; LABELS_MOST];
@@ -173,7 +173,7 @@ fn put_middle(
 fn put_last(out: &mut [u8], at: usize, a: &[u8], x: NormalRead, b: &[u8], y: NormalRead)
     requires as_read { AsRead a.now x × AsRead b.now y }
     requires at_in_bounds { at + 20 ≤ length out.old }
-    ensures { out.new ≡ lay out.old at (lastBytes (mergedOf (systemInFile a.now) (systemInFile b.now))) }
+    ensures { out.new ≡ lay out.old at (last_bytes (merged_of (system_in_file a.now) (system_in_file b.now))) }
 {
     let accepted = byte_read::read_u64(a, x.totals) + byte_read::read_u64(b, y.totals);
     let square = byte_read::read_u64(a, x.totals + 8) + byte_read::read_u64(b, y.totals + 8);
@@ -196,8 +196,8 @@ pub fn put_file(
 )
     requires as_read { AsRead a.now x × AsRead b.now y }
     requires arcs_fit { ArcsFit a.now b.now m × Joined a.now b.now n left.now right.now }
-    requires b_value { (mergeNumber (systemInFile a.now) (systemInFile b.now) ≡ 0) × (n ≤ labelsMost) × (36 + 4 * m + 32 * n + 8 * tri n ≤ length out.old) }
-    ensures { out.new ≡ lay out.old 0 (normalBytes (mergedOf (systemInFile a.now) (systemInFile b.now))) }
+    requires b_value { (merge_number (system_in_file a.now) (system_in_file b.now) ≡ 0) × (n ≤ labels_most) × (36 + 4 * m + 32 * n + 8 * tri n ≤ length out.old) }
+    ensures { out.new ≡ lay out.old 0 (normal_bytes (merged_of (system_in_file a.now) (system_in_file b.now))) }
 {
     put_heads(out, a, x, b, y, m, left, right, n);
     let middle = 8 + 4 * m + 24 * n;

@@ -2,9 +2,9 @@
 ghost use Rattle.std.specs.Prelude.{◌≡◌, ◌+◌, ◌*◌, ◌≤◌, length};
 ghost use Rattle.num_whole.specs.Tests.{below};
 ghost use Rattle.byte_words.specs.Words.{lay};
-ghost use Rattle.norm_kinds.specs.Kinds.{normalLabelAt};
+ghost use Rattle.norm_kinds.specs.Kinds.{normal_label_at};
 ghost use Rattle.merge_join.specs.Alike.{alike};
-ghost use Rattle.merge_read.specs.Read.{keysAt, agreeIn, agreeAt};
+ghost use Rattle.merge_read.specs.Read.{keys_at, agree_in, agree_at};
 
 use norm_system::NormalLabel;
 
@@ -13,7 +13,7 @@ use norm_system::NormalLabel;
 // The label at a place, read from a part of just its bytes, so that nothing is tested.
 pub fn label_at(s: &[u8], at: usize) -> NormalLabel
     requires { at + 24 ≤ length s.now }
-    ensures { result ≡ normalLabelAt s.now at }
+    ensures { result ≡ normal_label_at s.now at }
 {
     let e = at + 24;
     norm_kinds::load_label(&s[at..e], 0)
@@ -22,7 +22,7 @@ pub fn label_at(s: &[u8], at: usize) -> NormalLabel
 // The keys of the n labels that stand at a place, into lent room.
 pub fn load_keys(s: &[u8], start: usize, n: usize, keys: &mut [u64])
     requires { (start + 24 * n ≤ length s.now) × (n ≤ length keys.old) }
-    ensures { keys.new ≡ lay keys.old 0 (keysAt s.now start n) }
+    ensures { keys.new ≡ lay keys.old 0 (keys_at s.now start n) }
 {
     let mut at = start;
     let mut i: usize = 0;
@@ -39,7 +39,7 @@ pub fn load_keys(s: &[u8], start: usize, n: usize, keys: &mut [u64])
 
 fn alike_at(a: &[u8], p: usize, b: &[u8], q: usize) -> bool
     requires { (p + 24 ≤ length a.now) × (q + 24 ≤ length b.now) }
-    ensures { result ≡ alike (normalLabelAt a.now p) (normalLabelAt b.now q) }
+    ensures { result ≡ alike (normal_label_at a.now p) (normal_label_at b.now q) }
 {
     if byte_read::read_u32(a, p + 8) == byte_read::read_u32(b, q + 8) {
         return byte_signed::read_i64(a, p + 16) == byte_signed::read_i64(b, q + 16);
@@ -58,7 +58,7 @@ fn agree_in(
     q: usize,
 ) -> bool
     requires { (start + 24 * n ≤ length a.now) × (begin + 24 * m ≤ length b.now) }
-    ensures { result ≡ agreeIn a.now start n b.now begin m p q }
+    ensures { result ≡ agree_in a.now start n b.now begin m p q }
 {
     if p < n {
         if q < m {
@@ -83,7 +83,7 @@ pub fn agree(
 ) -> bool
     requires n_in_bounds { (start + 24 * n ≤ length a.now) × (begin + 24 * m ≤ length b.now) }
     requires count_in_bounds { (count ≤ length left.now) × (count ≤ length right.now) }
-    ensures { result ≡ below (agreeAt a.now start n left.now b.now begin m right.now) count }
+    ensures { result ≡ below (agree_at a.now start n left.now b.now begin m right.now) count }
 {
     let mut i: usize = 0;
     while i < count {

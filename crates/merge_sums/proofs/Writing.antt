@@ -8,24 +8,24 @@ use native.Mathlib.Omega.{arith}
 use lib.IntN.{ℤ}
 use lib.ListN.{length}
 use mir.Syntax.{w64}
-use Rattle.byte_words.specs.Words.{lay, signedBytes}
-use Rattle.byte_words.proofs.Words.{length-bytesOf, lay-append}
+use Rattle.byte_words.specs.Words.{lay, signed_bytes}
+use Rattle.byte_words.proofs.Words.{length_bytes_of, lay_append}
 use Rattle.byte_section.specs.Section.{encoded}
-use Rattle.byte_section.proofs.Trips.{length-encoded}
-use Rattle.norm_labels.specs.Table.{rows_of, columnsOf}
-use Rattle.norm_labels.proofs.Tables.{length-rows}
+use Rattle.byte_section.proofs.Trips.{length_encoded}
+use Rattle.norm_labels.specs.Table.{rows_of, columns_of}
+use Rattle.norm_labels.proofs.Tables.{length_rows}
 
-abbrev pub bytesIn : List ℤ → List ℕ
-bytesIn l = encoded (signedBytes w64) l
+abbrev pub bytes_in : List ℤ → List ℕ
+bytes_in l = encoded (signed_bytes w64) l
 
-pub length-sum : (z : ℤ) → length (signedBytes w64 z) ≡ 8
-unfolding signedBytes
-length-sum z = length-bytesOf 8 _
+pub length_sum : (z : ℤ) → length (signed_bytes w64 z) ≡ 8
+unfolding signed_bytes
+length_sum z = length_bytes_of 8 _
 
-encoded-append : {A : Type 0} (bytes : A → List ℕ) (l m : List A) → encoded bytes (l ++ m) ≡ encoded bytes l ++ encoded bytes m
+encoded_append : {A : Type 0} (bytes : A → List ℕ) (l m : List A) → encoded bytes (l ++ m) ≡ encoded bytes l ++ encoded bytes m
 unfolding encoded
-encoded-append bytes [] m = refl
-encoded-append bytes (a ∷ l) m = ap (λ t. bytes a ++ t) (encoded-append bytes l m) ∙ sym (append_assoc (bytes a) (encoded bytes l) (encoded bytes m))
+encoded_append bytes [] m = refl
+encoded_append bytes (a ∷ l) m = ap (λ t. bytes a ++ t) (encoded_append bytes l m) ∙ sym (append_assoc (bytes a) (encoded bytes l) (encoded bytes m))
 
 -- a loop that writes things of one size, one after the other
 module _ {A : Type 0} (bytes : A → List ℕ) (size : ℕ) (long : (a : A) → length (bytes a) ≡ size) (out : List ℕ) (at : ℕ) (f : ℕ → A) (n i : ℕ) where
@@ -33,26 +33,26 @@ module _ {A : Type 0} (bytes : A → List ℕ) (size : ℕ) (long : (a : A) → 
   unfolding rows_of encoded lay
   rows_end h = let e : n - i ≡ 0 = omega arith in rw e
 
-  pub rows-turn : i < n → lay out at (encoded bytes (rows_of f i (n - i))) ≡ lay (lay out at (bytes (f i))) (at + size) (encoded bytes (rows_of f (i + 1) (n - (i + 1))))
+  pub rows_turn : i < n → lay out at (encoded bytes (rows_of f i (n - i))) ≡ lay (lay out at (bytes (f i))) (at + size) (encoded bytes (rows_of f (i + 1) (n - (i + 1))))
   unfolding rows_of encoded
-  rows-turn h =
+  rows_turn h =
       let e : n - i ≡ suc (n - suc i) = omega arith in
-      rw (e, add-one) (sym (lay-append _ _ _ _ _ (simp long)))
+      rw (e, add-one) (sym (lay_append _ _ _ _ _ (simp long)))
 
 module _ (out : List ℕ) (at : ℕ) where
   module _ (f : ℕ → ℕ → ℤ) (n j : ℕ) where
-    pub columns-end : n ≤ j → lay out at (bytesIn (columnsOf f j (n - j))) ≡ out
-    unfolding columnsOf encoded lay
-    columns-end h = let e : n - j ≡ 0 = omega arith in rw e
+    pub columns_end : n ≤ j → lay out at (bytes_in (columns_of f j (n - j))) ≡ out
+    unfolding columns_of encoded lay
+    columns_end h = let e : n - j ≡ 0 = omega arith in rw e
 
-    long : length (bytesIn (rows_of (λ i. f i j) 0 (j + 1))) ≡ 8 * (j + 1)
-    long = length-encoded (signedBytes w64) 8 length-sum (rows_of (λ i. f i j) 0 (j + 1)) ∙ omega (arith, length-rows (λ i. f i j) 0 (j + 1))
+    long : length (bytes_in (rows_of (λ i. f i j) 0 (j + 1))) ≡ 8 * (j + 1)
+    long = length_encoded (signed_bytes w64) 8 length_sum (rows_of (λ i. f i j) 0 (j + 1)) ∙ omega (arith, length_rows (λ i. f i j) 0 (j + 1))
 
-    pub columns-turn : j < n → lay out at (bytesIn (columnsOf f j (n - j)))
-        ≡ lay (lay out at (bytesIn (rows_of (λ i. f i j) 0 (j + 1)))) (at + 8 * (j + 1)) (bytesIn (columnsOf f (j + 1) (n - (j + 1))))
-    unfolding columnsOf
-    columns-turn h =
+    pub columns_turn : j < n → lay out at (bytes_in (columns_of f j (n - j)))
+        ≡ lay (lay out at (bytes_in (rows_of (λ i. f i j) 0 (j + 1)))) (at + 8 * (j + 1)) (bytes_in (columns_of f (j + 1) (n - (j + 1))))
+    unfolding columns_of
+    columns_turn h =
         let e : n - j ≡ suc (n - (j + 1)) = omega arith in
         rw (e, ← add-one)
-        (ap (lay out at) (encoded-append (signedBytes w64) (rows_of (λ i. f i j) 0 (j + 1)) (columnsOf f (j + 1) (n - (j + 1))))
-        ∙ sym (lay-append out at (at + 8 * (j + 1)) (bytesIn (rows_of (λ i. f i j) 0 (j + 1))) (bytesIn (columnsOf f (j + 1) (n - (j + 1)))) (ap (λ m. at + m) (sym long))))
+        (ap (lay out at) (encoded_append (signed_bytes w64) (rows_of (λ i. f i j) 0 (j + 1)) (columns_of f (j + 1) (n - (j + 1))))
+        ∙ sym (lay_append out at (at + 8 * (j + 1)) (bytes_in (rows_of (λ i. f i j) 0 (j + 1))) (bytes_in (columns_of f (j + 1) (n - (j + 1)))) (ap (λ m. at + m) (sym long))))

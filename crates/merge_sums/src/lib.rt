@@ -1,14 +1,14 @@
 // Inner to `merge_put`: the sums of two normal files, added column by column in lent room and written into lent bytes.
 ghost use Rattle.std.specs.Prelude.{◌≡◌, true, ℕ, ◌+◌, ◌*◌, ◌≤◌, ◌<◌, length, get_or};
 ghost use Rattle.std.specs.Int.{w64};
-ghost use Rattle.num_limits.specs.Capacities.{labelsMost};
-ghost use Rattle.byte_words.specs.Words.{lay, signedBytes};
+ghost use Rattle.num_limits.specs.Capacities.{labels_most};
+ghost use Rattle.byte_words.specs.Words.{lay, signed_bytes};
 ghost use Rattle.byte_section.specs.Section.{encoded};
 ghost use Rattle.num_packed.specs.Triangle.{tri};
 ghost use Rattle.norm_labels.specs.Seats.{ascending};
-ghost use Rattle.norm_labels.specs.Table.{rows_of, columnsOf};
+ghost use Rattle.norm_labels.specs.Table.{rows_of, columns_of};
 ghost use Rattle.norm_add.specs.Add.{Passed};
-ghost use Rattle.merge_sums.specs.Both.{bothPlaces, bothSides, AddableBoth};
+ghost use Rattle.merge_sums.specs.Both.{both_places, both_sides, AddableBoth};
 
 use norm_add::Column;
 
@@ -34,10 +34,10 @@ fn join_column(
     d: ColumnsDone,
 ) -> ColumnsDone
     requires j_value { (j + 1 ≡ length col.old) × Passed ta.now j d.left × Passed tb.now j d.right }
-    requires ta_value { (ascending ta.now ≡ true) × (length ta.now ≤ labelsMost) × (start + 8 * tri (length ta.now) ≤ length a.now) }
-    requires tb_value { (ascending tb.now ≡ true) × (length tb.now ≤ labelsMost) × (begin + 8 * tri (length tb.now) ≤ length b.now) }
+    requires ta_value { (ascending ta.now ≡ true) × (length ta.now ≤ labels_most) × (start + 8 * tri (length ta.now) ≤ length a.now) }
+    requires tb_value { (ascending tb.now ≡ true) × (length tb.now ≤ labels_most) × (begin + 8 * tri (length tb.now) ≤ length b.now) }
     requires addable_both { AddableBoth a.now start (tri (length ta.now)) b.now begin (tri (length tb.now)) }
-    ensures { (col.new ≡ rows_of (λ i. bothPlaces a.now start ta.now b.now begin tb.now i j) 0 (j + 1)) × Passed ta.now (j + 1) result.left × Passed tb.now (j + 1) result.right }
+    ensures { (col.new ≡ rows_of (λ i. both_places a.now start ta.now b.now begin tb.now i j) 0 (j + 1)) × Passed ta.now (j + 1) result.left × Passed tb.now (j + 1) result.right }
 {
     let n = col.len();
     take_room::clear(col, n);
@@ -51,7 +51,7 @@ fn join_sides(col: &mut [i64], a: &[u8], c: Column, ta: &[usize], b: &[u8], d: C
     requires rows_in_bounds { (c.base + 8 * c.rows ≤ length a.now) × (c.rows ≤ length ta.now) × (ascending ta.now ≡ true) × ((i : ℕ) → i < c.rows → get_or ta.now i 0 < length col.old) }
     requires rows_in_bounds_2 { (d.base + 8 * d.rows ≤ length b.now) × (d.rows ≤ length tb.now) × (ascending tb.now ≡ true) × ((i : ℕ) → i < d.rows → get_or tb.now i 0 < length col.old) }
     requires addable_both { AddableBoth a.now c.base c.rows b.now d.base d.rows }
-    ensures { col.new ≡ rows_of (bothSides a.now c ta.now b.now d tb.now) 0 (length col.old) }
+    ensures { col.new ≡ rows_of (both_sides a.now c ta.now b.now d tb.now) 0 (length col.old) }
 {
     let n = col.len();
     take_room::clear(col, n);
@@ -64,7 +64,7 @@ fn join_sides(col: &mut [i64], a: &[u8], c: Column, ta: &[usize], b: &[u8], d: C
 // A sum put where its bytes have room, into a part of just them, so that nothing is tested.
 fn put_sum(out: &mut [u8], at: usize, x: i64)
     requires { at + 8 ≤ length out.old }
-    ensures { out.new ≡ lay out.old at (signedBytes w64 x) }
+    ensures { out.new ≡ lay out.old at (signed_bytes w64 x) }
 {
     let e = at + 8;
     byte_signed::write_i64(&mut out[at..e], 0, x);
@@ -73,7 +73,7 @@ fn put_sum(out: &mut [u8], at: usize, x: i64)
 // Sums one after the other.
 fn put_column(out: &mut [u8], at: usize, col: &[i64])
     requires { at + 8 * length col.now ≤ length out.old }
-    ensures { out.new ≡ lay out.old at (encoded (signedBytes w64) col.now) }
+    ensures { out.new ≡ lay out.old at (encoded (signed_bytes w64) col.now) }
 {
     let mut k = at;
     let mut i: usize = 0;
@@ -98,11 +98,11 @@ pub fn put_columns(
     tb: &[usize],
     room: &mut [i64],
 )
-    requires count_le_labels_most { (count ≤ labelsMost) × (count ≤ length room.old) × (at + 8 * tri count ≤ length out.old) }
-    requires ta_value { (ascending ta.now ≡ true) × (length ta.now ≤ labelsMost) × (start + 8 * tri (length ta.now) ≤ length a.now) }
-    requires tb_value { (ascending tb.now ≡ true) × (length tb.now ≤ labelsMost) × (begin + 8 * tri (length tb.now) ≤ length b.now) }
+    requires count_le_labels_most { (count ≤ labels_most) × (count ≤ length room.old) × (at + 8 * tri count ≤ length out.old) }
+    requires ta_value { (ascending ta.now ≡ true) × (length ta.now ≤ labels_most) × (start + 8 * tri (length ta.now) ≤ length a.now) }
+    requires tb_value { (ascending tb.now ≡ true) × (length tb.now ≤ labels_most) × (begin + 8 * tri (length tb.now) ≤ length b.now) }
     requires addable_both { AddableBoth a.now start (tri (length ta.now)) b.now begin (tri (length tb.now)) }
-    ensures { out.new ≡ lay out.old at (encoded (signedBytes w64) (columnsOf (bothPlaces a.now start ta.now b.now begin tb.now) 0 count)) }
+    ensures { out.new ≡ lay out.old at (encoded (signed_bytes w64) (columns_of (both_places a.now start ta.now b.now begin tb.now) 0 count)) }
 {
     let mut d = ColumnsDone { left: 0, right: 0 };
     let mut k = at;
@@ -132,7 +132,7 @@ pub fn put_sides(
     requires rows_in_bounds { (c.base + 8 * c.rows ≤ length a.now) × (c.rows ≤ length ta.now) × (ascending ta.now ≡ true) × ((i : ℕ) → i < c.rows → get_or ta.now i 0 < length room.old) }
     requires rows_in_bounds_2 { (d.base + 8 * d.rows ≤ length b.now) × (d.rows ≤ length tb.now) × (ascending tb.now ≡ true) × ((i : ℕ) → i < d.rows → get_or tb.now i 0 < length room.old) }
     requires addable_both { AddableBoth a.now c.base c.rows b.now d.base d.rows }
-    ensures { out.new ≡ lay out.old at (encoded (signedBytes w64) (rows_of (bothSides a.now c ta.now b.now d tb.now) 0 (length room.old))) }
+    ensures { out.new ≡ lay out.old at (encoded (signed_bytes w64) (rows_of (both_sides a.now c ta.now b.now d tb.now) 0 (length room.old))) }
 {
     join_sides(room, a, c, ta, b, d, tb);
     put_column(out, at, room);

@@ -12,39 +12,39 @@ use lib.Seq.{ext_get_or, get_or-set_same, get_or-set_other}
 use mir.Syntax.{w64}
 use Rattle.num_whole.specs.Tests.{less, same}
 use Rattle.num_whole.specs.Sums.{plus, Within}
-use Rattle.num_whole.proofs.Cases.{is-less, less-true, less-false, same_true, same_false, by_cases}
-use Rattle.num_whole.proofs.Adding.{length-plus, getD-plus}
-use Rattle.byte_words.specs.Words.{signedWord}
+use Rattle.num_whole.proofs.Cases.{is_less, less_true, less_false, same_true, same_false, by_cases}
+use Rattle.num_whole.proofs.Adding.{length_plus, get_d_plus}
+use Rattle.byte_words.specs.Words.{signed_word}
 use Rattle.norm_system.specs.System.{has}
 use Rattle.norm_labels.specs.Seats.{ascending, seat}
-use Rattle.norm_labels.proofs.Seats.{seated, seat-at, seat-within}
+use Rattle.norm_labels.proofs.Seats.{seated, seat_at, seat_within}
 use Rattle.norm_labels.specs.Table.{rows_of}
-use Rattle.norm_add.specs.Add.{heldAt, onPlace}
+use Rattle.norm_add.specs.Add.{held_at, on_place}
 use Rattle.norm_add.specs.declared.Column.{Column}
 use Rattle.norm_labels.proofs.Tables.{rows_at}
-use Rattle.norm_add.proofs.Held.{held-there, held-past}
+use Rattle.norm_add.proofs.Held.{held_there, held_past}
 
 -- the first i of them
-abbrev pub upToRow : ℕ → ℕ → Column
-upToRow base i = record { base = base; rows = i }
+abbrev pub up_to_row : ℕ → ℕ → Column
+up_to_row base i = record { base = base; rows = i }
 
 -- after the first i
 abbrev pub Scattered : List ℕ → ℕ → List ℕ → List ℤ → List ℤ → ℕ → Type 0
-Scattered s base t part₀ part i = (k : ℕ) → k < length part₀ → get_or part k (pos 0) ≡ get_or part₀ k (pos 0) +ℤ heldAt s (upToRow base i) (seat t k)
+Scattered s base t part₀ part i = (k : ℕ) → k < length part₀ → get_or part k (pos 0) ≡ get_or part₀ k (pos 0) +ℤ held_at s (up_to_row base i) (seat t k)
 
 -- what is past row i is not heard of
-held_more : (s : List ℕ) (base i q : ℕ) → (q ≡ i → ⊥) → heldAt s (upToRow base i) q ≡ heldAt s (upToRow base (i + 1)) q
+held_more : (s : List ℕ) (base i q : ℕ) → (q ≡ i → ⊥) → held_at s (up_to_row base i) q ≡ held_at s (up_to_row base (i + 1)) q
 held_more s base i q off =
     by_cases (less q i)
-    (λ e. let h : q < i = less-true q i e in
-    sym (held-there s (upToRow base i) q h refl) ∙ held-there s (upToRow base (i + 1)) q (omega arith) refl)
-    (λ e. let h : i ≤ q = less-false q i e in
-    sym (held-past s (upToRow base i) q h) ∙ held-past s (upToRow base (i + 1)) q (omega arith))
+    (λ e. let h : q < i = less_true q i e in
+    sym (held_there s (up_to_row base i) q h refl) ∙ held_there s (up_to_row base (i + 1)) q (omega arith) refl)
+    (λ e. let h : i ≤ q = less_false q i e in
+    sym (held_past s (up_to_row base i) q h) ∙ held_past s (up_to_row base (i + 1)) q (omega arith))
 
 module _ (s : List ℕ) (base : ℕ) (t : List ℕ) (part₀ : List ℤ) where
-  pub scatter-starts : Scattered s base t part₀ part₀ 0
-  scatter-starts k h =
-      sym (ap (λ z. get_or part₀ k (pos 0) +ℤ z) (sym (held-past s (upToRow base 0) (seat t k) (omega arith))) ∙ +ℤ_idr (get_or part₀ k (pos 0)))
+  pub scatter_starts : Scattered s base t part₀ part₀ 0
+  scatter_starts k h =
+      sym (ap (λ z. get_or part₀ k (pos 0) +ℤ z) (sym (held_past s (up_to_row base 0) (seat t k) (omega arith))) ∙ +ℤ_idr (get_or part₀ k (pos 0)))
 
   module _ (up : ascending t ≡ true) (part : List ℤ) (i : ℕ) (long : length part ≡ length part₀) (inside : i < length t) (there : get_or t i 0 < length part₀)
       (d : Scattered s base t part₀ part i) where
@@ -52,15 +52,15 @@ module _ (s : List ℕ) (base : ℕ) (t : List ℕ) (part₀ : List ℤ) where
     untouched : get_or part (get_or t i 0) (pos 0) ≡ get_or part₀ (get_or t i 0) (pos 0)
     untouched =
         d (get_or t i 0) there
-        ∙ ap (λ q. get_or part₀ (get_or t i 0) (pos 0) +ℤ heldAt s (upToRow base i) q) (seat-at t up i inside)
-        ∙ ap (λ z. get_or part₀ (get_or t i 0) (pos 0) +ℤ z) (sym (held-past s (upToRow base i) i (omega arith)))
+        ∙ ap (λ q. get_or part₀ (get_or t i 0) (pos 0) +ℤ held_at s (up_to_row base i) q) (seat_at t up i inside)
+        ∙ ap (λ z. get_or part₀ (get_or t i 0) (pos 0) +ℤ z) (sym (held_past s (up_to_row base i) i (omega arith)))
         ∙ +ℤ_idr (get_or part₀ (get_or t i 0) (pos 0))
 
-    pub scatter-small : (m : ℕ) → Within m part₀ → nat_abs (get_or part (get_or t i 0) (pos 0)) ≤ m
-    scatter-small m w = subst (λ z. nat_abs z ≤ m) (sym untouched) (w (get_or t i 0))
+    pub scatter_small : (m : ℕ) → Within m part₀ → nat_abs (get_or part (get_or t i 0) (pos 0)) ≤ m
+    scatter_small m w = subst (λ z. nat_abs z ≤ m) (sym untouched) (w (get_or t i 0))
 
-    pub scatter-turn : (after : List ℤ) → after ≡ set part (get_or t i 0) (get_or part (get_or t i 0) (pos 0) +ℤ signedWord w64 s (base + 8 * i)) → Scattered s base t part₀ after (i + 1)
-    scatter-turn after e k h =
+    pub scatter_turn : (after : List ℤ) → after ≡ set part (get_or t i 0) (get_or part (get_or t i 0) (pos 0) +ℤ signed_word w64 s (base + 8 * i)) → Scattered s base t part₀ after (i + 1)
+    scatter_turn after e k h =
         by_cases (same (get_or t i 0) k)
         (λ a. here (same_true (get_or t i 0) k a))
         (λ a. let off : get_or t i 0 ≡ k → ⊥ = same_false (get_or t i 0) k a in
@@ -70,23 +70,23 @@ module _ (s : List ℕ) (base : ℕ) (t : List ℕ) (part₀ : List ℤ) where
         elsewhere : seat t k ≡ i → get_or t i 0 ≡ k
         elsewhere q =
             let l : seat t k < length t = omega arith in
-            let c : has k t ≡ true = sym (seat-within t k) ∙ is-less (seat t k) (length t) l in
+            let c : has k t ≡ true = sym (seat_within t k) ∙ is_less (seat t k) (length t) l in
             ap (λ n. get_or t n 0) (sym q) ∙ (seated t k c).is
 
-        here : get_or t i 0 ≡ k → get_or after k (pos 0) ≡ get_or part₀ k (pos 0) +ℤ heldAt s (upToRow base (i + 1)) (seat t k)
+        here : get_or t i 0 ≡ k → get_or after k (pos 0) ≡ get_or part₀ k (pos 0) +ℤ held_at s (up_to_row base (i + 1)) (seat t k)
         here a =
-            subst (λ n. get_or after n (pos 0) ≡ get_or part₀ n (pos 0) +ℤ heldAt s (upToRow base (i + 1)) (seat t n)) a
+            subst (λ n. get_or after n (pos 0) ≡ get_or part₀ n (pos 0) +ℤ held_at s (up_to_row base (i + 1)) (seat t n)) a
             (ap (λ l. get_or l (get_or t i 0) (pos 0)) e ∙ get_or-set_same part (get_or t i 0) _ (pos 0) (omega arith)
             ∙ ap₂ (λ u v. u +ℤ v) untouched
-            (held-there s (upToRow base (i + 1)) i (omega arith) refl ∙ ap (heldAt s (upToRow base (i + 1))) (sym (seat-at t up i inside))))
+            (held_there s (up_to_row base (i + 1)) i (omega arith) refl ∙ ap (held_at s (up_to_row base (i + 1))) (sym (seat_at t up i inside))))
 
-pub scatter-ends : (s : List ℕ) (c : Column) (t : List ℕ) (part₀ part : List ℤ) (i : ℕ) → i ≡ c.rows → length part ≡ length part₀ → Scattered s c.base t part₀ part i
-    → part ≡ plus part₀ (rows_of (onPlace s c t) 0 (length part₀))
-unfolding onPlace
-scatter-ends s c t part₀ part i e long d =
-    ext_get_or (pos 0) part (plus part₀ (rows_of (onPlace s c t) 0 (length part₀))) (long ∙ sym (length-plus part₀ _))
+pub scatter_ends : (s : List ℕ) (c : Column) (t : List ℕ) (part₀ part : List ℤ) (i : ℕ) → i ≡ c.rows → length part ≡ length part₀ → Scattered s c.base t part₀ part i
+    → part ≡ plus part₀ (rows_of (on_place s c t) 0 (length part₀))
+unfolding on_place
+scatter_ends s c t part₀ part i e long d =
+    ext_get_or (pos 0) part (plus part₀ (rows_of (on_place s c t) 0 (length part₀))) (long ∙ sym (length_plus part₀ _))
     (λ k h. let g : k < length part₀ = omega arith in
     d k g
     ∙ ap (λ z. get_or part₀ k (pos 0) +ℤ z)
-    (ap (λ n. heldAt s (upToRow c.base n) (seat t k)) e ∙ ap (λ n. heldAt s c (seat t n)) (sym (zero-add k)) ∙ sym (rows_at (λ k. heldAt s c (seat t k)) 0 (length part₀) k g))
-    ∙ sym (getD-plus part₀ (rows_of (λ k. heldAt s c (seat t k)) 0 (length part₀)) k g))
+    (ap (λ n. held_at s (up_to_row c.base n) (seat t k)) e ∙ ap (λ n. held_at s c (seat t n)) (sym (zero-add k)) ∙ sym (rows_at (λ k. held_at s c (seat t k)) 0 (length part₀) k g))
+    ∙ sym (get_d_plus part₀ (rows_of (λ k. held_at s c (seat t k)) 0 (length part₀)) k g))

@@ -1,11 +1,11 @@
 // Inner to merging: the sums of one normal file, added into a target at the places that the target has for their labels.
 ghost use Rattle.std.specs.Prelude.{◌≡◌, true, ℕ, ◌+◌, ◌*◌, ◌^◌, ◌≤◌, ◌<◌, pos, ◌+ℤ◌, nat_abs, length, get_or, set};
-ghost use Rattle.num_limits.specs.Capacities.{labelsMost};
+ghost use Rattle.num_limits.specs.Capacities.{labels_most};
 ghost use Rattle.num_whole.specs.Sums.{plus};
 ghost use Rattle.num_packed.specs.Triangle.{tri};
 ghost use Rattle.norm_labels.specs.Seats.{ascending};
 ghost use Rattle.norm_labels.specs.Table.{rows_of};
-ghost use Rattle.norm_add.specs.Add.{onPlace, onPlaces, Passed, Addable};
+ghost use Rattle.norm_add.specs.Add.{on_place, on_places, Passed, Addable};
 
 // Sums that stand one after the other in a file's bytes: where the first begins, and how many there are.
 #[derive(Drop)]
@@ -37,7 +37,7 @@ pub fn add_column(part: &mut [i64], s: &[u8], c: Column, t: &[usize])
     requires rows_in_bounds { (c.base + 8 * c.rows ≤ length s.now) × (c.rows ≤ length t.now) }
     requires t_value { (ascending t.now ≡ true) × ((i : ℕ) → i < c.rows → get_or t.now i 0 < length part.old) }
     requires addable { Addable s.now c.base c.rows part.old }
-    ensures { part.new ≡ plus part.old (rows_of (onPlace s.now c t.now) 0 (length part.old)) }
+    ensures { part.new ≡ plus part.old (rows_of (on_place s.now c t.now) 0 (length part.old)) }
 {
     let n = c.rows;
     let mut at = c.base;
@@ -55,9 +55,9 @@ pub fn add_column(part: &mut [i64], s: &[u8], c: Column, t: &[usize])
 // file's columns are then done.
 pub fn add_next(part: &mut [i64], s: &[u8], start: usize, t: &[usize], q: usize, j: usize) -> usize
     requires t_value { (ascending t.now ≡ true) × Passed t.now j q × (j + 1 ≡ length part.old) }
-    requires t_len_bound { (length t.now ≤ labelsMost) × (start + 8 * tri (length t.now) ≤ length s.now) }
+    requires t_len_bound { (length t.now ≤ labels_most) × (start + 8 * tri (length t.now) ≤ length s.now) }
     requires addable { Addable s.now start (tri (length t.now)) part.old }
-    ensures { (part.new ≡ plus part.old (rows_of (λ i. onPlaces s.now start t.now i j) 0 (j + 1))) × Passed t.now (j + 1) result }
+    ensures { (part.new ≡ plus part.old (rows_of (λ i. on_places s.now start t.now i j) 0 (j + 1))) × Passed t.now (j + 1) result }
 {
     if q < t.len() {
         if t[q] == j {

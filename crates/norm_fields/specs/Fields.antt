@@ -4,16 +4,16 @@ use Rattle.std.specs.Prelude.{ℕ, ◌+◌, ◌^◌, ◌<◌, List, [], Bool, po
 use Rattle.num_whole.specs.Tests.{up_to, both}
 use Rattle.norm_system.specs.System.{System}
 use Rattle.norm_system.specs.declared.NormalLabel.{NormalLabel}
-use Rattle.norm_room.specs.Room.{systemInRooms}
+use Rattle.norm_room.specs.Room.{system_in_rooms}
 
 -- a label without its estimate: no limit and no key looks at it
-unfoldable pub bareLabel : List ℕ → ℕ → NormalLabel
-bareLabel h k =
+unfoldable pub bare_label : List ℕ → ℕ → NormalLabel
+bare_label h k =
     record { kind = get_or h k 0; index = get_or h (k + 1) 0; arc = get_or h (k + 2) 0; weight = get_or h (k + 3) 0; estimate = pos 0 }
 
 -- the numbers of a label that the bytes of a file hold
-unfoldable pub isSmall : ℕ → ℕ → ℕ → ℕ → Bool
-isSmall kind index arc weight = both (up_to kind 65535) (both (up_to index 65535) (both (up_to arc 4294967295) (up_to weight 4294967295)))
+unfoldable pub is_small : ℕ → ℕ → ℕ → ℕ → Bool
+is_small kind index arc weight = both (up_to kind 65535) (both (up_to index 65535) (both (up_to arc 4294967295) (up_to weight 4294967295)))
 
 pub record SmallFields (h : List ℕ) (k : ℕ) : Type 0 where
   pub kind : get_or h k 0 < 256 ^ 2
@@ -22,5 +22,5 @@ pub record SmallFields (h : List ℕ) (k : ℕ) : Type 0 where
   pub weight : get_or h (k + 3) 0 < 256 ^ 4
 
 -- the arcs and labels that stand in the heads, with no sums: 4 and 5 look at none
-abbrev pub bareSystem : ℕ → ℕ → List ℕ → System
-bareSystem a p h = systemInRooms a p h [] []
+abbrev pub bare_system : ℕ → ℕ → List ℕ → System
+bare_system a p h = system_in_rooms a p h [] []

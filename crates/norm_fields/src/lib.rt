@@ -1,11 +1,11 @@
 // Inner to `norm_judge`: the arcs and labels of a system that stands in lent room, of any values, judged: 2, 4, 5.
 ghost use Rattle.std.specs.Prelude.{◌≡◌, true, ◌+◌, ◌*◌, ◌≤◌, length, take};
-ghost use Rattle.num_limits.specs.Capacities.{arcsMost, labelsMost};
+ghost use Rattle.num_limits.specs.Capacities.{arcs_most, labels_most};
 ghost use Rattle.num_whole.specs.Lists.{all, ascend};
-ghost use Rattle.norm_system.specs.System.{arcOk, normalLabelOk, key_of};
+ghost use Rattle.norm_system.specs.System.{arc_ok, normal_label_ok, key_of};
 ghost use Rattle.byte_words.specs.Stands.{stands};
-ghost use Rattle.norm_room.specs.Room.{headsLong, labelInHeads, countsFit, fieldsFit, ordersFit};
-ghost use Rattle.norm_fields.specs.Fields.{bareLabel, isSmall, SmallFields, bareSystem};
+ghost use Rattle.norm_room.specs.Room.{heads_long, label_in_heads, counts_fit, fields_fit, orders_fit};
+ghost use Rattle.norm_fields.specs.Fields.{bare_label, is_small, SmallFields, bare_system};
 
 use norm_system::NormalLabel;
 use num_limits::{ARCS_MOST, ARCS_U64, LABELS_U64};
@@ -13,7 +13,7 @@ use num_limits::{ARCS_MOST, ARCS_U64, LABELS_U64};
 // ---- 2
 
 pub fn counts_fit(arcs: usize, parameters: usize) -> bool
-    ensures { result ≡ countsFit arcs parameters }
+    ensures { result ≡ counts_fit arcs parameters }
 {
     if num_whole::within(1, arcs as u64, ARCS_U64) {
         num_whole::within(1, parameters as u64, LABELS_U64)
@@ -26,7 +26,7 @@ pub fn counts_fit(arcs: usize, parameters: usize) -> bool
 
 // Whether a number is an arc's; one that four bytes do not hold is none.
 fn arc_fits(a: u64) -> bool
-    ensures { result ≡ arcOk a }
+    ensures { result ≡ arc_ok a }
 {
     if a < 4294967296 {
         norm_system::arc_ok(a as u32)
@@ -37,7 +37,7 @@ fn arc_fits(a: u64) -> bool
 
 fn arcs_fit(heads: &[u64], n: usize) -> bool
     requires { n ≤ length heads.now }
-    ensures { result ≡ all arcOk (take n heads.now) }
+    ensures { result ≡ all arc_ok (take n heads.now) }
 {
     let mut i: usize = 0;
     while i < n {
@@ -52,8 +52,8 @@ fn arcs_fit(heads: &[u64], n: usize) -> bool
 
 // The n arcs as words of four bytes; slots past them are 0.
 fn arcs_of(heads: &[u64], n: usize) -> [u32; ARCS_MOST]
-    requires { (n ≤ arcsMost) × (n ≤ length heads.now) × (all arcOk (take n heads.now) ≡ true) }
-    ensures { (take n result ≡ take n heads.now) × (arcsMost ≡ length result) }
+    requires { (n ≤ arcs_most) × (n ≤ length heads.now) × (all arc_ok (take n heads.now) ≡ true) }
+    ensures { (take n result ≡ take n heads.now) × (arcs_most ≡ length result) }
 {
     let mut arcs: [u32; ARCS_MOST] = [0; ARCS_MOST];
     let mut i: usize = 0;
@@ -66,7 +66,7 @@ fn arcs_of(heads: &[u64], n: usize) -> [u32; ARCS_MOST]
 
 // Whether the bytes of a file hold these four numbers of a label.
 fn is_small(kind: u64, index: u64, arc: u64, weight: u64) -> bool
-    ensures { result ≡ isSmall kind index arc weight }
+    ensures { result ≡ is_small kind index arc weight }
 {
     if 65535 < kind {
         return false;
@@ -83,7 +83,7 @@ fn is_small(kind: u64, index: u64, arc: u64, weight: u64) -> bool
 // The label whose first number stands at k, without its estimate, which no test looks at.
 fn label_at(heads: &[u64], k: usize) -> NormalLabel
     requires { (k + 5 ≤ length heads.now) × SmallFields heads.now k }
-    ensures { result ≡ bareLabel heads.now k }
+    ensures { result ≡ bare_label heads.now k }
 {
     NormalLabel {
         kind: heads[k] as u16,
@@ -95,8 +95,8 @@ fn label_at(heads: &[u64], k: usize) -> NormalLabel
 }
 
 fn label_fits(heads: &[u64], k: usize, arcs: &[u32]) -> bool
-    requires { (k + 5 ≤ length heads.now) × (all arcOk arcs.now ≡ true) }
-    ensures { result ≡ normalLabelOk arcs.now (labelInHeads heads.now k) }
+    requires { (k + 5 ≤ length heads.now) × (all arc_ok arcs.now ≡ true) }
+    ensures { result ≡ normal_label_ok arcs.now (label_in_heads heads.now k) }
 {
     if is_small(heads[k], heads[k + 1], heads[k + 2], heads[k + 3]) {
         norm_system::label_ok(label_at(heads, k), arcs)
@@ -107,8 +107,8 @@ fn label_fits(heads: &[u64], k: usize, arcs: &[u32]) -> bool
 
 // The n labels, of which the first stands at `from`, in a file that lists these arcs.
 fn labels_fit(heads: &[u64], from: usize, n: usize, arcs: &[u32]) -> bool
-    requires { (n ≤ labelsMost) × (from + 5 * n ≤ length heads.now) × (all arcOk arcs.now ≡ true) }
-    ensures { result ≡ all (normalLabelOk arcs.now) (stands (labelInHeads heads.now) 5 n from) }
+    requires { (n ≤ labels_most) × (from + 5 * n ≤ length heads.now) × (all arc_ok arcs.now ≡ true) }
+    ensures { result ≡ all (normal_label_ok arcs.now) (stands (label_in_heads heads.now) 5 n from) }
 {
     let mut k = from;
     let mut i: usize = 0;
@@ -124,8 +124,8 @@ fn labels_fit(heads: &[u64], from: usize, n: usize, arcs: &[u32]) -> bool
 }
 
 pub fn fields_fit(arcs: usize, parameters: usize, heads: &[u64]) -> bool
-    requires { (arcs ≤ arcsMost) × (parameters ≤ labelsMost) × (headsLong arcs parameters ≤ length heads.now) }
-    ensures { result ≡ fieldsFit (bareSystem arcs parameters heads.now) }
+    requires { (arcs ≤ arcs_most) × (parameters ≤ labels_most) × (heads_long arcs parameters ≤ length heads.now) }
+    ensures { result ≡ fields_fit (bare_system arcs parameters heads.now) }
 {
     if arcs_fit(heads, arcs) {
         let listed = arcs_of(heads, arcs);
@@ -138,7 +138,7 @@ pub fn fields_fit(arcs: usize, parameters: usize, heads: &[u64]) -> bool
 // ---- 5
 
 fn arcs_ascend(heads: &[u64], n: usize) -> bool
-    requires { (n ≤ length heads.now) × (all arcOk (take n heads.now) ≡ true) }
+    requires { (n ≤ length heads.now) × (all arc_ok (take n heads.now) ≡ true) }
     ensures { result ≡ ascend (λ a. a) 0 (take n heads.now) }
 {
     let mut floor: u64 = 0;
@@ -156,8 +156,8 @@ fn arcs_ascend(heads: &[u64], n: usize) -> bool
 }
 
 fn labels_ascend(arcs: usize, n: usize, heads: &[u64]) -> bool
-    requires { (arcs ≤ arcsMost) × (n ≤ labelsMost) × (headsLong arcs n ≤ length heads.now) × (fieldsFit (bareSystem arcs n heads.now) ≡ true) }
-    ensures { result ≡ ascend key_of 0 (stands (labelInHeads heads.now) 5 n arcs) }
+    requires { (arcs ≤ arcs_most) × (n ≤ labels_most) × (heads_long arcs n ≤ length heads.now) × (fields_fit (bare_system arcs n heads.now) ≡ true) }
+    ensures { result ≡ ascend key_of 0 (stands (label_in_heads heads.now) 5 n arcs) }
 {
     let mut floor: u64 = 0;
     let mut k = arcs;
@@ -176,8 +176,8 @@ fn labels_ascend(arcs: usize, n: usize, heads: &[u64]) -> bool
 }
 
 pub fn orders_fit(arcs: usize, parameters: usize, heads: &[u64]) -> bool
-    requires { (arcs ≤ arcsMost) × (parameters ≤ labelsMost) × (headsLong arcs parameters ≤ length heads.now) × (fieldsFit (bareSystem arcs parameters heads.now) ≡ true) }
-    ensures { result ≡ ordersFit (bareSystem arcs parameters heads.now) }
+    requires { (arcs ≤ arcs_most) × (parameters ≤ labels_most) × (heads_long arcs parameters ≤ length heads.now) × (fields_fit (bare_system arcs parameters heads.now) ≡ true) }
+    ensures { result ≡ orders_fit (bare_system arcs parameters heads.now) }
 {
     if arcs_ascend(heads, arcs) {
         labels_ascend(arcs, parameters, heads)

@@ -15,132 +15,132 @@ use Rattle.num_whole.specs.Tests.{pick}
 use Rattle.num_whole.specs.Lists.{Each}
 use Rattle.byte_words.proofs.Words.{Bytes}
 use Rattle.num_packed.specs.Triangle.{tri}
-use Rattle.num_packed.proofs.Places.{tri-twice}
+use Rattle.num_packed.proofs.Places.{tri_twice}
 use Rattle.norm_system.specs.System.{System}
 use Rattle.norm_system.specs.declared.NormalLabel.{NormalLabel}
 use Rattle.norm_system.proofs.Sound.{SoundSystem}
-use Rattle.norm_labels.specs.Labels.{onLabels}
+use Rattle.norm_labels.specs.Labels.{on_labels}
 use Rattle.norm_labels.proofs.Values.{formed}
-use Rattle.norm_labels.proofs.On.{on-own}
-use Rattle.norm_kinds.specs.Kinds.{Fielded, storedOf}
-use Rattle.norm_kinds.specs.Bytes.{normalBytes, fileBytes}
-use Rattle.norm_kinds.proofs.Stored.{stored-few}
-use Rattle.norm_read.specs.Normal.{Normal, readNormal}
-use Rattle.norm_read.proofs.Sections.{accepted-normal}
-use Rattle.norm_read.proofs.Forth.{read-written}
-use Rattle.norm_read.proofs.Accepted.{accepted-sound, accepted-estimates}
-use Rattle.norm_read.proofs.Whole.{length-file, placedAs, file-read}
-use Rattle.norm_read.proofs.Back.{oldFields, old-stored, old-bytes, placed, written_read, old-written}
-use Rattle.norm_forms.specs.Forms.{formField, formFields, formStored, formBytes}
-use Rattle.norm_forms.proofs.Held.{own-form}
-use Rattle.norm_forms.proofs.Made.{made, made-sound, made_holds}
+use Rattle.norm_labels.proofs.On.{on_own}
+use Rattle.norm_kinds.specs.Kinds.{Fielded, stored_of}
+use Rattle.norm_kinds.specs.Bytes.{normal_bytes, file_bytes}
+use Rattle.norm_kinds.proofs.Stored.{stored_few}
+use Rattle.norm_read.specs.Normal.{Normal, read_normal}
+use Rattle.norm_read.proofs.Sections.{accepted_normal}
+use Rattle.norm_read.proofs.Forth.{read_written}
+use Rattle.norm_read.proofs.Accepted.{accepted_sound, accepted_estimates}
+use Rattle.norm_read.proofs.Whole.{length_file, placed_as, file_read}
+use Rattle.norm_read.proofs.Back.{old_fields, old_stored, old_bytes, placed, written_read, old_written}
+use Rattle.norm_forms.specs.Forms.{form_field, form_fields, form_stored, form_bytes}
+use Rattle.norm_forms.proofs.Held.{own_form}
+use Rattle.norm_forms.proofs.Made.{made, made_sound, made_holds}
 
 abbrev Estimate : NormalLabel → Type 0
 Estimate l = SFits w64 l.estimate
 
-each-fields : (P : NormalLabel → Type 0) (n : NormalLabel → ℕ) (l : List NormalLabel) → Each P l → Each {A = Fielded} (λ m. P m.label) (map (λ a. record { label = a; field = n a }) l)
-each-fields P n [] e = tt
-each-fields P n (a ∷ l) e = (e.0, each-fields P n l e.1)
+each_fields : (P : NormalLabel → Type 0) (n : NormalLabel → ℕ) (l : List NormalLabel) → Each P l → Each {A = Fielded} (λ m. P m.label) (map (λ a. record { label = a; field = n a }) l)
+each_fields P n [] e = tt
+each_fields P n (a ∷ l) e = (e.0, each_fields P n l e.1)
 
 -- ---- a system written in either form reads back
 pub record Reads (s : List ℕ) (small : Bool) (x : System) : Type 0 where
   pub file : Normal
-  pub is : readNormal s ≡ good file
+  pub is : read_normal s ≡ good file
   pub form : file.small ≡ small
   pub held : file.holds ≡ x
 
 module _ (small : Bool) (x : System) (o : SoundSystem x) (e : Each Estimate x.labels) where
-  estimates : Each (λ m. Estimate m.label) (formFields small x)
-  unfolding formFields
-  estimates = each-fields Estimate (formField small x) x.labels e
+  estimates : Each (λ m. Estimate m.label) (form_fields small x)
+  unfolding form_fields
+  estimates = each_fields Estimate (form_field small x) x.labels e
 
-  pub form-reads : Reads (formBytes small x) small x
-  unfolding formBytes
-  form-reads =
+  pub form_reads : Reads (form_bytes small x) small x
+  unfolding form_bytes
+  form_reads =
       record {
-        file = placedAs (made small x o) (made-sound small x o) estimates;
-        is = file-read (made small x o) (made-sound small x o) estimates;
+        file = placed_as (made small x o) (made_sound small x o) estimates;
+        is = file_read (made small x o) (made_sound small x o) estimates;
         form = refl;
         held = made_holds small x o;
       }
 
 -- ---- a file that is accepted
-module _ (s : List ℕ) (f : Normal) (bounded : Bytes s) (e : readNormal s ≡ good f) where
+module _ (s : List ℕ) (f : Normal) (bounded : Bytes s) (e : read_normal s ≡ good f) where
   -- "A move to the form a file already has gives its bytes"
-  pub move-stays : formBytes f.small f.holds ≡ s
-  move-stays = own-form f (accepted-normal s f e) ∙ read-written s f bounded e
+  pub move_stays : form_bytes f.small f.holds ≡ s
+  move_stays = own_form f (accepted_normal s f e) ∙ read_written s f bounded e
 
   -- a file and its move hold the same system
-  pub move-holds : (small : Bool) → Reads (formBytes small f.holds) small f.holds
-  move-holds small = form-reads small f.holds (accepted-sound s f e) (accepted-estimates s f e bounded)
+  pub move_holds : (small : Bool) → Reads (form_bytes small f.holds) small f.holds
+  move_holds small = form_reads small f.holds (accepted_sound s f e) (accepted_estimates s f e bounded)
 
   -- "the original bytes after both, from either end"
-  pub move-back : (small : Bool) → formBytes f.small (move-holds small).file.holds ≡ s
-  move-back small = ap (formBytes f.small) (move-holds small).held ∙ move-stays
+  pub move_back : (small : Bool) → form_bytes f.small (move_holds small).file.holds ≡ s
+  move_back small = ap (form_bytes f.small) (move_holds small).held ∙ move_stays
 
 -- ---- the old form is 01's
-old-fields : (x : System) → formFields false x ≡ oldFields x.labels
-unfolding formFields formField pick
-old-fields x = refl
+old_fields_lem : (x : System) → form_fields false x ≡ old_fields x.labels
+unfolding form_fields form_field pick
+old_fields_lem x = refl
 
-pub old-form : (x : System) → SoundSystem x → formBytes false x ≡ normalBytes x
-unfolding formBytes formStored
-old-form x o =
-    let own : onLabels (storedOf (oldFields x.labels)) x ≡ x = ap (λ l. onLabels l x) (old-stored x.labels) ∙ on-own x (formed x o) in
-    ap (λ l. fileBytes l (onLabels (storedOf l) x)) (old-fields x) ∙ ap (fileBytes (oldFields x.labels)) own ∙ old-bytes x
+pub old_form : (x : System) → SoundSystem x → form_bytes false x ≡ normal_bytes x
+unfolding form_bytes form_stored
+old_form x o =
+    let own : on_labels (stored_of (old_fields x.labels)) x ≡ x = ap (λ l. on_labels l x) (old_stored x.labels) ∙ on_own x (formed x o) in
+    ap (λ l. file_bytes l (on_labels (stored_of l) x)) (old_fields_lem x) ∙ ap (file_bytes (old_fields x.labels)) own ∙ old_bytes x
 
 -- so 01's files are those of the old form, and hold the system that they were written of
-pub old-accepted : (x : System) → SoundSystem x → Each Estimate x.labels → Reads (normalBytes x) false x
-old-accepted x o e = record { file = placed x; is = written_read x o e; form = refl; held = refl }
+pub old_accepted : (x : System) → SoundSystem x → Each Estimate x.labels → Reads (normal_bytes x) false x
+old_accepted x o e = record { file = placed x; is = written_read x o e; form = refl; held = refl }
 
 -- and no other files are of the old form
-pub old-only : (s : List ℕ) (f : Normal) → Bytes s → readNormal s ≡ good f → f.small ≡ false → (SoundSystem f.holds) × (normalBytes f.holds ≡ s)
-old-only s f bounded e old = (accepted-sound s f e, old-written s f e old bounded)
+pub old_only : (s : List ℕ) (f : Normal) → Bytes s → read_normal s ≡ good f → f.small ≡ false → (SoundSystem f.holds) × (normal_bytes f.holds ≡ s)
+old_only s f bounded e old = (accepted_sound s f e, old_written s f e old bounded)
 
 -- ---- its parts
 module _ (small : Bool) (x : System) where
-  fields-long : length (formFields small x) ≡ length x.labels
-  unfolding formFields
-  fields-long = length-map x.labels (λ a. record { label = a; field = formField small x a })
+  fields_long : length (form_fields small x) ≡ length x.labels
+  unfolding form_fields
+  fields_long = length-map x.labels (λ a. record { label = a; field = form_field small x a })
 
-  stored-arcs : length (formStored small x).arcs ≡ length x.arcs
-  unfolding formStored onLabels
-  stored-arcs = refl
+  stored_arcs : length (form_stored small x).arcs ≡ length x.arcs
+  unfolding form_stored on_labels
+  stored_arcs = refl
 
-  stored-matrix : SoundSystem x → length (formStored small x).matrix ≡ tri (length (storedOf (formFields small x)))
-  unfolding formStored onLabels
-  stored-matrix p = (made-sound small x p).matrix
+  stored_matrix : SoundSystem x → length (form_stored small x).matrix ≡ tri (length (stored_of (form_fields small x)))
+  unfolding form_stored on_labels
+  stored_matrix p = (made_sound small x p).matrix
 
-  stored-rights : SoundSystem x → length (formStored small x).rights ≡ length (storedOf (formFields small x))
-  unfolding formStored onLabels
-  stored-rights p = (made-sound small x p).rights
+  stored_rights : SoundSystem x → length (form_stored small x).rights ≡ length (stored_of (form_fields small x))
+  unfolding form_stored on_labels
+  stored_rights p = (made_sound small x p).rights
 
-all-stored : (x : System) → length (storedOf (formFields false x)) ≡ length x.labels
-all-stored x = ap (λ l. length (storedOf l)) (old-fields x) ∙ ap length (old-stored x.labels)
+all_stored : (x : System) → length (stored_of (form_fields false x)) ≡ length x.labels
+all_stored x = ap (λ l. length (stored_of l)) (old_fields_lem x) ∙ ap length (old_stored x.labels)
 
 -- ---- how long: "36 + 4A + 24P + 8·(S(S+1)/2 + S)", S the number of labels whose sums are stored
-pub length-form : (small : Bool) (x : System) → SoundSystem x
-    → length (formBytes small x)
-    ≡ 36 + 4 * length x.arcs + 24 * length x.labels + 8 * (tri (length (storedOf (formFields small x))) + length (storedOf (formFields small x)))
-unfolding formBytes
-length-form small x p =
-    let k = made-sound small x p in
-    let long : length (formFields small x) ≡ length x.labels = fields-long small x in
-    let m : length (formStored small x).matrix ≡ tri (length (storedOf (formFields small x))) = stored-matrix small x p in
-    let r : length (formStored small x).rights ≡ length (storedOf (formFields small x)) = stored-rights small x p in
-    let a : length (formStored small x).arcs ≡ length x.arcs = stored-arcs small x in
-    omega (arith, length-file (formFields small x) (formStored small x))
+pub length_form : (small : Bool) (x : System) → SoundSystem x
+    → length (form_bytes small x)
+    ≡ 36 + 4 * length x.arcs + 24 * length x.labels + 8 * (tri (length (stored_of (form_fields small x))) + length (stored_of (form_fields small x)))
+unfolding form_bytes
+length_form small x p =
+    let k = made_sound small x p in
+    let long : length (form_fields small x) ≡ length x.labels = fields_long small x in
+    let m : length (form_stored small x).matrix ≡ tri (length (stored_of (form_fields small x))) = stored_matrix small x p in
+    let r : length (form_stored small x).rights ≡ length (stored_of (form_fields small x)) = stored_rights small x p in
+    let a : length (form_stored small x).arcs ≡ length x.arcs = stored_arcs small x in
+    omega (arith, length_file (form_fields small x) (form_stored small x))
 
-tri-more : (m n : ℕ) → m ≤ n → tri m ≤ tri n
-tri-more m n h =
+tri_more : (m n : ℕ) → m ≤ n → tri m ≤ tri n
+tri_more m n h =
     let a : m * (m + 1) ≤ n * (n + 1) = mul-le-mul h (omega arith) in
-    omega (arith, tri-twice m, tri-twice n)
+    omega (arith, tri_twice m, tri_twice n)
 
 -- the small form is never longer
-pub never-longer : (x : System) → SoundSystem x → length (formBytes true x) ≤ length (formBytes false x)
-never-longer x p =
-    let s = length (storedOf (formFields true x)) in
-    let few : s ≤ length x.labels = subst (λ n. s ≤ n) (fields-long true x) (stored-few (formFields true x)) in
-    let whole : length (storedOf (formFields false x)) ≡ length x.labels = all-stored x in
-    let t : tri s ≤ tri (length x.labels) = tri-more s (length x.labels) few in
-    omega (arith, length-form true x p, length-form false x p, ap tri whole)
+pub never_longer : (x : System) → SoundSystem x → length (form_bytes true x) ≤ length (form_bytes false x)
+never_longer x p =
+    let s = length (stored_of (form_fields true x)) in
+    let few : s ≤ length x.labels = subst (λ n. s ≤ n) (fields_long true x) (stored_few (form_fields true x)) in
+    let whole : length (stored_of (form_fields false x)) ≡ length x.labels = all_stored x in
+    let t : tri s ≤ tri (length x.labels) = tri_more s (length x.labels) few in
+    omega (arith, length_form true x p, length_form false x p, ap tri whole)

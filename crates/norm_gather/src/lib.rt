@@ -1,16 +1,16 @@
 // Inner to `norm_move`: a normal file that was read, written in a form into lent bytes.
 ghost use Rattle.std.specs.Prelude.{◌≡◌, ◌+◌, ◌*◌, ◌≤◌, ◌++◌, length};
-ghost use Rattle.num_limits.specs.Capacities.{arcsMost, labelsMost};
+ghost use Rattle.num_limits.specs.Capacities.{arcs_most, labels_most};
 ghost use Rattle.byte_words.specs.Words.{lay};
 ghost use Rattle.byte_words.specs.Stands.{stands};
 ghost use Rattle.byte_section.specs.Section.{encoded};
 ghost use Rattle.num_packed.specs.Triangle.{tri};
 ghost use Rattle.num_packed.specs.Sound.{is_zero};
-ghost use Rattle.norm_kinds.specs.Kinds.{arcNumberBytes, fieldedAt, fieldedBytes, sumBytes};
-ghost use Rattle.norm_heads.specs.Heads.{arcsAt};
-ghost use Rattle.norm_labels.specs.Table.{rows_of, columnsOf};
-ghost use Rattle.norm_add.specs.Add.{heldAt, columnAt};
-ghost use Rattle.norm_gather.specs.Gather.{seatsFrom, keptSeats, fieldBySeat, fieldedBySeat, gatheredAt, sideGathered, headsGathered, sumsGathered, totalsCopied};
+ghost use Rattle.norm_kinds.specs.Kinds.{arc_number_bytes, fielded_at, fielded_bytes, sum_bytes};
+ghost use Rattle.norm_heads.specs.Heads.{arcs_at};
+ghost use Rattle.norm_labels.specs.Table.{rows_of, columns_of};
+ghost use Rattle.norm_add.specs.Add.{held_at, column_at};
+ghost use Rattle.norm_gather.specs.Gather.{seats_from, kept_seats, field_by_seat, fielded_by_seat, gathered_at, side_gathered, heads_gathered, sums_gathered, totals_copied};
 
 use norm_add::Column;
 use norm_read::NormalRead;
@@ -21,7 +21,7 @@ use norm_system::NormalLabel;
 // The sum of a row, 0 where the column has none.
 fn held_at(s: &[u8], c: Column, i: usize) -> i64
     requires { c.base + 8 * c.rows ≤ length s.now }
-    ensures { result ≡ heldAt s.now c i }
+    ensures { result ≡ held_at s.now c i }
 {
     if i < c.rows {
         return norm_sum::sum_from(s, c.base + 8 * i);
@@ -31,8 +31,8 @@ fn held_at(s: &[u8], c: Column, i: usize) -> i64
 
 // Column j of a triangle of n columns that stands at a place; one without rows where it has no such column.
 fn column_at(s: &[u8], start: usize, n: usize, j: usize) -> Column
-    requires { (n ≤ labelsMost) × (start + 8 * tri n ≤ length s.now) }
-    ensures { (result ≡ columnAt start n j) × (result.base + 8 * result.rows ≤ length s.now) }
+    requires { (n ≤ labels_most) × (start + 8 * tri n ≤ length s.now) }
+    ensures { (result ≡ column_at start n j) × (result.base + 8 * result.rows ≤ length s.now) }
 {
     if j < n {
         let base = start + 8 * num_packed::triangle(j);
@@ -52,8 +52,8 @@ fn is_unseen(diagonal: i64) -> bool
 
 // The field of a label in a form, by its place among the columns of the triangle.
 fn field_in(s: &[u8], start: usize, n: usize, k: usize, is_small: bool) -> u32
-    requires { (n ≤ labelsMost) × (start + 8 * tri n ≤ length s.now) }
-    ensures { result ≡ fieldBySeat is_small s.now start n k }
+    requires { (n ≤ labels_most) × (start + 8 * tri n ≤ length s.now) }
+    ensures { result ≡ field_by_seat is_small s.now start n k }
 {
     if is_small {
         let c = column_at(s, start, n, k);
@@ -71,7 +71,7 @@ fn field_in(s: &[u8], start: usize, n: usize, k: usize, is_small: bool) -> u32
 // The place of each of p labels among the n that are stored, n where its sums are not.
 pub fn seat_labels(s: &[u8], labels: usize, p: usize, n: usize, w: &mut [usize])
     requires { (labels + 24 * p ≤ length s.now) × (p ≤ length w.old) }
-    ensures { w.new ≡ lay w.old 0 (seatsFrom n 0 (stands (fieldedAt s.now) 24 p labels)) }
+    ensures { w.new ≡ lay w.old 0 (seats_from n 0 (stands (fielded_at s.now) 24 p labels)) }
 {
     let mut at = labels;
     let mut q: usize = 0;
@@ -98,8 +98,8 @@ pub fn keep_seats(
     is_small: bool,
     u: &mut [usize],
 ) -> usize
-    requires { (n ≤ labelsMost) × (start + 8 * tri n ≤ length s.now) × (length w.now ≤ length u.old) }
-    ensures { (result ≡ length (keptSeats (fieldBySeat is_small s.now start n) w.now)) × (u.new ≡ lay u.old 0 (keptSeats (fieldBySeat is_small s.now start n) w.now)) }
+    requires { (n ≤ labels_most) × (start + 8 * tri n ≤ length s.now) × (length w.now ≤ length u.old) }
+    ensures { (result ≡ length (kept_seats (field_by_seat is_small s.now start n) w.now)) × (u.new ≡ lay u.old 0 (kept_seats (field_by_seat is_small s.now start n) w.now)) }
 {
     let mut m: usize = 0;
     let mut i: usize = 0;
@@ -120,7 +120,7 @@ pub fn keep_seats(
 // A label's six fields, one after the other.
 fn put_fields(out: &mut [u8], at: usize, l: NormalLabel, field: u32)
     requires { at + 24 ≤ length out.old }
-    ensures { out.new ≡ lay out.old at (fieldedBytes (record { label = l; field = field })) }
+    ensures { out.new ≡ lay out.old at (fielded_bytes (record { label = l; field = field })) }
 {
     byte_write::write_u16(out, at, l.kind);
     byte_write::write_u16(out, at + 2, l.index);
@@ -141,9 +141,9 @@ fn put_labels(
     w: &[usize],
     is_small: bool,
 )
-    requires n_le_labels_most { (n ≤ labelsMost) × (start + 8 * tri n ≤ length s.now) }
+    requires n_le_labels_most { (n ≤ labels_most) × (start + 8 * tri n ≤ length s.now) }
     requires w_in_bounds { (labels + 24 * length w.now ≤ length s.now) × (at + 24 * length w.now ≤ length out.old) }
-    ensures { out.new ≡ lay out.old at (encoded fieldedBytes (rows_of (fieldedBySeat is_small s.now labels start n w.now) 0 (length w.now))) }
+    ensures { out.new ≡ lay out.old at (encoded fielded_bytes (rows_of (fielded_by_seat is_small s.now labels start n w.now) 0 (length w.now))) }
 {
     let mut i: usize = 0;
     while i < w.len() {
@@ -159,7 +159,7 @@ fn put_labels(
 // The n arcs of a file, as they stand, after their count.
 fn put_arcs(out: &mut [u8], s: &[u8], n: usize)
     requires { (4 + 4 * n ≤ length s.now) × (4 + 4 * n ≤ length out.old) }
-    ensures { out.new ≡ lay out.old 4 (encoded arcNumberBytes (arcsAt s.now n)) }
+    ensures { out.new ≡ lay out.old 4 (encoded arc_number_bytes (arcs_at s.now n)) }
 {
     let mut at: usize = 4;
     let mut i: usize = 0;
@@ -176,7 +176,7 @@ fn put_arcs(out: &mut [u8], s: &[u8], n: usize)
 // A sum put where its bytes have room, into a part of just them, so that nothing is tested.
 fn put_sum(out: &mut [u8], at: usize, x: i64)
     requires { at + 8 ≤ length out.old }
-    ensures { out.new ≡ lay out.old at (sumBytes x) }
+    ensures { out.new ≡ lay out.old at (sum_bytes x) }
 {
     let e = at + 8;
     byte_signed::write_i64(&mut out[at..e], 0, x);
@@ -185,7 +185,7 @@ fn put_sum(out: &mut [u8], at: usize, x: i64)
 // The sums of a column at the first `count` places of u.
 fn put_gathered(out: &mut [u8], at: usize, s: &[u8], c: Column, u: &[usize], count: usize)
     requires { (c.base + 8 * c.rows ≤ length s.now) × (count ≤ length u.now) × (at + 8 * count ≤ length out.old) }
-    ensures { out.new ≡ lay out.old at (encoded sumBytes (rows_of (sideGathered s.now c u.now) 0 count)) }
+    ensures { out.new ≡ lay out.old at (encoded sum_bytes (rows_of (side_gathered s.now c u.now) 0 count)) }
 {
     let mut k = at;
     let mut i: usize = 0;
@@ -199,9 +199,9 @@ fn put_gathered(out: &mut [u8], at: usize, s: &[u8], c: Column, u: &[usize], cou
 
 // The triangle of the labels at the places of u, from a triangle of n columns, column by column.
 fn put_columns(out: &mut [u8], at: usize, s: &[u8], start: usize, n: usize, u: &[usize])
-    requires n_le_labels_most { (n ≤ labelsMost) × (start + 8 * tri n ≤ length s.now) }
-    requires u_len_bound { (length u.now ≤ labelsMost) × (at + 8 * tri (length u.now) ≤ length out.old) }
-    ensures { out.new ≡ lay out.old at (encoded sumBytes (columnsOf (gatheredAt s.now start n u.now) 0 (length u.now))) }
+    requires n_le_labels_most { (n ≤ labels_most) × (start + 8 * tri n ≤ length s.now) }
+    requires u_len_bound { (length u.now ≤ labels_most) × (at + 8 * tri (length u.now) ≤ length out.old) }
+    ensures { out.new ≡ lay out.old at (encoded sum_bytes (columns_of (gathered_at s.now start n u.now) 0 (length u.now))) }
 {
     let mut k = at;
     let mut j: usize = 0;
@@ -218,10 +218,10 @@ fn put_columns(out: &mut [u8], at: usize, s: &[u8], start: usize, n: usize, u: &
 
 // Arcs and labels, each after its count.
 fn put_heads(out: &mut [u8], s: &[u8], r: NormalRead, w: &[usize], is_small: bool)
-    requires arcs_le_arcs_most { (r.arcs ≤ arcsMost) × (r.stored ≤ labelsMost) × (length w.now ≤ labelsMost) }
+    requires arcs_le_arcs_most { (r.arcs ≤ arcs_most) × (r.stored ≤ labels_most) × (length w.now ≤ labels_most) }
     requires stored_in_bounds { (r.matrix + 8 * tri r.stored ≤ length s.now) × (8 + 4 * r.arcs + 24 * length w.now ≤ length s.now) }
     requires w_in_bounds { 8 + 4 * r.arcs + 24 * length w.now ≤ length out.old }
-    ensures { out.new ≡ lay out.old 0 (headsGathered is_small s.now r w.now) }
+    ensures { out.new ≡ lay out.old 0 (heads_gathered is_small s.now r w.now) }
 {
     let at = 4 + 4 * r.arcs;
     let labels = at + 4;
@@ -233,10 +233,10 @@ fn put_heads(out: &mut [u8], s: &[u8], r: NormalRead, w: &[usize], is_small: boo
 
 // Matrix sums and right sides of the labels at the places of u, each after their count.
 fn put_sums(out: &mut [u8], at: usize, s: &[u8], r: NormalRead, u: &[usize])
-    requires stored_le_labels_most { (r.stored ≤ labelsMost) × (length u.now ≤ labelsMost) }
+    requires stored_le_labels_most { (r.stored ≤ labels_most) × (length u.now ≤ labels_most) }
     requires stored_in_bounds { (r.matrix + 8 * tri r.stored ≤ length s.now) × (r.rights + 8 * r.stored ≤ length s.now) }
     requires u_in_bounds { at + 8 + 8 * tri (length u.now) + 8 * length u.now ≤ length out.old }
-    ensures { out.new ≡ lay out.old at (sumsGathered s.now r u.now) }
+    ensures { out.new ≡ lay out.old at (sums_gathered s.now r u.now) }
 {
     let n = r.stored;
     let m = u.len();
@@ -255,7 +255,7 @@ fn put_sums(out: &mut [u8], at: usize, s: &[u8], r: NormalRead, u: &[usize])
 // The totals as they stand, after their count.
 fn put_totals(out: &mut [u8], at: usize, s: &[u8], r: NormalRead)
     requires { (r.totals + 16 ≤ length s.now) × (at + 20 ≤ length out.old) }
-    ensures { out.new ≡ lay out.old at (totalsCopied s.now r) }
+    ensures { out.new ≡ lay out.old at (totals_copied s.now r) }
 {
     let accepted = byte_read::read_u64(s, r.totals);
     let square = byte_read::read_u64(s, r.totals + 8);
@@ -266,11 +266,11 @@ fn put_totals(out: &mut [u8], at: usize, s: &[u8], r: NormalRead)
 
 // The whole file, of the labels whose places are w, where the form stores those at the places of u.
 pub fn put_file(out: &mut [u8], s: &[u8], r: NormalRead, w: &[usize], u: &[usize], is_small: bool)
-    requires arcs_le_arcs_most { (r.arcs ≤ arcsMost) × (r.stored ≤ labelsMost) × (length w.now ≤ labelsMost) × (length u.now ≤ labelsMost) }
+    requires arcs_le_arcs_most { (r.arcs ≤ arcs_most) × (r.stored ≤ labels_most) × (length w.now ≤ labels_most) × (length u.now ≤ labels_most) }
     requires stored_in_bounds { (r.matrix + 8 * tri r.stored ≤ length s.now) × (8 + 4 * r.arcs + 24 * length w.now ≤ length s.now) }
     requires stored_in_bounds_2 { (r.rights + 8 * r.stored ≤ length s.now) × (r.totals + 16 ≤ length s.now) }
     requires u_in_bounds { 36 + 4 * r.arcs + 24 * length w.now + 8 * tri (length u.now) + 8 * length u.now ≤ length out.old }
-    ensures { out.new ≡ lay out.old 0 (headsGathered is_small s.now r w.now ++ (sumsGathered s.now r u.now ++ totalsCopied s.now r)) }
+    ensures { out.new ≡ lay out.old 0 (heads_gathered is_small s.now r w.now ++ (sums_gathered s.now r u.now ++ totals_copied s.now r)) }
 {
     put_heads(out, s, r, w, is_small);
     let middle = 8 + 4 * r.arcs + 24 * w.len();

@@ -1,14 +1,14 @@
 // The arcs and the labels of a normal file of either form, read and judged where they stand: how many of each, the form, how many labels have
 // their sums stored, and the place after them; or the first refusal and its place.
 ghost use Rattle.std.specs.Prelude.{◌≡◌, ◌+◌, ◌*◌, ◌≤◌, length, take};
-ghost use Rattle.num_limits.specs.Capacities.{arcsMost, labelsMost};
+ghost use Rattle.num_limits.specs.Capacities.{arcs_most, labels_most};
 ghost use Rattle.num_whole.specs.Tests.{pick};
 ghost use Rattle.byte_words.specs.Words.{lay};
 ghost use Rattle.byte_words.specs.Stands.{stands};
-ghost use Rattle.byte_section.specs.Section.{records, sectionAt};
-ghost use Rattle.norm_kinds.specs.Kinds.{arcKind, fieldedAt, fieldedKind, isSmallForm, storedOf};
-ghost use Rattle.byte_section.specs.Told.{span_of, toldSection};
-ghost use Rattle.norm_heads.specs.Heads.{countsPart, arcsAt, toldHeads};
+ghost use Rattle.byte_section.specs.Section.{records, section_at};
+ghost use Rattle.norm_kinds.specs.Kinds.{arc_kind, fielded_at, fielded_kind, is_small_form, stored_of};
+ghost use Rattle.byte_section.specs.Told.{span_of, told_section};
+ghost use Rattle.norm_heads.specs.Heads.{counts_part, arcs_at, told_heads};
 
 use byte_section::{CountAnswer, SectionAnswer};
 use norm_kinds::FloorAnswer;
@@ -25,8 +25,8 @@ pub enum HeadsAnswer {
 
 // The `count` records of the arcs section, from `start` on.
 fn walk_arcs(s: &[u8], start: usize, count: usize) -> SectionAnswer
-    requires { (start ≤ length s.now) × (count ≤ arcsMost) }
-    ensures { toldSection result ≡ span_of (records arcKind s.now count start 0) }
+    requires { (start ≤ length s.now) × (count ≤ arcs_most) }
+    ensures { told_section result ≡ span_of (records arc_kind s.now count start 0) }
 {
     let mut at = start;
     let mut floor: u64 = 0;
@@ -48,7 +48,7 @@ fn walk_arcs(s: &[u8], start: usize, count: usize) -> SectionAnswer
 
 // The arcs section, the first of the file: its count, from 1 to 16, then its records.
 fn read_arcs(s: &[u8]) -> SectionAnswer
-    ensures { toldSection result ≡ span_of (sectionAt arcKind s.now 1 arcsMost 0) }
+    ensures { told_section result ≡ span_of (section_at arc_kind s.now 1 arcs_most 0) }
 {
     match byte_section::read_count(s, 0, 1, ARCS_U32) {
         CountAnswer::Is(n) => walk_arcs(s, 4, n),
@@ -58,8 +58,8 @@ fn read_arcs(s: &[u8]) -> SectionAnswer
 
 // The n arcs of a file; slots past them are 0.
 fn arcs_of(s: &[u8], n: usize) -> [u32; ARCS_MOST]
-    requires { n ≤ arcsMost }
-    ensures { (take n result ≡ arcsAt s.now n) × (arcsMost ≡ length result) }
+    requires { n ≤ arcs_most }
+    ensures { (take n result ≡ arcs_at s.now n) × (arcs_most ≡ length result) }
 {
     let mut arcs: [u32; ARCS_MOST] = [0; ARCS_MOST];
     let mut i: usize = 0;
@@ -73,7 +73,7 @@ fn arcs_of(s: &[u8], n: usize) -> [u32; ARCS_MOST]
 // The n arcs of a file, into lent room.
 pub fn load_arcs(s: &[u8], n: usize, arcs: &mut [u64])
     requires { (4 + 4 * n ≤ length s.now) × (n ≤ length arcs.old) }
-    ensures { arcs.new ≡ lay arcs.old 0 (arcsAt s.now n) }
+    ensures { arcs.new ≡ lay arcs.old 0 (arcs_at s.now n) }
 {
     let mut at: usize = 4;
     let mut i: usize = 0;
@@ -87,8 +87,8 @@ pub fn load_arcs(s: &[u8], n: usize, arcs: &mut [u64])
 
 // The `count` records of the parameters section of a file of a form, from `start` on.
 fn walk_labels(s: &[u8], start: usize, count: usize, arcs: &[u32], is_small: bool) -> SectionAnswer
-    requires { (start ≤ length s.now) × (count ≤ labelsMost) }
-    ensures { toldSection result ≡ span_of (records (fieldedKind is_small arcs.now) s.now count start 0) }
+    requires { (start ≤ length s.now) × (count ≤ labels_most) }
+    ensures { told_section result ≡ span_of (records (fielded_kind is_small arcs.now) s.now count start 0) }
 {
     let mut at = start;
     let mut floor: u64 = 0;
@@ -110,7 +110,7 @@ fn walk_labels(s: &[u8], start: usize, count: usize, arcs: &[u32], is_small: boo
 
 // The parameters section: its count, from 1 to 500, then its records, all of the first one's form.
 fn read_labels(s: &[u8], at: usize, arcs: &[u32]) -> SectionAnswer
-    ensures { toldSection result ≡ span_of (sectionAt (fieldedKind (isSmallForm s.now at) arcs.now) s.now 1 labelsMost at) }
+    ensures { told_section result ≡ span_of (section_at (fielded_kind (is_small_form s.now at) arcs.now) s.now 1 labels_most at) }
 {
     match byte_section::read_count(s, at, 1, LABELS_U32) {
         CountAnswer::Is(n) => walk_labels(s, at + 4, n, arcs, norm_kinds::is_small_form(s, at)),
@@ -120,8 +120,8 @@ fn read_labels(s: &[u8], at: usize, arcs: &[u32]) -> SectionAnswer
 
 // The parameters section of a file of n arcs.
 fn read_parameters(s: &[u8], at: usize, n: usize) -> SectionAnswer
-    requires { n ≤ arcsMost }
-    ensures { toldSection result ≡ span_of (sectionAt (fieldedKind (isSmallForm s.now at) (arcsAt s.now n)) s.now 1 labelsMost at) }
+    requires { n ≤ arcs_most }
+    ensures { told_section result ≡ span_of (section_at (fielded_kind (is_small_form s.now at) (arcs_at s.now n)) s.now 1 labels_most at) }
 {
     let arcs = arcs_of(s, n);
     read_labels(s, at, &arcs[..n])
@@ -130,7 +130,7 @@ fn read_parameters(s: &[u8], at: usize, n: usize) -> SectionAnswer
 // How many of the p labels that stand at a place have their sums stored: only those of the small form are counted.
 fn stored_in(s: &[u8], labels: usize, p: usize, is_small: bool) -> usize
     requires { labels + 24 * p ≤ length s.now }
-    ensures { result ≡ pick is_small (length (storedOf (stands (fieldedAt s.now) 24 p labels))) p }
+    ensures { result ≡ pick is_small (length (stored_of (stands (fielded_at s.now) 24 p labels))) p }
 {
     if is_small {
         return norm_kinds::count_stored(s, labels, p);
@@ -140,7 +140,7 @@ fn stored_in(s: &[u8], labels: usize, p: usize, is_small: bool) -> usize
 
 // The arcs and the labels, one after the other.
 pub fn read_heads(s: &[u8]) -> HeadsAnswer
-    ensures { toldHeads result ≡ countsPart s.now }
+    ensures { told_heads result ≡ counts_part s.now }
 {
     match read_arcs(s) {
         SectionAnswer::Read(arcs, next) => match read_parameters(s, next, arcs) {

@@ -1,12 +1,12 @@
 // Inner to `norm_write`: a system that stands in three lent rooms, of any values, judged: 2, 4, 5, 6, and 20 for the rooms.
 ghost use Rattle.std.specs.Prelude.{◌≡◌, true, false, ◌+◌, ◌*◌, ◌≤◌, ◌^◌, pos, length};
-ghost use Rattle.num_limits.specs.Capacities.{arcsMost, labelsMost};
+ghost use Rattle.num_limits.specs.Capacities.{arcs_most, labels_most};
 ghost use Rattle.refusal.specs.First.{answered};
-ghost use Rattle.refusal.specs.Told.{toldVerdict};
+ghost use Rattle.refusal.specs.Told.{told_verdict};
 ghost use Rattle.num_packed.specs.Triangle.{tri};
-ghost use Rattle.norm_system.specs.System.{boundOf, totalsWhere, sidesWhere, sumsWhere};
-ghost use Rattle.norm_room.specs.Room.{systemInRooms, isNowhere, sumsFit, systemNumber};
-ghost use Rattle.norm_judge.specs.Judge.{sumsNumber, valuesNumber, HeadsFit, Roomed};
+ghost use Rattle.norm_system.specs.System.{bound_of, totals_where, sides_where, sums_where};
+ghost use Rattle.norm_room.specs.Room.{system_in_rooms, is_nowhere, sums_fit, system_number};
+ghost use Rattle.norm_judge.specs.Judge.{sums_number, values_number, HeadsFit, Roomed};
 
 use norm_totals::Unsound;
 use num_packed::Walked;
@@ -16,15 +16,15 @@ use refusal::{Refusal, Verdict};
 
 // A bound for so many arcs, 0 where nothing was accepted.
 fn bound_of(arcs: usize, accepted: u64, unit: u64) -> i64
-    requires { (arcs ≤ arcsMost) × (unit ≤ 2 ^ 58) }
-    ensures { result ≡ pos (boundOf arcs accepted unit) }
+    requires { (arcs ≤ arcs_most) × (unit ≤ 2 ^ 58) }
+    ensures { result ≡ pos (bound_of arcs accepted unit) }
 {
     norm_totals::bound_of(arcs, accepted, unit) as i64
 }
 
 fn totals_sound(arcs: usize, accepted: u64, square: u64) -> bool
-    requires { arcs ≤ arcsMost }
-    ensures { result ≡ isNowhere (totalsWhere arcs accepted square) }
+    requires { arcs ≤ arcs_most }
+    ensures { result ≡ is_nowhere (totals_where arcs accepted square) }
 {
     match norm_totals::judge_totals(arcs, accepted, square) {
         Unsound::Nowhere => true,
@@ -44,8 +44,8 @@ fn sides_sound(
     accepted: u64,
     square: u64,
 ) -> bool
-    requires { (arcs ≤ arcsMost) × (p ≤ labelsMost) × (tri p ≤ length matrix.now) × (p ≤ length rights.now) }
-    ensures { result ≡ isNowhere (sidesWhere arcs p matrix.now rights.now accepted square) }
+    requires { (arcs ≤ arcs_most) × (p ≤ labels_most) × (tri p ≤ length matrix.now) × (p ≤ length rights.now) }
+    ensures { result ≡ is_nowhere (sides_where arcs p matrix.now rights.now accepted square) }
 {
     let bound = bound_of(arcs, accepted, norm_totals::FILE_RIGHT_UNIT);
     match num_packed::first_broken_side(matrix, rights, p, bound) {
@@ -62,8 +62,8 @@ fn sums_sound(
     accepted: u64,
     square: u64,
 ) -> bool
-    requires { (arcs ≤ arcsMost) × (p ≤ labelsMost) × (tri p ≤ length matrix.now) × (p ≤ length rights.now) }
-    ensures { result ≡ isNowhere (sumsWhere false arcs p matrix.now rights.now accepted square) }
+    requires { (arcs ≤ arcs_most) × (p ≤ labels_most) × (tri p ≤ length matrix.now) × (p ≤ length rights.now) }
+    ensures { result ≡ is_nowhere (sums_where false arcs p matrix.now rights.now accepted square) }
 {
     let bound = bound_of(arcs, accepted, norm_totals::FILE_MATRIX_UNIT);
     match num_packed::first_unsound(matrix, p, bound) {
@@ -74,7 +74,7 @@ fn sums_sound(
 
 fn sums_fit(arcs: usize, p: usize, heads: &[u64], matrix: &[i64], rights: &[i64]) -> bool
     requires { Roomed arcs p (length heads.now) (length matrix.now) (length rights.now) }
-    ensures { result ≡ sumsFit (systemInRooms arcs p heads.now matrix.now rights.now) }
+    ensures { result ≡ sums_fit (system_in_rooms arcs p heads.now matrix.now rights.now) }
 {
     let totals = arcs + 5 * p;
     let sums = num_packed::triangle(p);
@@ -99,7 +99,7 @@ fn judge_sums(
     rights: &[i64],
 ) -> Verdict
     requires { HeadsFit arcs parameters (length heads.now) }
-    ensures { toldVerdict result ≡ answered (sumsNumber parameters (length matrix.now) (length rights.now) (systemInRooms arcs parameters heads.now matrix.now rights.now)) tt }
+    ensures { told_verdict result ≡ answered (sums_number parameters (length matrix.now) (length rights.now) (system_in_rooms arcs parameters heads.now matrix.now rights.now)) tt }
 {
     if norm_room::sums_roomy(parameters, matrix.len(), rights.len()) {
         if sums_fit(arcs, parameters, heads, matrix, rights) {
@@ -121,7 +121,7 @@ fn judge_values(
     rights: &[i64],
 ) -> Verdict
     requires { HeadsFit arcs parameters (length heads.now) }
-    ensures { toldVerdict result ≡ answered (valuesNumber parameters (length matrix.now) (length rights.now) (systemInRooms arcs parameters heads.now matrix.now rights.now)) tt }
+    ensures { told_verdict result ≡ answered (values_number parameters (length matrix.now) (length rights.now) (system_in_rooms arcs parameters heads.now matrix.now rights.now)) tt }
 {
     if norm_fields::fields_fit(arcs, parameters, heads) {
         if norm_fields::orders_fit(arcs, parameters, heads) {
@@ -142,7 +142,7 @@ pub fn judge(
     matrix: &[i64],
     rights: &[i64],
 ) -> Verdict
-    ensures { toldVerdict result ≡ answered (systemNumber arcs parameters heads.now matrix.now rights.now) tt }
+    ensures { told_verdict result ≡ answered (system_number arcs parameters heads.now matrix.now rights.now) tt }
 {
     if norm_fields::counts_fit(arcs, parameters) {
         if norm_room::heads_roomy(arcs, parameters, heads.len()) {

@@ -1,8 +1,8 @@
 // Inner to the readers of normal files: one record of the arcs and of the labels, read and judged, with the definitions of a normal file's records.
 ghost use Rattle.std.specs.Prelude.{◌≡◌, ◌+◌, ◌*◌, ◌≤◌, length};
 ghost use Rattle.byte_words.specs.Stands.{stands};
-ghost use Rattle.norm_kinds.specs.Kinds.{arcKind, normalLabelAt, fieldOk, fieldedAt, fieldedKind, isSmallForm, storedOf};
-ghost use Rattle.norm_kinds.specs.Told.{floorAt, toldFloor};
+ghost use Rattle.norm_kinds.specs.Kinds.{arc_kind, normal_label_at, field_ok, fielded_at, fielded_kind, is_small_form, stored_of};
+ghost use Rattle.norm_kinds.specs.Told.{floor_at, told_floor};
 
 use norm_system::NormalLabel;
 use refusal::Refusal;
@@ -18,7 +18,7 @@ pub enum FloorAnswer {
 
 // One record of the arcs section, judged 1, 4, 5; `floor` is the least arc that it may have.
 pub fn read_arc(s: &[u8], at: usize, floor: u64) -> FloorAnswer
-    ensures { toldFloor result ≡ floorAt arcKind s.now at floor }
+    ensures { told_floor result ≡ floor_at arc_kind s.now at floor }
 {
     if byte_words::left(s.len(), at) < 4 {
         return FloorAnswer::Refused(Refusal::Short, s.len());
@@ -39,7 +39,7 @@ pub fn read_arc(s: &[u8], at: usize, floor: u64) -> FloorAnswer
 
 pub fn load_label(s: &[u8], at: usize) -> NormalLabel
     requires { at + 24 ≤ length s.now }
-    ensures { result ≡ normalLabelAt s.now at }
+    ensures { result ≡ normal_label_at s.now at }
 {
     NormalLabel {
         kind: byte_read::read_u16(s, at),
@@ -52,7 +52,7 @@ pub fn load_label(s: &[u8], at: usize) -> NormalLabel
 
 // Whether a label's field is one of the form.
 fn field_ok(is_small: bool, field: u32) -> bool
-    ensures { result ≡ fieldOk is_small field }
+    ensures { result ≡ field_ok is_small field }
 {
     if is_small {
         return num_whole::within(1, field as u64, 2);
@@ -62,7 +62,7 @@ fn field_ok(is_small: bool, field: u32) -> bool
 
 // One record of the parameters section of a file of a form that lists these arcs, judged 1, 4, 5; `floor` is the least key that it may have.
 pub fn read_label(s: &[u8], at: usize, floor: u64, arcs: &[u32], is_small: bool) -> FloorAnswer
-    ensures { toldFloor result ≡ floorAt (fieldedKind is_small arcs.now) s.now at floor }
+    ensures { told_floor result ≡ floor_at (fielded_kind is_small arcs.now) s.now at floor }
 {
     if byte_words::left(s.len(), at) < 24 {
         return FloorAnswer::Refused(Refusal::Short, s.len());
@@ -88,7 +88,7 @@ pub fn read_label(s: &[u8], at: usize, floor: u64, arcs: &[u32], is_small: bool)
 // Whether a file is in the small form, by the field of its first label; its labels' section begins at a place, with its count.
 pub fn is_small_form(s: &[u8], at: usize) -> bool
     requires { at + 4 ≤ length s.now }
-    ensures { result ≡ isSmallForm s.now at }
+    ensures { result ≡ is_small_form s.now at }
 {
     byte_read::read_u32(s, at + 16) != 0
 }
@@ -96,7 +96,7 @@ pub fn is_small_form(s: &[u8], at: usize) -> bool
 // How many of the p labels that stand at a place have their sums stored: all in a file of the old form.
 pub fn count_stored(s: &[u8], labels: usize, p: usize) -> usize
     requires { labels + 24 * p ≤ length s.now }
-    ensures { (result ≡ length (storedOf (stands (fieldedAt s.now) 24 p labels))) × (result ≤ p) }
+    ensures { (result ≡ length (stored_of (stands (fielded_at s.now) 24 p labels))) × (result ≤ p) }
 {
     let mut at = labels;
     let mut n: usize = 0;

@@ -9,9 +9,9 @@ rows_of f i zero = []
 rows_of f i (suc m) = f i ∷ rows_of f (suc i) m
 
 -- m columns from the jth on; column j has the rows up to the jth
-unfoldable pub columnsOf : (ℕ → ℕ → ℤ) → ℕ → ℕ → List ℤ
-columnsOf f j zero = []
-columnsOf f j (suc m) = rows_of (λ i. f i j) 0 (suc j) ++ columnsOf f (suc j) m
+unfoldable pub columns_of : (ℕ → ℕ → ℤ) → ℕ → ℕ → List ℤ
+columns_of f j zero = []
+columns_of f j (suc m) = rows_of (λ i. f i j) 0 (suc j) ++ columns_of f (suc j) m
 
 -- the sum of row i and column j in a triangle of n columns, 0 where it has none
 unfoldable pub sum_at : List ℤ → ℕ → ℕ → ℕ → ℤ

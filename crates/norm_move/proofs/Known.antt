@@ -8,40 +8,40 @@ use native.Mathlib.Omega.{arith}
 use lib.ListN.{length, take, drop}
 use lib.Seq.{take_at}
 use Rattle.num_whole.specs.Answer.{Judged, good, bad}
-use Rattle.num_whole.proofs.Cases.{yes, no, is-less, not-less}
+use Rattle.num_whole.proofs.Cases.{yes, no, is_less, not_less}
 use Rattle.refusal.specs.Number.{number_of}
 use Rattle.refusal.specs.declared.Refusal.{Refusal}
 use Rattle.byte_words.specs.Words.{lay}
-use Rattle.byte_words.proofs.Words.{lay-front}
-use Rattle.byte_section.specs.Told.{toldAnswer}
+use Rattle.byte_words.proofs.Words.{lay_front}
+use Rattle.byte_section.specs.Told.{told_answer}
 use Rattle.byte_section.specs.declared.ReadAnswer.TheVariants.{Read, Refused}
-use Rattle.byte_section.proofs.Walk.{not-bad, by-judged, then-good, then-bad}
+use Rattle.byte_section.proofs.Walk.{not_bad, by_judged, then_good, then_bad}
 use Rattle.num_packed.specs.Triangle.{tri}
-use Rattle.norm_kinds.specs.Kinds.{storedOf}
-use Rattle.norm_read.specs.Normal.{Normal, readNormal, shownNormal, toldNormalRead}
+use Rattle.norm_kinds.specs.Kinds.{stored_of}
+use Rattle.norm_read.specs.Normal.{Normal, read_normal, shown_normal, told_normal_read}
 use Rattle.norm_read.specs.declared.NormalRead.{NormalRead}
-use Rattle.norm_read.proofs.Accepted.{accepted-sound, accepted-standing}
-use Rattle.norm_forms.specs.Forms.{formFields, formBytes}
-use Rattle.norm_forms.proofs.Moves.{length-form}
-use Rattle.norm_move.specs.Move.{fileMoved, withRoom, movedInto, moveAnswer, laidIn, moveLeft}
+use Rattle.norm_read.proofs.Accepted.{accepted_sound, accepted_standing}
+use Rattle.norm_forms.specs.Forms.{form_fields, form_bytes}
+use Rattle.norm_forms.proofs.Moves.{length_form}
+use Rattle.norm_move.specs.Move.{file_moved, with_room, moved_into, move_answer, laid_in, move_left}
 
 -- ---- from the reader's answer
 pub record Known (s : List ℕ) (r : NormalRead) : Type 0 where
   pub file : Normal
-  pub is : readNormal s ≡ good file
-  pub told : toldNormalRead r ≡ shownNormal (good file)
-  pub few-arcs : r.arcs ≤ 16
-  pub few-labels : r.parameters ≤ 500
-  pub few-stored : r.stored ≤ 500
-  pub labels-end : 8 + 4 * r.arcs + 24 * r.parameters ≤ length s
-  pub matrix-end : r.matrix + 8 * tri r.stored ≤ length s
-  pub rights-end : r.rights + 8 * r.stored ≤ length s
-  pub totals-end : r.totals + 16 ≤ length s
+  pub is : read_normal s ≡ good file
+  pub told : told_normal_read r ≡ shown_normal (good file)
+  pub few_arcs : r.arcs ≤ 16
+  pub few_labels : r.parameters ≤ 500
+  pub few_stored : r.stored ≤ 500
+  pub labels_end : 8 + 4 * r.arcs + 24 * r.parameters ≤ length s
+  pub matrix_end : r.matrix + 8 * tri r.stored ≤ length s
+  pub rights_end : r.rights + 8 * r.stored ≤ length s
+  pub totals_end : r.totals + 16 ≤ length s
 
-known_of : (s : List ℕ) (r : NormalRead) (f : Normal) → readNormal s ≡ good f → toldNormalRead r ≡ shownNormal (good f) → Known s r
+known_of : (s : List ℕ) (r : NormalRead) (f : Normal) → read_normal s ≡ good f → told_normal_read r ≡ shown_normal (good f) → Known s r
 known_of s r f e t =
-    let o = accepted-sound s f e in
-    let d = accepted-standing s f e in
+    let o = accepted_sound s f e in
+    let d = accepted_standing s f e in
     let arcs : r.arcs ≡ length f.holds.arcs = ap (λ v. v.arcs) t in
     let labels : r.parameters ≡ length f.holds.labels = ap (λ v. v.parameters) t in
     let stored : r.stored ≡ length f.stored.labels = ap (λ v. v.stored) t in
@@ -49,35 +49,35 @@ known_of s r f e t =
     let m : r.matrix ≡ f.matrix = ap (λ v. v.matrix) t in
     let n : r.rights ≡ f.rights = ap (λ v. v.rights) t in
     let k : r.totals ≡ f.totals = ap (λ v. v.totals) t in
-    let a : f.matrix ≡ 12 + 4 * length f.holds.arcs + 24 * length f.holds.labels = d.matrix-at in
-    let b : f.rights ≡ f.matrix + 8 * tri (length f.stored.labels) + 4 = d.rights-at in
-    let c : f.totals ≡ f.rights + 8 * length f.stored.labels + 4 = d.totals-at in
+    let a : f.matrix ≡ 12 + 4 * length f.holds.arcs + 24 * length f.holds.labels = d.matrix_at in
+    let b : f.rights ≡ f.matrix + 8 * tri (length f.stored.labels) + 4 = d.rights_at in
+    let c : f.totals ≡ f.rights + 8 * length f.stored.labels + 4 = d.totals_at_lem in
     let long : length s ≡ f.totals + 16 = d.long in
     record {
       file = f;
       is = e;
       told = t;
-      few-arcs = omega (arith, o.few-arcs);
-      few-labels = omega (arith, o.few-labels);
-      few-stored = omega (arith, o.few-labels, d.few-stored);
-      labels-end = omega arith;
-      matrix-end = omega arith;
-      rights-end = omega arith;
-      totals-end = omega arith;
+      few_arcs = omega (arith, o.few_arcs);
+      few_labels = omega (arith, o.few_labels);
+      few_stored = omega (arith, o.few_labels, d.few_stored);
+      labels_end = omega arith;
+      matrix_end = omega arith;
+      rights_end = omega arith;
+      totals_end = omega arith;
     }
 
-module _ (s : List ℕ) (r : NormalRead) (t : toldNormalRead r ≡ shownNormal (readNormal s)) where
+module _ (s : List ℕ) (r : NormalRead) (t : told_normal_read r ≡ shown_normal (read_normal s)) where
   pub known : r.answer ≡ Read → Known s r
   known e =
-      by-judged (readNormal s)
-      (λ f h. known_of s r f h (t ∙ ap shownNormal h))
-      (λ number place h. absurd (not-bad (sym (ap toldAnswer e) ∙ ap (λ d. d.verdict) t ∙ ap (λ j. (shownNormal j).verdict) h)))
+      by_judged (read_normal s)
+      (λ f h. known_of s r f h (t ∙ ap shown_normal h))
+      (λ number place h. absurd (not_bad (sym (ap told_answer e) ∙ ap (λ d. d.verdict) t ∙ ap (λ j. (shown_normal j).verdict) h)))
 
-  pub refused : (w : Refusal) (place : ℕ) → r.answer ≡ Refused w place → readNormal s ≡ bad (number_of w) place
+  pub refused : (w : Refusal) (place : ℕ) → r.answer ≡ Refused w place → read_normal s ≡ bad (number_of w) place
   refused w place e =
-      by-judged (readNormal s)
-      (λ x h. absurd (not-bad (sym (ap (λ j. (shownNormal j).verdict) h) ∙ sym (ap (λ d. d.verdict) t) ∙ ap toldAnswer e)))
-      (λ number at h. h ∙ alike (sym (ap (λ j. (shownNormal j).verdict) h) ∙ sym (ap (λ d. d.verdict) t) ∙ ap toldAnswer e))
+      by_judged (read_normal s)
+      (λ x h. absurd (not_bad (sym (ap (λ j. (shown_normal j).verdict) h) ∙ sym (ap (λ d. d.verdict) t) ∙ ap told_answer e)))
+      (λ number at h. h ∙ alike (sym (ap (λ j. (shown_normal j).verdict) h) ∙ sym (ap (λ d. d.verdict) t) ∙ ap told_answer e))
     where
       alike : {number at n p : ℕ} → ◌≡◌ {A = Judged (Unit {0})} (bad number at) (bad n p) → ◌≡◌ {A = Judged Normal} (bad number at) (bad n p)
       alike e = cc
@@ -85,62 +85,62 @@ module _ (s : List ℕ) (r : NormalRead) (t : toldNormalRead r ≡ shownNormal (
 -- ---- what is answered and left, by the code's tests
 module _ (small : Bool) (s : List ℕ) where
   -- the file's own refusal
-  module _ (number place : ℕ) (e : readNormal s ≡ bad number place) where
-    into-refused : (n : ℕ) → movedInto small s n ≡ bad number place
-    unfolding movedInto fileMoved
-    into-refused n = then-bad _ _ (then-bad _ _ e)
+  module _ (number place : ℕ) (e : read_normal s ≡ bad number place) where
+    into_refused : (n : ℕ) → moved_into small s n ≡ bad number place
+    unfolding moved_into file_moved
+    into_refused n = then_bad _ _ (then_bad _ _ e)
 
-    pub answer-refused : (n : ℕ) → bad number place ≡ moveAnswer small s n
-    unfolding moveAnswer
-    answer-refused n = sym (then-bad _ _ (into-refused n))
+    pub answer_refused : (n : ℕ) → bad number place ≡ move_answer small s n
+    unfolding move_answer
+    answer_refused n = sym (then_bad _ _ (into_refused n))
 
-    pub left-refused : (room : List ℕ) → room ≡ moveLeft small s room
-    unfolding moveLeft laidIn
-    left-refused room = sym (ap (laidIn room) (into-refused (length room)))
+    pub left_refused : (room : List ℕ) → room ≡ move_left small s room
+    unfolding move_left laid_in
+    left_refused room = sym (ap (laid_in room) (into_refused (length room)))
 
-  module _ (f : Normal) (e : readNormal s ≡ good f) where
+  module _ (f : Normal) (e : read_normal s ≡ good f) where
     abbrev bytes : List ℕ
-    bytes = formBytes small f.holds
+    bytes = form_bytes small f.holds
 
-    into-good : (n : ℕ) → movedInto small s n ≡ withRoom (length s) n bytes
-    unfolding movedInto fileMoved
-    into-good n = then-good _ _ (then-good _ _ e)
+    into_good : (n : ℕ) → moved_into small s n ≡ with_room (length s) n bytes
+    unfolding moved_into file_moved
+    into_good n = then_good _ _ (then_good _ _ e)
 
     -- 20
-    into-short : (n : ℕ) → n < length bytes → movedInto small s n ≡ bad 20 (length s)
-    unfolding withRoom
-    into-short n h = into-good n ∙ sym (yes _ _ _ (is-less n (length bytes) h) refl)
+    into_short : (n : ℕ) → n < length bytes → moved_into small s n ≡ bad 20 (length s)
+    unfolding with_room
+    into_short n h = into_good n ∙ sym (yes _ _ _ (is_less n (length bytes) h) refl)
 
-    pub answer-short : (n : ℕ) → n < length bytes → bad 20 (length s) ≡ moveAnswer small s n
-    unfolding moveAnswer
-    answer-short n h = sym (then-bad _ _ (into-short n h))
+    pub answer_short : (n : ℕ) → n < length bytes → bad 20 (length s) ≡ move_answer small s n
+    unfolding move_answer
+    answer_short n h = sym (then_bad _ _ (into_short n h))
 
-    pub left-short : (room : List ℕ) → length room < length bytes → room ≡ moveLeft small s room
-    unfolding moveLeft laidIn
-    left-short room h = sym (ap (laidIn room) (into-short (length room) h))
+    pub left_short : (room : List ℕ) → length room < length bytes → room ≡ move_left small s room
+    unfolding move_left laid_in
+    left_short room h = sym (ap (laid_in room) (into_short (length room) h))
 
     -- the bytes
-    into-long : (n : ℕ) → length bytes ≤ n → movedInto small s n ≡ good bytes
-    unfolding withRoom
-    into-long n h = into-good n ∙ sym (no _ _ _ (not-less n (length bytes) h) refl)
+    into_long : (n : ℕ) → length bytes ≤ n → moved_into small s n ≡ good bytes
+    unfolding with_room
+    into_long n h = into_good n ∙ sym (no _ _ _ (not_less n (length bytes) h) refl)
 
-    pub answer-moved : (n : ℕ) → length bytes ≤ n → good (length bytes) ≡ moveAnswer small s n
-    unfolding moveAnswer
-    answer-moved n h = sym (then-good _ _ (into-long n h))
+    pub answer_moved : (n : ℕ) → length bytes ≤ n → good (length bytes) ≡ move_answer small s n
+    unfolding move_answer
+    answer_moved n h = sym (then_good _ _ (into_long n h))
 
-    pub left-moved : (room : List ℕ) → length bytes ≤ length room → lay room 0 bytes ≡ moveLeft small s room
-    unfolding moveLeft laidIn
-    left-moved room h = sym (ap (laidIn room) (into-long (length room) h))
+    pub left_moved : (room : List ℕ) → length bytes ≤ length room → lay room 0 bytes ≡ move_left small s room
+    unfolding move_left laid_in
+    left_moved room h = sym (ap (laid_in room) (into_long (length room) h))
 
     -- how many they are
-    pub form-long : (a p m : ℕ) → a ≡ length f.holds.arcs → p ≡ length f.holds.labels → m ≡ length (storedOf (formFields small f.holds))
+    pub form_long : (a p m : ℕ) → a ≡ length f.holds.arcs → p ≡ length f.holds.labels → m ≡ length (stored_of (form_fields small f.holds))
         → 36 + 4 * a + 24 * p + 8 * tri m + 8 * m ≡ length bytes
-    form-long a p m ea ep em =
-        let l : length bytes ≡ 36 + 4 * length f.holds.arcs + 24 * length f.holds.labels + 8 * (tri (length (storedOf (formFields small f.holds))) + length (storedOf (formFields small f.holds))) =
-        length-form small f.holds (accepted-sound s f e) in
-        let t : tri m ≡ tri (length (storedOf (formFields small f.holds))) = ap tri em in
+    form_long a p m ea ep em =
+        let l : length bytes ≡ 36 + 4 * length f.holds.arcs + 24 * length f.holds.labels + 8 * (tri (length (stored_of (form_fields small f.holds))) + length (stored_of (form_fields small f.holds))) =
+        length_form small f.holds (accepted_sound s f e) in
+        let t : tri m ≡ tri (length (stored_of (form_fields small f.holds))) = ap tri em in
         omega arith
 
 -- what was laid at the front of a room
 pub front_of : (l room : List ℕ) (n : ℕ) → length l ≡ n → n ≤ length room → take n (lay room 0 l) ≡ l
-front_of l room n e h = ap (take n) (lay-front room l (subst (λ m. m ≤ length room) (sym e) h)) ∙ take_at l (drop (length l) room) n e
+front_of l room n e h = ap (take n) (lay_front room l (subst (λ m. m ≤ length room) (sym e) h)) ∙ take_at l (drop (length l) room) n e

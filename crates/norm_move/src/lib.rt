@@ -1,9 +1,9 @@
 // A normal file moved to the small form, or back to the old one: its bytes in that form into lent room, or the first refusal with its place, which
 // changes nothing. 20 comes last.
 ghost use Rattle.std.specs.Prelude.{◌≡◌, true, false, length};
-ghost use Rattle.norm_read.specs.Normal.{readNormal, shownNormal, toldNormalRead};
+ghost use Rattle.norm_read.specs.Normal.{read_normal, shown_normal, told_normal_read};
 ghost use Rattle.byte_section.specs.declared.ReadAnswer.TheVariants.{Read};
-ghost use Rattle.norm_move.specs.Move.{moveAnswer, moveLeft, toldMove};
+ghost use Rattle.norm_move.specs.Move.{move_answer, move_left, told_move};
 
 use byte_section::ReadAnswer;
 use norm_read::NormalRead;
@@ -19,8 +19,8 @@ pub enum MoveAnswer {
 
 // A file that was read: 20, else its bytes in the form.
 fn move_read(file: &[u8], r: NormalRead, is_small: bool, out: &mut [u8]) -> MoveAnswer
-    requires { (toldNormalRead r ≡ shownNormal (readNormal file.now)) × (r.answer ≡ Read) }
-    ensures { (toldMove result ≡ moveAnswer is_small file.now (length out.old)) × (out.new ≡ moveLeft is_small file.now out.old) }
+    requires { (told_normal_read r ≡ shown_normal (read_normal file.now)) × (r.answer ≡ Read) }
+    ensures { (told_move result ≡ move_answer is_small file.now (length out.old)) × (out.new ≡ move_left is_small file.now out.old) }
 {
     let mut w: [usize; LABELS_MOST] = [0; LABELS_MOST];
     let mut u: [usize; LABELS_MOST] = [0; LABELS_MOST];
@@ -36,7 +36,7 @@ fn move_read(file: &[u8], r: NormalRead, is_small: bool, out: &mut [u8]) -> Move
 }
 
 fn move_to(file: &[u8], is_small: bool, out: &mut [u8]) -> MoveAnswer
-    ensures { (toldMove result ≡ moveAnswer is_small file.now (length out.old)) × (out.new ≡ moveLeft is_small file.now out.old) }
+    ensures { (told_move result ≡ move_answer is_small file.now (length out.old)) × (out.new ≡ move_left is_small file.now out.old) }
 {
     let r = norm_read::read(file);
     let answer = r.answer;
@@ -48,16 +48,16 @@ fn move_to(file: &[u8], is_small: bool, out: &mut [u8]) -> MoveAnswer
 
 // A normal file of either form, moved to the small one.
 pub fn small(file: &[u8], out: &mut [u8]) -> MoveAnswer
-    ensures result_value { toldMove result ≡ moveAnswer true file.now (length out.old) }
-    ensures out_after { out.new ≡ moveLeft true file.now out.old }
+    ensures result_value { told_move result ≡ move_answer true file.now (length out.old) }
+    ensures out_after { out.new ≡ move_left true file.now out.old }
 {
     move_to(file, true, out)
 }
 
 // A normal file of either form, moved to the old one.
 pub fn old(file: &[u8], out: &mut [u8]) -> MoveAnswer
-    ensures result_value { toldMove result ≡ moveAnswer false file.now (length out.old) }
-    ensures out_after { out.new ≡ moveLeft false file.now out.old }
+    ensures result_value { told_move result ≡ move_answer false file.now (length out.old) }
+    ensures out_after { out.new ≡ move_left false file.now out.old }
 {
     move_to(file, false, out)
 }

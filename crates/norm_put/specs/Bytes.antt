@@ -2,14 +2,14 @@
 -- The bytes of a normal file in the parts that the code lays one after the other.
 use Rattle.std.specs.Prelude.{ℕ, List, [], ◌∷◌, ◌++◌, ℤ}
 use Rattle.byte_words.specs.Words.{bytes_of}
-use Rattle.norm_kinds.specs.Kinds.{sumBytes, totalsBytes}
+use Rattle.norm_kinds.specs.Kinds.{sum_bytes, totals_bytes}
 use Rattle.norm_kinds.specs.Bytes.{sectioned}
 
 -- a label but for its estimate
-unfoldable pub nameBytes : ℕ → ℕ → ℕ → ℕ → List ℕ
-nameBytes kind index arc weight = bytes_of 2 kind ++ (bytes_of 2 index ++ (bytes_of 4 arc ++ (bytes_of 4 weight ++ bytes_of 4 0)))
+unfoldable pub name_bytes : ℕ → ℕ → ℕ → ℕ → List ℕ
+name_bytes kind index arc weight = bytes_of 2 kind ++ (bytes_of 2 index ++ (bytes_of 4 arc ++ (bytes_of 4 weight ++ bytes_of 4 0)))
 
 -- what follows the labels
 unfoldable pub tail_bytes : List ℤ → List ℤ → ℕ → ℕ → List ℕ
 tail_bytes m r accepted square =
-    sectioned sumBytes m (sectioned sumBytes r (sectioned totalsBytes (record { accepted = accepted; square = square } ∷ []) []))
+    sectioned sum_bytes m (sectioned sum_bytes r (sectioned totals_bytes (record { accepted = accepted; square = square } ∷ []) []))

@@ -1,13 +1,13 @@
 // Inner to the writers of normal files: the bytes of a system that stands in three lent rooms, and the sections that a state's file shares.
 ghost use Rattle.std.specs.Prelude.{◌≡◌, ◌+◌, ◌*◌, ◌%◌, ◌≤◌, [], ◌++◌, length, take};
-ghost use Rattle.num_limits.specs.Capacities.{arcsMost, labelsMost, sumsMost};
+ghost use Rattle.num_limits.specs.Capacities.{arcs_most, labels_most, sums_most};
 ghost use Rattle.byte_words.specs.Words.{bytes_of, lay};
 ghost use Rattle.byte_words.specs.Stands.{stands};
 ghost use Rattle.num_packed.specs.Triangle.{tri};
-ghost use Rattle.norm_kinds.specs.Kinds.{arcNumberBytes, normalLabelBytes, sumBytes};
-ghost use Rattle.norm_kinds.specs.Bytes.{sectioned, normalBytes};
-ghost use Rattle.norm_room.specs.Room.{headsLong, labelInHeads, systemInRooms, fileLong};
-ghost use Rattle.norm_put.specs.Bytes.{nameBytes, tail_bytes};
+ghost use Rattle.norm_kinds.specs.Kinds.{arc_number_bytes, normal_label_bytes, sum_bytes};
+ghost use Rattle.norm_kinds.specs.Bytes.{sectioned, normal_bytes};
+ghost use Rattle.norm_room.specs.Room.{heads_long, label_in_heads, system_in_rooms, file_long};
+ghost use Rattle.norm_put.specs.Bytes.{name_bytes, tail_bytes};
 
 // ---- labels
 
@@ -27,7 +27,7 @@ fn low32(x: u64) -> u32
 // A label but for its estimate: 16 bytes.
 pub fn put_name(out: &mut [u8], at: usize, kind: u64, index: u64, arc: u64, weight: u64)
     requires { at + 16 ≤ length out.old }
-    ensures { out.new ≡ lay out.old at (nameBytes kind index arc weight) }
+    ensures { out.new ≡ lay out.old at (name_bytes kind index arc weight) }
 {
     byte_write::write_u16(out, at, low16(kind));
     byte_write::write_u16(out, at + 2, low16(index));
@@ -39,7 +39,7 @@ pub fn put_name(out: &mut [u8], at: usize, kind: u64, index: u64, arc: u64, weig
 // The label whose first number stands at k of the heads.
 fn put_label(heads: &[u64], k: usize, out: &mut [u8], at: usize)
     requires { (k + 5 ≤ length heads.now) × (at + 24 ≤ length out.old) }
-    ensures { out.new ≡ lay out.old at (normalLabelBytes (labelInHeads heads.now k)) }
+    ensures { out.new ≡ lay out.old at (normal_label_bytes (label_in_heads heads.now k)) }
 {
     put_name(out, at, heads[k], heads[k + 1], heads[k + 2], heads[k + 3]);
     byte_write::write_u64(out, at + 16, heads[k + 4]);
@@ -47,8 +47,8 @@ fn put_label(heads: &[u64], k: usize, out: &mut [u8], at: usize)
 
 // The parameters section: its count and n labels, of which the first stands at `from` of the heads.
 fn put_labels(heads: &[u64], from: usize, n: usize, out: &mut [u8], start: usize)
-    requires { (n ≤ labelsMost) × (from + 5 * n ≤ length heads.now) × (start + 4 + 24 * n ≤ length out.old) }
-    ensures { out.new ≡ lay out.old start (sectioned normalLabelBytes (stands (labelInHeads heads.now) 5 n from) []) }
+    requires { (n ≤ labels_most) × (from + 5 * n ≤ length heads.now) × (start + 4 + 24 * n ≤ length out.old) }
+    ensures { out.new ≡ lay out.old start (sectioned normal_label_bytes (stands (label_in_heads heads.now) 5 n from) []) }
 {
     byte_write::write_u32(out, start, n as u32);
     let mut k = from;
@@ -66,8 +66,8 @@ fn put_labels(heads: &[u64], from: usize, n: usize, out: &mut [u8], start: usize
 
 // The arcs section, the first of the file: its count and the first n of the heads.
 fn put_arcs(heads: &[u64], n: usize, out: &mut [u8])
-    requires { (n ≤ arcsMost) × (n ≤ length heads.now) × (4 + 4 * n ≤ length out.old) }
-    ensures { out.new ≡ lay out.old 0 (sectioned arcNumberBytes (take n heads.now) []) }
+    requires { (n ≤ arcs_most) × (n ≤ length heads.now) × (4 + 4 * n ≤ length out.old) }
+    ensures { out.new ≡ lay out.old 0 (sectioned arc_number_bytes (take n heads.now) []) }
 {
     byte_write::write_u32(out, 0, n as u32);
     let mut at: usize = 4;
@@ -83,8 +83,8 @@ fn put_arcs(heads: &[u64], n: usize, out: &mut [u8])
 
 // A section of n sums: its count and the first n of a room.
 fn put_sums(sums: &[i64], n: usize, out: &mut [u8], start: usize)
-    requires { (n ≤ sumsMost) × (n ≤ length sums.now) × (start + 4 + 8 * n ≤ length out.old) }
-    ensures { out.new ≡ lay out.old start (sectioned sumBytes (take n sums.now) []) }
+    requires { (n ≤ sums_most) × (n ≤ length sums.now) × (start + 4 + 8 * n ≤ length out.old) }
+    ensures { out.new ≡ lay out.old start (sectioned sum_bytes (take n sums.now) []) }
 {
     byte_write::write_u32(out, start, n as u32);
     let mut at = start + 4;
@@ -116,7 +116,7 @@ pub fn put_tail(
     out: &mut [u8],
     at: usize,
 )
-    requires p_le_labels_most { (p ≤ labelsMost) × (tri p ≤ length matrix.now) × (p ≤ length rights.now) }
+    requires p_le_labels_most { (p ≤ labels_most) × (tri p ≤ length matrix.now) × (p ≤ length rights.now) }
     requires p_in_bounds { at + 28 + 8 * tri p + 8 * p ≤ length out.old }
     ensures { out.new ≡ lay out.old at (tail_bytes (take (tri p) matrix.now) (take p rights.now) accepted square) }
 {
@@ -138,10 +138,10 @@ pub fn put(
     rights: &[i64],
     out: &mut [u8],
 )
-    requires arcs_le_arcs_most { (arcs ≤ arcsMost) × (parameters ≤ labelsMost) }
-    requires parameters_in_bounds { (headsLong arcs parameters ≤ length heads.now) × (tri parameters ≤ length matrix.now) × (parameters ≤ length rights.now) }
-    requires parameters_in_bounds_2 { fileLong arcs parameters ≤ length out.old }
-    ensures { out.new ≡ lay out.old 0 (normalBytes (systemInRooms arcs parameters heads.now matrix.now rights.now)) }
+    requires arcs_le_arcs_most { (arcs ≤ arcs_most) × (parameters ≤ labels_most) }
+    requires parameters_in_bounds { (heads_long arcs parameters ≤ length heads.now) × (tri parameters ≤ length matrix.now) × (parameters ≤ length rights.now) }
+    requires parameters_in_bounds_2 { file_long arcs parameters ≤ length out.old }
+    ensures { out.new ≡ lay out.old 0 (normal_bytes (system_in_rooms arcs parameters heads.now matrix.now rights.now)) }
 {
     let totals = arcs + 5 * parameters;
     let labels_at = 4 + 4 * arcs;

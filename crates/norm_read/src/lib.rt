@@ -1,11 +1,11 @@
 // The normal file of either form, read: for every list of bytes the numbers of arcs and parameters, the form, and where the sums stand, or the
 // first refusal and its place. Nothing is unpacked: labels are judged and sums are walked over where they stand.
 ghost use Rattle.std.specs.Prelude.{◌≡◌, ◌+◌, ◌≤◌, length};
-ghost use Rattle.num_limits.specs.Capacities.{arcsMost, labelsMost};
+ghost use Rattle.num_limits.specs.Capacities.{arcs_most, labels_most};
 ghost use Rattle.refusal.specs.Number.{number_of};
-ghost use Rattle.norm_read.specs.Normal.{readNormal, shownNormal, toldNormalRead};
-ghost use Rattle.norm_sections.specs.Sums.{sumsPart, Room};
-ghost use Rattle.norm_read.specs.Parts.{shownBad, shownSums, shownRest};
+ghost use Rattle.norm_read.specs.Normal.{read_normal, shown_normal, told_normal_read};
+ghost use Rattle.norm_sections.specs.Sums.{sums_part, Room};
+ghost use Rattle.norm_read.specs.Parts.{shown_bad, shown_sums, shown_rest};
 
 use byte_section::ReadAnswer;
 use norm_heads::HeadsAnswer;
@@ -29,7 +29,7 @@ pub struct NormalRead {
 }
 
 fn refused(r: Refusal, place: usize) -> NormalRead
-    ensures { toldNormalRead result ≡ shownBad (number_of r) place }
+    ensures { told_normal_read result ≡ shown_bad (number_of r) place }
 {
     NormalRead {
         answer: ReadAnswer::Refused(r, place),
@@ -54,9 +54,9 @@ fn judge_sums(
     rights: usize,
     totals: usize,
 ) -> NormalRead
-    requires arcs_le_arcs_most { (arcs ≤ arcsMost) × (stored ≤ labelsMost) }
+    requires arcs_le_arcs_most { (arcs ≤ arcs_most) × (stored ≤ labels_most) }
     requires room { Room (length s.now) stored (record { matrix = matrix; rights = rights; totals = totals }) }
-    ensures { toldNormalRead result ≡ shownSums s.now arcs parameters stored is_small (record { matrix = matrix; rights = rights; totals = totals }) }
+    ensures { told_normal_read result ≡ shown_sums s.now arcs parameters stored is_small (record { matrix = matrix; rights = rights; totals = totals }) }
 {
     match norm_walk::first_unsound(s, arcs, stored, matrix, rights, totals, is_small) {
         Unsound::Nowhere => NormalRead {
@@ -85,8 +85,8 @@ fn read_rest(
     is_small: bool,
     at: usize,
 ) -> NormalRead
-    requires { (arcs ≤ arcsMost) × (stored ≤ labelsMost) }
-    ensures { toldNormalRead result ≡ shownRest s.now arcs parameters stored is_small (sumsPart s.now stored at) }
+    requires { (arcs ≤ arcs_most) × (stored ≤ labels_most) }
+    ensures { told_normal_read result ≡ shown_rest s.now arcs parameters stored is_small (sums_part s.now stored at) }
 {
     match norm_sections::read_sums(s, at, stored) {
         SumsAnswer::Read(matrix, rights, totals) => judge_sums(
@@ -98,7 +98,7 @@ fn read_rest(
 
 // The five sections in their order, then no byte more, then sound sums.
 pub fn read(file: &[u8]) -> NormalRead
-    ensures { toldNormalRead result ≡ shownNormal (readNormal file.now) }
+    ensures { told_normal_read result ≡ shown_normal (read_normal file.now) }
 {
     match norm_heads::read_heads(file) {
         HeadsAnswer::Read(arcs, parameters, stored, is_small, next) => read_rest(

@@ -4,7 +4,7 @@ use Rattle.std.specs.Prelude.{ℕ, ◌+◌, ◌*◌, ◌-◌, ◌≤◌, List, l
 use Rattle.num_whole.specs.Tests.{less, pick}
 use Rattle.num_whole.specs.Answer.{Judged, good, bad}
 use Rattle.refusal.specs.Number.{number_of}
-use Rattle.byte_section.specs.Section.{and_then, countAt, closed}
+use Rattle.byte_section.specs.Section.{and_then, count_at, closed}
 use Rattle.num_packed.specs.Triangle.{tri}
 use Rattle.norm_sections.specs.declared.PlaceAnswer.{PlaceAnswer}
 use Rattle.norm_sections.specs.declared.PlaceAnswer.TheVariants as PlaceAnswers
@@ -12,9 +12,9 @@ use Rattle.norm_sections.specs.declared.SumsAnswer.{SumsAnswer}
 use Rattle.norm_sections.specs.declared.SumsAnswer.TheVariants as SumsAnswers
 
 -- ---- sections of n records of one size, with no limits and no order: the place after one
-unfoldable pub plainPart : List ℕ → ℕ → ℕ → ℕ → Judged ℕ
-plainPart s at n size =
-    and_then (countAt s at n n) λ k.
+unfoldable pub plain_part : List ℕ → ℕ → ℕ → ℕ → Judged ℕ
+plain_part s at n size =
+    and_then (count_at s at n n) λ k.
     pick (less (length s - (at + 4)) (n * size)) (bad 1 (length s)) (good (at + 4 + n * size))
 
 -- where the records of the last three sections begin
@@ -24,16 +24,16 @@ pub record Places : Type 0 where
   pub totals : ℕ
 
 -- the last section, with what stands before it
-unfoldable pub totalsPart : List ℕ → ℕ → ℕ → ℕ → Judged Places
-totalsPart s at matrix rights =
-    and_then (plainPart s at 1 16) λ end.
+unfoldable pub totals_part : List ℕ → ℕ → ℕ → ℕ → Judged Places
+totals_part s at matrix rights =
+    and_then (plain_part s at 1 16) λ end.
     closed s end (record { matrix = matrix; rights = rights; totals = at + 4 })
 
-unfoldable pub sumsPart : List ℕ → ℕ → ℕ → Judged Places
-sumsPart s p at =
-    and_then (plainPart s at (tri p) 8) λ sides.
-    and_then (plainPart s sides p 8) λ last.
-    totalsPart s last (at + 4) (sides + 4)
+unfoldable pub sums_part : List ℕ → ℕ → ℕ → Judged Places
+sums_part s p at =
+    and_then (plain_part s at (tri p) 8) λ sides.
+    and_then (plain_part s sides p 8) λ last.
+    totals_part s last (at + 4) (sides + 4)
 
 -- the sums of p parameters stand within so many bytes
 pub record Room (long p : ℕ) (x : Places) : Type 0 where
@@ -42,10 +42,10 @@ pub record Room (long p : ℕ) (x : Places) : Type 0 where
   pub totals : x.totals + 16 ≤ long
 
 -- ---- what the answers say
-abbrev pub toldPlace : PlaceAnswer → Judged ℕ
-toldPlace (PlaceAnswers.After n) = good n
-toldPlace (PlaceAnswers.Refused r place) = bad (number_of r) place
+abbrev pub told_place : PlaceAnswer → Judged ℕ
+told_place (PlaceAnswers.After n) = good n
+told_place (PlaceAnswers.Refused r place) = bad (number_of r) place
 
-abbrev pub toldSums : SumsAnswer → Judged Places
-toldSums (SumsAnswers.Read m r t) = good (record { matrix = m; rights = r; totals = t })
-toldSums (SumsAnswers.Refused r place) = bad (number_of r) place
+abbrev pub told_sums : SumsAnswer → Judged Places
+told_sums (SumsAnswers.Read m r t) = good (record { matrix = m; rights = r; totals = t })
+told_sums (SumsAnswers.Refused r place) = bad (number_of r) place

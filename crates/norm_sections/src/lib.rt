@@ -1,8 +1,8 @@
 // Inner to `norm_read`: the sections of a normal file's sums, read by their counts and lengths.
 ghost use Rattle.std.specs.Prelude.{◌≡◌, ◌≤◌};
-ghost use Rattle.num_limits.specs.Capacities.{labelsMost, sumsMost};
+ghost use Rattle.num_limits.specs.Capacities.{labels_most, sums_most};
 ghost use Rattle.num_packed.specs.Triangle.{tri};
-ghost use Rattle.norm_sections.specs.Sums.{plainPart, totalsPart, sumsPart, toldPlace, toldSums};
+ghost use Rattle.norm_sections.specs.Sums.{plain_part, totals_part, sums_part, told_place, told_sums};
 
 use byte_section::CountAnswer;
 use refusal::Refusal;
@@ -23,8 +23,8 @@ pub enum SumsAnswer {
 
 // A section whose count can only be n, of records that are judged by their length alone.
 fn read_plain(s: &[u8], at: usize, n: u32, size: usize) -> PlaceAnswer
-    requires { (n ≤ sumsMost) × (size ≤ 16) }
-    ensures { toldPlace result ≡ plainPart s.now at n size }
+    requires { (n ≤ sums_most) × (size ≤ 16) }
+    ensures { told_place result ≡ plain_part s.now at n size }
 {
     match byte_section::read_count(s, at, n, n) {
         CountAnswer::Is(_) => {
@@ -42,15 +42,15 @@ fn read_plain(s: &[u8], at: usize, n: u32, size: usize) -> PlaceAnswer
 
 // How many matrix sums p parameters have.
 fn triangle(p: usize) -> u32
-    requires { p ≤ labelsMost }
-    ensures { (result ≡ tri p) × (result ≤ sumsMost) }
+    requires { p ≤ labels_most }
+    ensures { (result ≡ tri p) × (result ≤ sums_most) }
 {
     num_packed::triangle(p) as u32
 }
 
 // The totals section, the last one; `matrix` and `rights` are where the sums before it begin.
 fn read_totals(s: &[u8], at: usize, matrix: usize, rights: usize) -> SumsAnswer
-    ensures { toldSums result ≡ totalsPart s.now at matrix rights }
+    ensures { told_sums result ≡ totals_part s.now at matrix rights }
 {
     match read_plain(s, at, 1, 16) {
         PlaceAnswer::After(end) => {
@@ -66,8 +66,8 @@ fn read_totals(s: &[u8], at: usize, matrix: usize, rights: usize) -> SumsAnswer
 
 // The matrix sums, the right sides and the totals of p parameters, and then no byte more.
 pub fn read_sums(s: &[u8], at: usize, p: usize) -> SumsAnswer
-    requires { p ≤ labelsMost }
-    ensures { toldSums result ≡ sumsPart s.now p at }
+    requires { p ≤ labels_most }
+    ensures { told_sums result ≡ sums_part s.now p at }
 {
     match read_plain(s, at, triangle(p), 8) {
         PlaceAnswer::After(sides) => match read_plain(s, sides, p as u32, 8) {

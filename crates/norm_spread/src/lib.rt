@@ -2,16 +2,16 @@
 ghost use Rattle.std.specs.Prelude.{◌≡◌, ◌+◌, ◌*◌, ◌≤◌, pos, length};
 ghost use Rattle.std.proofs.lemmas.List.Edits.{sets};
 ghost use Rattle.std.specs.Int.{w64};
-ghost use Rattle.num_limits.specs.Capacities.{labelsMost, sumsMost};
+ghost use Rattle.num_limits.specs.Capacities.{labels_most, sums_most};
 ghost use Rattle.num_whole.specs.Tests.{same, pick};
-ghost use Rattle.byte_words.specs.Words.{signedWord};
+ghost use Rattle.byte_words.specs.Words.{signed_word};
 ghost use Rattle.num_packed.specs.Triangle.{tri};
-ghost use Rattle.norm_labels.specs.Table.{rows_of, columnsOf};
-ghost use Rattle.norm_spread.specs.Spread.{spreadRowAt, unlessTwo, spreadColumnAt};
+ghost use Rattle.norm_labels.specs.Table.{rows_of, columns_of};
+ghost use Rattle.norm_spread.specs.Spread.{spread_row_at, unless_two, spread_column_at};
 
 // The sum at a place, 0 for a label whose field is 2.
 fn sum_for(s: &[u8], at: usize, field: u32) -> i64
-    ensures { result ≡ unlessTwo field (signedWord w64 s.now at) }
+    ensures { result ≡ unless_two field (signed_word w64 s.now at) }
 {
     if field == 2 {
         return 0;
@@ -31,9 +31,9 @@ fn counted(field: u32) -> usize
 
 // The stored sums that begin at a place, for the first n labels, into the room from k on.
 pub fn spread_row(s: &[u8], labels: usize, n: usize, start: usize, out: &mut [i64], k: usize)
-    requires n_in_bounds { (labels + 24 * n ≤ length s.now) × (n ≤ labelsMost) }
-    requires start_in_bounds { (start ≤ length s.now + 8 * sumsMost) × (k + n ≤ length out.old) }
-    ensures { out.new ≡ sets out.old k (rows_of (spreadRowAt s.now labels start) 0 n) }
+    requires n_in_bounds { (labels + 24 * n ≤ length s.now) × (n ≤ labels_most) }
+    requires start_in_bounds { (start ≤ length s.now + 8 * sums_most) × (k + n ≤ length out.old) }
+    ensures { out.new ≡ sets out.old k (rows_of (spread_row_at s.now labels start) 0 n) }
 {
     let mut at = start;
     let mut label = labels;
@@ -69,9 +69,9 @@ fn spread_column(
     out: &mut [i64],
     k: usize,
 )
-    requires n_in_bounds { (labels + 24 * n ≤ length s.now) × (n ≤ labelsMost) }
-    requires start_in_bounds { (start ≤ length s.now + 8 * sumsMost) × (k + n ≤ length out.old) }
-    ensures { out.new ≡ sets out.old k (rows_of (λ i. unlessTwo field (spreadRowAt s.now labels start i)) 0 n) }
+    requires n_in_bounds { (labels + 24 * n ≤ length s.now) × (n ≤ labels_most) }
+    requires start_in_bounds { (start ≤ length s.now + 8 * sums_most) × (k + n ≤ length out.old) }
+    ensures { out.new ≡ sets out.old k (rows_of (λ i. unless_two field (spread_row_at s.now labels start i)) 0 n) }
 {
     if field == 2 {
         clear(out, k, n);
@@ -82,9 +82,9 @@ fn spread_column(
 
 // The stored columns that begin at a place, for all p labels.
 pub fn spread_matrix(s: &[u8], labels: usize, p: usize, start: usize, out: &mut [i64])
-    requires p_in_bounds { (labels + 24 * p ≤ length s.now) × (p ≤ labelsMost) }
+    requires p_in_bounds { (labels + 24 * p ≤ length s.now) × (p ≤ labels_most) }
     requires start_in_bounds { (start ≤ length s.now) × (tri p ≤ length out.old) }
-    ensures { out.new ≡ sets out.old 0 (columnsOf (spreadColumnAt s.now labels start) 0 p) }
+    ensures { out.new ≡ sets out.old 0 (columns_of (spread_column_at s.now labels start) 0 p) }
 {
     let mut r: usize = 0;
     let mut k: usize = 0;

@@ -6,61 +6,61 @@ use mathlib.Core.List.{List, [], ◌∷◌, ◌++◌, map, append_assoc, append-
 use lib.ListN.{length, take, length-map}
 use lib.Seq.{length-take-le}
 use mir.Syntax.{w64}
-use Rattle.byte_words.specs.Words.{bytes_of, signedBytes, lay}
-use Rattle.byte_words.proofs.Words.{length-bytesOf, lay-append}
+use Rattle.byte_words.specs.Words.{bytes_of, signed_bytes, lay}
+use Rattle.byte_words.proofs.Words.{length_bytes_of, lay_append}
 use Rattle.byte_section.specs.Section.{encoded}
 use Rattle.arc_limits.specs.declared.Label.{Label}
-use Rattle.arc_heading.specs.Judge.{labelsOf}
+use Rattle.arc_heading.specs.Judge.{labels_of}
 use Rattle.arc_heading.specs.declared.Heading.{Heading}
 use Rattle.num_packed.specs.Triangle.{tri}
 use Rattle.take_tally.specs.Tally.{accepted}
 use Rattle.take_state.specs.State.{State}
-use Rattle.norm_kinds.specs.Kinds.{arcNumberBytes, normalLabelBytes}
+use Rattle.norm_kinds.specs.Kinds.{arc_number_bytes, normal_label_bytes}
 use Rattle.norm_kinds.specs.Bytes.{sectioned}
-use Rattle.norm_room.specs.Room.{fileLong}
-use Rattle.norm_put.specs.Bytes.{nameBytes, tail_bytes}
-use Rattle.norm_put.proofs.Laid.{length-name, file-laid, file-long}
-use Rattle.norm_state.specs.OfState.{arcFor, labelOfArc, systemOfState, stateBytes}
+use Rattle.norm_room.specs.Room.{file_long}
+use Rattle.norm_put.specs.Bytes.{name_bytes, tail_bytes}
+use Rattle.norm_put.proofs.Laid.{length_name, file_laid, file_long_lem}
+use Rattle.norm_state.specs.OfState.{arc_for, label_of_arc, system_of_state, state_bytes}
 
 -- a label: its name, then its estimate
-pub label-laid : (out : List ℕ) (at arc : ℕ) (l : Label)
-    → lay (lay out at (nameBytes l.kind l.index (arcFor arc l.kind) l.weight)) (at + 16) (signedBytes w64 l.estimate) ≡ lay out at (normalLabelBytes (labelOfArc arc l))
-unfolding normalLabelBytes labelOfArc nameBytes
-label-laid out at arc l =
-    lay-append out at (at + 16) _ _ (ap (λ n. at + n) (sym (length-name _ _ _ _))) ∙ ap (lay out at) (simp append_assoc)
+pub label_laid : (out : List ℕ) (at arc : ℕ) (l : Label)
+    → lay (lay out at (name_bytes l.kind l.index (arc_for arc l.kind) l.weight)) (at + 16) (signed_bytes w64 l.estimate) ≡ lay out at (normal_label_bytes (label_of_arc arc l))
+unfolding normal_label_bytes label_of_arc name_bytes
+label_laid out at arc l =
+    lay_append out at (at + 16) _ _ (ap (λ n. at + n) (sym (length_name _ _ _ _))) ∙ ap (lay out at) (simp append_assoc)
 
 -- the arcs section of one arc
-pub arc-laid : (out : List ℕ) (arc : ℕ) → lay (lay out 0 (bytes_of 4 1)) 4 (bytes_of 4 arc) ≡ lay out 0 (sectioned arcNumberBytes (arc ∷ []) [])
-unfolding encoded arcNumberBytes
-arc-laid out arc = lay-append out 0 4 _ _ (simp length-bytesOf) ∙ ap (λ b. lay out 0 (bytes_of 4 1 ++ b)) (simp append-nil)
+pub arc_laid : (out : List ℕ) (arc : ℕ) → lay (lay out 0 (bytes_of 4 1)) 4 (bytes_of 4 arc) ≡ lay out 0 (sectioned arc_number_bytes (arc ∷ []) [])
+unfolding encoded arc_number_bytes
+arc_laid out arc = lay_append out 0 4 _ _ (simp length_bytes_of) ∙ ap (λ b. lay out 0 (bytes_of 4 1 ++ b)) (simp append-nil)
 
-pub labels-long : (h : Heading) → h.parameters ≤ length h.labels → length (map (labelOfArc h.settings.arc) (labelsOf h)) ≡ h.parameters
-unfolding labelsOf
-labels-long h few = length-map (take h.parameters h.labels) (labelOfArc h.settings.arc) ∙ length-take-le h.parameters h.labels few
+pub labels_long : (h : Heading) → h.parameters ≤ length h.labels → length (map (label_of_arc h.settings.arc) (labels_of h)) ≡ h.parameters
+unfolding labels_of
+labels_long h few = length-map (take h.parameters h.labels) (label_of_arc h.settings.arc) ∙ length-take-le h.parameters h.labels few
 
 -- the whole file
 module _ (h : Heading) (s : State) (few : h.parameters ≤ length h.labels) where
-  pub labels-many : length (systemOfState h s).labels ≡ h.parameters
-  unfolding systemOfState
-  labels-many = labels-long h few
+  pub labels_many : length (system_of_state h s).labels ≡ h.parameters
+  unfolding system_of_state
+  labels_many = labels_long h few
 
-  pub state-laid : (out : List ℕ)
-      → let a = lay out 0 (sectioned arcNumberBytes (h.settings.arc ∷ []) []) in
-      let b = lay a 8 (sectioned normalLabelBytes (map (labelOfArc h.settings.arc) (labelsOf h)) []) in
+  pub state_laid : (out : List ℕ)
+      → let a = lay out 0 (sectioned arc_number_bytes (h.settings.arc ∷ []) []) in
+      let b = lay a 8 (sectioned normal_label_bytes (map (label_of_arc h.settings.arc) (labels_of h)) []) in
       lay b (12 + 24 * h.parameters) (tail_bytes (take (tri h.parameters) s.matrix) (take h.parameters s.rights) (accepted s.tally) s.tally.square)
-      ≡ lay out 0 (stateBytes h s)
-  unfolding stateBytes systemOfState
-  state-laid out = file-laid 1 h.parameters (systemOfState h s) refl labels-many out
+      ≡ lay out 0 (state_bytes h s)
+  unfolding state_bytes system_of_state
+  state_laid out = file_laid 1 h.parameters (system_of_state h s) refl labels_many out
 
   module _ (sums : tri h.parameters ≤ length s.matrix) (sides : h.parameters ≤ length s.rights) where
-    pub matrix-many : length (systemOfState h s).matrix ≡ tri h.parameters
-    unfolding systemOfState
-    matrix-many = length-take-le (tri h.parameters) s.matrix sums
+    pub matrix_many : length (system_of_state h s).matrix ≡ tri h.parameters
+    unfolding system_of_state
+    matrix_many = length-take-le (tri h.parameters) s.matrix sums
 
-    pub rights-many : length (systemOfState h s).rights ≡ h.parameters
-    unfolding systemOfState
-    rights-many = length-take-le h.parameters s.rights sides
+    pub rights_many : length (system_of_state h s).rights ≡ h.parameters
+    unfolding system_of_state
+    rights_many = length-take-le h.parameters s.rights sides
 
-    pub state-long : length (stateBytes h s) ≡ fileLong 1 h.parameters
-    unfolding stateBytes systemOfState
-    state-long = file-long 1 h.parameters (systemOfState h s) refl labels-many matrix-many rights-many
+    pub state_long : length (state_bytes h s) ≡ file_long 1 h.parameters
+    unfolding state_bytes system_of_state
+    state_long = file_long_lem 1 h.parameters (system_of_state h s) refl labels_many matrix_many rights_many

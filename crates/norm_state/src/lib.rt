@@ -1,17 +1,17 @@
 // The normal file of a state: what the one arc of a heading has summed, as the bytes of a normal file, or a refusal that changes nothing.
 ghost use Rattle.std.specs.Prelude.{◌≡◌, [], map, ◌+◌, ◌*◌, ◌≤◌, length};
-ghost use Rattle.num_limits.specs.Capacities.{parametersMost};
+ghost use Rattle.num_limits.specs.Capacities.{parameters_most};
 ghost use Rattle.byte_words.specs.Words.{lay};
 ghost use Rattle.refusal.specs.First.{answered};
-ghost use Rattle.arc_heading.specs.Judge.{labelsOf};
-ghost use Rattle.refusal.specs.Told.{toldVerdict};
+ghost use Rattle.arc_heading.specs.Judge.{labels_of};
+ghost use Rattle.refusal.specs.Told.{told_verdict};
 ghost use Rattle.num_packed.specs.Triangle.{tri};
 ghost use Rattle.take_state.specs.State.{state_of};
-ghost use Rattle.norm_kinds.specs.Kinds.{normalLabelBytes};
+ghost use Rattle.norm_kinds.specs.Kinds.{normal_label_bytes};
 ghost use Rattle.norm_kinds.specs.Bytes.{sectioned};
-ghost use Rattle.norm_room.specs.Room.{fileLong};
-ghost use Rattle.byte_section.specs.Told.{toldWrite};
-ghost use Rattle.norm_state.specs.OfState.{arcFor, labelOfArc, stateBytes, heldNumber, fileOf, stateLeftIn};
+ghost use Rattle.norm_room.specs.Room.{file_long};
+ghost use Rattle.byte_section.specs.Told.{told_write};
+ghost use Rattle.norm_state.specs.OfState.{arc_for, label_of_arc, state_bytes, held_number, file_of, state_left_in};
 
 use arc_heading::Heading;
 use arc_limits::Label;
@@ -21,14 +21,14 @@ use take_tally::Tally;
 
 // The arc that a label of a kind is of: 0 for kinds 1 and 2, which all arcs share.
 fn arc_for(arc: u32, kind: u16) -> u32
-    ensures { result ≡ arcFor arc kind }
+    ensures { result ≡ arc_for arc kind }
 {
     if kind <= 2 { 0 } else { arc }
 }
 
 fn put_label(out: &mut [u8], at: usize, arc: u32, l: Label)
     requires { at + 24 ≤ length out.old }
-    ensures { out.new ≡ lay out.old at (normalLabelBytes (labelOfArc arc l)) }
+    ensures { out.new ≡ lay out.old at (normal_label_bytes (label_of_arc arc l)) }
 {
     let of = arc_for(arc, l.kind);
     norm_put::put_name(
@@ -44,8 +44,8 @@ fn put_label(out: &mut [u8], at: usize, arc: u32, l: Label)
 
 // The parameters section: its count and the labels that count.
 fn put_labels(h: Heading, out: &mut [u8], start: usize)
-    requires { (h.parameters ≤ parametersMost) × (start + 4 + 24 * h.parameters ≤ length out.old) }
-    ensures { out.new ≡ lay out.old start (sectioned normalLabelBytes (map (labelOfArc h.settings.arc) (labelsOf h)) []) }
+    requires { (h.parameters ≤ parameters_most) × (start + 4 + 24 * h.parameters ≤ length out.old) }
+    ensures { out.new ≡ lay out.old start (sectioned normal_label_bytes (map (label_of_arc h.settings.arc) (labels_of h)) []) }
 {
     let n = h.parameters;
     let s = h.settings;
@@ -62,9 +62,9 @@ fn put_labels(h: Heading, out: &mut [u8], start: usize)
 
 // The five sections, each after its count.
 fn put_file(h: Heading, t: Tally, matrix: &[i64], rights: &[i64], out: &mut [u8])
-    requires parameters_le_parameters_most { (h.parameters ≤ parametersMost) × (tri h.parameters ≤ length matrix.now) × (h.parameters ≤ length rights.now) }
-    requires parameters_in_bounds { fileLong 1 h.parameters ≤ length out.old }
-    ensures { out.new ≡ lay out.old 0 (stateBytes h (state_of matrix.now rights.now t)) }
+    requires parameters_le_parameters_most { (h.parameters ≤ parameters_most) × (tri h.parameters ≤ length matrix.now) × (h.parameters ≤ length rights.now) }
+    requires parameters_in_bounds { file_long 1 h.parameters ≤ length out.old }
+    ensures { out.new ≡ lay out.old 0 (state_bytes h (state_of matrix.now rights.now t)) }
 {
     let s = h.settings;
     let p = h.parameters;
@@ -78,7 +78,7 @@ fn put_file(h: Heading, t: Tally, matrix: &[i64], rights: &[i64], out: &mut [u8]
 
 // 2, 4, 5, 20 for the sums' rooms, 6, else sound. Of a heading that is sound the state's judge has 20 and 6 left.
 fn judge_held(h: Heading, t: Tally, matrix: &[i64], rights: &[i64]) -> Verdict
-    ensures { toldVerdict result ≡ answered (heldNumber h (state_of matrix.now rights.now t)) tt }
+    ensures { told_verdict result ≡ answered (held_number h (state_of matrix.now rights.now t)) tt }
 {
     match arc_heading::judge(h) {
         Verdict::Refused(refusal) => Verdict::Refused(refusal),
@@ -88,8 +88,8 @@ fn judge_held(h: Heading, t: Tally, matrix: &[i64], rights: &[i64]) -> Verdict
 
 // The whole file at the start of a lent buffer, which keeps its rest; a refusal changes nothing.
 pub fn of_state(h: Heading, t: Tally, matrix: &[i64], rights: &[i64], out: &mut [u8]) -> WriteAnswer
-    ensures answer { toldWrite result ≡ fileOf h (state_of matrix.now rights.now t) (length out.old) }
-    ensures left { out.new ≡ stateLeftIn h (state_of matrix.now rights.now t) out.old }
+    ensures answer { told_write result ≡ file_of h (state_of matrix.now rights.now t) (length out.old) }
+    ensures left { out.new ≡ state_left_in h (state_of matrix.now rights.now t) out.old }
 {
     match judge_held(h, t, matrix, rights) {
         Verdict::Refused(refusal) => WriteAnswer::Refused(refusal),

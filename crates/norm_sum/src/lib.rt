@@ -2,19 +2,19 @@
 ghost use Rattle.std.specs.Prelude.{◌≡◌, Bool, ℕ, ◌+◌, ◌*◌, ◌≤◌, ◌<◌, ◌^◌, pos, length, get_or};
 ghost use Rattle.std.specs.Int.Signed.{lt_z};
 ghost use Rattle.std.specs.Int.{w64};
-ghost use Rattle.num_limits.specs.Capacities.{labelsMost};
-ghost use Rattle.byte_words.specs.Words.{signedWord};
+ghost use Rattle.num_limits.specs.Capacities.{labels_most};
+ghost use Rattle.byte_words.specs.Words.{signed_word};
 ghost use Rattle.num_packed.specs.Triangle.{tri};
-ghost use Rattle.num_packed.specs.Sound.{entry, is_zero, breaksSide};
-ghost use Rattle.norm_system.specs.System.{breaksIn};
-ghost use Rattle.norm_sum.specs.Sums.{sumsAt, past, leastOf};
+ghost use Rattle.num_packed.specs.Sound.{entry, is_zero, breaks_side};
+ghost use Rattle.norm_system.specs.System.{breaks_in};
+ghost use Rattle.norm_sum.specs.Sums.{sums_at, past, least_of};
 
 // ---- one sum
 
 // The sum at a place where it is whole, read from a part of just its bytes, so that nothing is tested.
 pub fn sum_from(s: &[u8], at: usize) -> i64
     requires { at + 8 ≤ length s.now }
-    ensures { result ≡ signedWord w64 s.now at }
+    ensures { result ≡ signed_word w64 s.now at }
 {
     let e = at + 8;
     byte_signed::read_i64(&s[at..e], 0)
@@ -23,7 +23,7 @@ pub fn sum_from(s: &[u8], at: usize) -> i64
 // Sum k of those that begin at a place.
 fn sum_at(s: &[u8], start: usize, k: usize) -> i64
     requires { start + 8 * k + 8 ≤ length s.now }
-    ensures { (n : ℕ) → k < n → result ≡ get_or (sumsAt s.now start n) k (pos 0) }
+    ensures { (n : ℕ) → k < n → result ≡ get_or (sums_at s.now start n) k (pos 0) }
 {
     sum_from(s, start + 8 * k)
 }
@@ -47,7 +47,7 @@ fn is_zero(x: i64) -> bool
 
 // The least value that a diagonal may have in a form.
 pub fn least_of(is_small: bool) -> i64
-    ensures { result ≡ leastOf is_small }
+    ensures { result ≡ least_of is_small }
 {
     if is_small {
         return 1;
@@ -65,9 +65,9 @@ fn is_low(x: i64, least: i64) -> bool
 
 // Whether the diagonal of column j is 0.
 pub fn is_silent_at(s: &[u8], start: usize, j: usize) -> bool
-    requires j_lt_labels_most { j < labelsMost }
+    requires j_lt_labels_most { j < labels_most }
     requires j_in_bounds { start + 8 * tri (j + 1) ≤ length s.now }
-    ensures { (n : ℕ) → tri (j + 1) ≤ n → result ≡ is_zero (entry (sumsAt s.now start n) j j) }
+    ensures { (n : ℕ) → tri (j + 1) ≤ n → result ≡ is_zero (entry (sums_at s.now start n) j j) }
 {
     is_zero(sum_at(s, start, num_packed::place(j, j)))
 }
@@ -83,11 +83,11 @@ pub fn is_broken(
     least: i64,
     is_silent: bool,
 ) -> bool
-    requires i_le_j { (i ≤ j) × (j < labelsMost) }
+    requires i_le_j { (i ≤ j) × (j < labels_most) }
     requires j_in_bounds { start + 8 * tri (j + 1) ≤ length s.now }
     requires bound_bound { bound ≤ 2 ^ 62 }
-    requires by_index { (n : ℕ) → tri (j + 1) ≤ n → is_silent ≡ is_zero (entry (sumsAt s.now start n) j j) }
-    ensures { (small : Bool) (n : ℕ) → least ≡ leastOf small → tri (j + 1) ≤ n → result ≡ breaksIn small (pos bound) (sumsAt s.now start n) i j }
+    requires by_index { (n : ℕ) → tri (j + 1) ≤ n → is_silent ≡ is_zero (entry (sums_at s.now start n) j j) }
+    ensures { (small : Bool) (n : ℕ) → least ≡ least_of small → tri (j + 1) ≤ n → result ≡ breaks_in small (pos bound) (sums_at s.now start n) i j }
 {
     let x = sum_at(s, start, num_packed::place(i, j));
     if is_past(x, bound) {
@@ -109,10 +109,10 @@ pub fn is_broken(
 
 // Whether the right side of parameter i is one that sums cannot have.
 pub fn is_broken_side(s: &[u8], matrix: usize, rights: usize, i: usize, bound: u64) -> bool
-    requires i_lt_labels_most { i < labelsMost }
+    requires i_lt_labels_most { i < labels_most }
     requires i_in_bounds { (matrix + 8 * tri (i + 1) ≤ length s.now) × (rights + 8 * i + 8 ≤ length s.now) }
     requires bound_bound { bound ≤ 2 ^ 62 }
-    ensures { (n k : ℕ) → tri (i + 1) ≤ n → i < k → result ≡ breaksSide (pos bound) (sumsAt s.now matrix n) (sumsAt s.now rights k) i }
+    ensures { (n k : ℕ) → tri (i + 1) ≤ n → i < k → result ≡ breaks_side (pos bound) (sums_at s.now matrix n) (sums_at s.now rights k) i }
 {
     let y = sum_at(s, rights, i);
     if is_past(y, bound) {

@@ -11,9 +11,9 @@ use lib.ListN.{length, get_or, drop, drop_of_length-le}
 use lib.Seq.{drop-cons}
 use Rattle.num_whole.specs.Tests.{same, up_to, either}
 use Rattle.num_whole.specs.Lists.{all}
-use Rattle.num_whole.proofs.Cases.{apart, yes, no, at_last, by_cases, is_same, not_same, same_true, upTo-true, between-true, both_first, both-second}
-use Rattle.arc_limits.proofs.Small.{index-small}
-use Rattle.norm_system.specs.System.{arcOk, has, arcListed, normalLabelOk}
+use Rattle.num_whole.proofs.Cases.{apart, yes, no, at_last, by_cases, is_same, not_same, same_true, up_to_true, between_true, both_first, both_second}
+use Rattle.arc_limits.proofs.Small.{index_small}
+use Rattle.norm_system.specs.System.{arc_ok, has, arc_listed, normal_label_ok}
 use Rattle.norm_system.specs.declared.NormalLabel.{NormalLabel}
 
 -- ---- a list of arcs from the ith on
@@ -31,22 +31,22 @@ module _ (a : ℕ) (l : List ℕ) (i : ℕ) where
   has_on h e = rw (drop-cons l i 0 h, not_same _ _ e, add-one)
 
 -- ---- what is listed is within the limits of an arc
-pub arc-small : (a : ℕ) → arcOk a ≡ true → a < 256 ^ 4
-unfolding arcOk
-arc-small a e = omega (arith, (between-true _ _ _ e).1)
+pub arc_small : (a : ℕ) → arc_ok a ≡ true → a < 256 ^ 4
+unfolding arc_ok
+arc_small a e = omega (arith, (between_true _ _ _ e).1)
 
-listed_small : (a : ℕ) (arcs : List ℕ) → all arcOk arcs ≡ true → has a arcs ≡ true → a < 256 ^ 4
+listed_small : (a : ℕ) (arcs : List ℕ) → all arc_ok arcs ≡ true → has a arcs ≡ true → a < 256 ^ 4
 unfolding has all
 listed_small a [] ok e = absurd (apart (sym e))
 listed_small a (x ∷ l) ok e =
     by_cases (same x a)
-    (λ t. subst (λ n. n < 256 ^ 4) (same_true _ _ t) (arc-small x (both_first _ _ ok)))
-    (λ t. listed_small a l (both-second _ _ ok) (at_last _ _ t refl ∙ e))
+    (λ t. subst (λ n. n < 256 ^ 4) (same_true _ _ t) (arc_small x (both_first _ _ ok)))
+    (λ t. listed_small a l (both_second _ _ ok) (at_last _ _ t refl ∙ e))
 
 -- ---- a label within its limits
-pub label-kind : (arcs : List ℕ) (l : NormalLabel) → normalLabelOk arcs l ≡ true → l.kind ≤ 4
-unfolding normalLabelOk
-label-kind arcs l e = omega (arith, (index-small l.kind l.index (both_first _ _ (both-second _ _ e))).0)
+pub label_kind_lem : (arcs : List ℕ) (l : NormalLabel) → normal_label_ok arcs l ≡ true → l.kind ≤ 4
+unfolding normal_label_ok
+label_kind_lem arcs l e = omega (arith, (index_small l.kind l.index (both_first _ _ (both_second _ _ e))).0)
 
 pub record SmallLabel (l : NormalLabel) : Type 0 where
   pub kind : l.kind < 256 ^ 2
@@ -54,12 +54,12 @@ pub record SmallLabel (l : NormalLabel) : Type 0 where
   pub arc : l.arc < 256 ^ 4
   pub weight : l.weight < 256 ^ 4
 
-pub label_small : (arcs : List ℕ) (l : NormalLabel) → all arcOk arcs ≡ true → normalLabelOk arcs l ≡ true → SmallLabel l
-unfolding normalLabelOk arcListed
+pub label_small : (arcs : List ℕ) (l : NormalLabel) → all arc_ok arcs ≡ true → normal_label_ok arcs l ≡ true → SmallLabel l
+unfolding normal_label_ok arc_listed
 label_small arcs l ok e =
-    let w = upTo-true _ _ (both_first _ _ e) in
-    let i = index-small l.kind l.index (both_first _ _ (both-second _ _ e)) in
-    let a = both-second _ _ (both-second _ _ e) in
+    let w = up_to_true _ _ (both_first _ _ e) in
+    let i = index_small l.kind l.index (both_first _ _ (both_second _ _ e)) in
+    let a = both_second _ _ (both_second _ _ e) in
     record {
       kind = omega (arith, i.0);
       index = omega (arith, i.1);

@@ -1,6 +1,6 @@
 // A label of a normal file by value: its limits and its key; and the limits of an arc.
 ghost use Rattle.std.specs.Prelude.{◌≡◌, ◌+◌, ◌*◌, ◌<◌, ◌^◌};
-ghost use Rattle.norm_system.specs.System.{arcOk, has, arcListed, normalLabelOk, key_of};
+ghost use Rattle.norm_system.specs.System.{arc_ok, has, arc_listed, normal_label_ok, key_of};
 
 use num_limits::ARC_MOST;
 
@@ -15,7 +15,7 @@ pub struct NormalLabel {
 
 // Whether an arc's number is one that the paper allows.
 pub fn arc_ok(a: u32) -> bool
-    ensures { result ≡ arcOk a }
+    ensures { result ≡ arc_ok a }
 {
     num_whole::within(1, a as u64, ARC_MOST)
 }
@@ -36,7 +36,7 @@ fn is_listed(a: u32, arcs: &[u32]) -> bool
 
 // Arc 0 for kinds 1 and 2, else a listed arc.
 fn arc_fits(l: NormalLabel, arcs: &[u32]) -> bool
-    ensures { result ≡ arcListed arcs.now l }
+    ensures { result ≡ arc_listed arcs.now l }
 {
     if l.kind > 2 {
         return is_listed(l.arc, arcs);
@@ -46,7 +46,7 @@ fn arc_fits(l: NormalLabel, arcs: &[u32]) -> bool
 
 // Whether a label's fields are within their limits, in a file that lists these arcs.
 pub fn label_ok(l: NormalLabel, arcs: &[u32]) -> bool
-    ensures { result ≡ normalLabelOk arcs.now l }
+    ensures { result ≡ normal_label_ok arcs.now l }
 {
     if l.weight > arc_limits::WEIGHT_MOST {
         return false;

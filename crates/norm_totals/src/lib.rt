@@ -1,8 +1,8 @@
 // Inner to the readers and writers of normal files: the bound of a sum for so many arcs, and the two totals judged.
 ghost use Rattle.std.specs.Prelude.{◌≡◌, ◌≤◌, ◌^◌};
-ghost use Rattle.num_limits.specs.Capacities.{arcsMost};
-ghost use Rattle.norm_system.specs.System.{boundOf, totalsWhere};
-ghost use Rattle.norm_totals.specs.Told.{toldWhere};
+ghost use Rattle.num_limits.specs.Capacities.{arcs_most};
+ghost use Rattle.norm_system.specs.System.{bound_of, totals_where};
+ghost use Rattle.norm_totals.specs.Told.{told_where};
 
 // What the sums of one arc can come to: 2^58 a matrix sum, 2^55 a right side, 2^52 the square sum, and 4,096 records.
 pub const FILE_MATRIX_UNIT: u64 = 288230376151711744;
@@ -25,8 +25,8 @@ pub enum Unsound {
 
 // A bound for so many arcs, 0 where nothing was accepted.
 pub fn bound_of(arcs: usize, accepted: u64, unit: u64) -> u64
-    requires { (arcs ≤ arcsMost) × (unit ≤ 2 ^ 58) }
-    ensures { (result ≡ boundOf arcs accepted unit) × (result ≤ 2 ^ 62) }
+    requires { (arcs ≤ arcs_most) × (unit ≤ 2 ^ 58) }
+    ensures { (result ≡ bound_of arcs accepted unit) × (result ≤ 2 ^ 62) }
 {
     if accepted == 0 {
         return 0;
@@ -35,8 +35,8 @@ pub fn bound_of(arcs: usize, accepted: u64, unit: u64) -> u64
 }
 
 pub fn judge_totals(arcs: usize, accepted: u64, square: u64) -> Unsound
-    requires { arcs ≤ arcsMost }
-    ensures { toldWhere result ≡ totalsWhere arcs accepted square }
+    requires { arcs ≤ arcs_most }
+    ensures { told_where result ≡ totals_where arcs accepted square }
 {
     if arcs as u64 * FILE_ACCEPTED < accepted {
         return Unsound::Accepted;

@@ -6,32 +6,32 @@ use Rattle.byte_section.specs.Section.{encoded}
 use Rattle.num_packed.specs.Triangle.{tri}
 use Rattle.norm_system.specs.System.{System}
 use Rattle.byte_words.specs.Stands.{stands}
-use Rattle.norm_sum.specs.Sums.{sumsAt}
-use Rattle.norm_kinds.specs.Kinds.{normalLabelAt, fieldedAt, storedOf}
-use Rattle.norm_read.specs.Normal.{Normal, normalFrom}
-use Rattle.norm_heads.specs.Heads.{arcsAt}
-use Rattle.norm_room.specs.Room.{labelNumbers}
+use Rattle.norm_sum.specs.Sums.{sums_at}
+use Rattle.norm_kinds.specs.Kinds.{normal_label_at, fielded_at, stored_of}
+use Rattle.norm_read.specs.Normal.{Normal, normal_from}
+use Rattle.norm_heads.specs.Heads.{arcs_at}
+use Rattle.norm_room.specs.Room.{label_numbers}
 
 -- what a file of a arcs and p parameters stores, for n of them, whose sums and totals begin at these places
-abbrev pub storedStandsAt : List ℕ → ℕ → ℕ → ℕ → ℕ → ℕ → ℕ → System
-storedStandsAt s a p n matrix rights totals =
+abbrev pub stored_stands_at : List ℕ → ℕ → ℕ → ℕ → ℕ → ℕ → ℕ → System
+stored_stands_at s a p n matrix rights totals =
     record {
-      arcs = arcsAt s a;
-      labels = storedOf (stands (fieldedAt s) 24 p (8 + 4 * a));
-      matrix = sumsAt s matrix (tri n);
-      rights = sumsAt s rights n;
+      arcs = arcs_at s a;
+      labels = stored_of (stands (fielded_at s) 24 p (8 + 4 * a));
+      matrix = sums_at s matrix (tri n);
+      rights = sums_at s rights n;
       accepted = word 8 s totals;
       square = word 8 s (totals + 8);
     }
 
-abbrev pub normalAt : List ℕ → ℕ → ℕ → ℕ → Bool → ℕ → ℕ → ℕ → Normal
-normalAt s a p n small matrix rights totals =
-    normalFrom small (stands (fieldedAt s) 24 p (8 + 4 * a)) (storedStandsAt s a p n matrix rights totals) matrix rights totals
+abbrev pub normal_at : List ℕ → ℕ → ℕ → ℕ → Bool → ℕ → ℕ → ℕ → Normal
+normal_at s a p n small matrix rights totals =
+    normal_from small (stands (fielded_at s) 24 p (8 + 4 * a)) (stored_stands_at s a p n matrix rights totals) matrix rights totals
 
 -- the numbers of n labels that stand one after the other
-unfoldable pub labelNumbersFrom : List ℕ → ℕ → ℕ → List ℕ
-labelNumbersFrom s n at = encoded labelNumbers (stands (normalLabelAt s) 24 n at)
+unfoldable pub label_numbers_from : List ℕ → ℕ → ℕ → List ℕ
+label_numbers_from s n at = encoded label_numbers (stands (normal_label_at s) 24 n at)
 
 -- the heads: arcs, labels, totals
-unfoldable pub headsAt : List ℕ → ℕ → ℕ → ℕ → List ℕ
-headsAt s a p totals = arcsAt s a ++ (labelNumbersFrom s p (8 + 4 * a) ++ (word 8 s totals ∷ word 8 s (totals + 8) ∷ []))
+unfoldable pub heads_at : List ℕ → ℕ → ℕ → ℕ → List ℕ
+heads_at s a p totals = arcs_at s a ++ (label_numbers_from s p (8 + 4 * a) ++ (word 8 s totals ∷ word 8 s (totals + 8) ∷ []))

@@ -3,10 +3,10 @@
 use Rattle.std.specs.Prelude.{ℕ, ◌+◌, List, Bool}
 use Rattle.byte_words.specs.Words.{word}
 use Rattle.num_packed.specs.Triangle.{tri}
-use Rattle.norm_sum.specs.Sums.{sumsAt}
-use Rattle.norm_system.specs.System.{Where, sumsWhere}
+use Rattle.norm_sum.specs.Sums.{sums_at}
+use Rattle.norm_system.specs.System.{Where, sums_where}
 
 -- the first unsound sum of those of p labels that stand at these places
-unfoldable pub unsoundAt : Bool → List ℕ → ℕ → ℕ → ℕ → ℕ → ℕ → Where
-unsoundAt small s arcs p matrix rights totals =
-    sumsWhere small arcs p (sumsAt s matrix (tri p)) (sumsAt s rights p) (word 8 s totals) (word 8 s (totals + 8))
+unfoldable pub unsound_at : Bool → List ℕ → ℕ → ℕ → ℕ → ℕ → ℕ → Where
+unsound_at small s arcs p matrix rights totals =
+    sums_where small arcs p (sums_at s matrix (tri p)) (sums_at s rights p) (word 8 s totals) (word 8 s (totals + 8))

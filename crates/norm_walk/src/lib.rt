@@ -1,23 +1,23 @@
 // Inner to the readers and writers of normal files: the first unsound sum, found by a walk over the file's bytes; nothing is unpacked.
 ghost use Rattle.std.specs.Prelude.{◌≡◌, ◌+◌, ◌*◌, ◌≤◌, ◌<◌, ◌^◌, pos, length};
-ghost use Rattle.num_limits.specs.Capacities.{arcsMost, labelsMost};
+ghost use Rattle.num_limits.specs.Capacities.{arcs_most, labels_most};
 ghost use Rattle.num_packed.specs.Triangle.{tri};
-ghost use Rattle.num_packed.specs.Sound.{breaksSide};
-ghost use Rattle.num_packed.specs.Found.{firstFrom, columnsFrom, toldWalked};
-ghost use Rattle.norm_system.specs.System.{sidesWhere, breaksIn};
-ghost use Rattle.norm_sum.specs.Sums.{sumsAt};
-ghost use Rattle.norm_walk.specs.Walk.{unsoundAt};
-ghost use Rattle.norm_totals.specs.Told.{toldWhere};
+ghost use Rattle.num_packed.specs.Sound.{breaks_side};
+ghost use Rattle.num_packed.specs.Found.{first_from, columns_from, told_walked};
+ghost use Rattle.norm_system.specs.System.{sides_where, breaks_in};
+ghost use Rattle.norm_sum.specs.Sums.{sums_at};
+ghost use Rattle.norm_walk.specs.Walk.{unsound_at};
+ghost use Rattle.norm_totals.specs.Told.{told_where};
 
 use norm_totals::Unsound;
 use num_packed::Walked;
 
 // The first unsound entry of the p columns that begin at a place, in a file of a form.
 fn first_entry(s: &[u8], start: usize, p: usize, bound: u64, is_small: bool) -> Walked
-    requires p_le_labels_most { p ≤ labelsMost }
+    requires p_le_labels_most { p ≤ labels_most }
     requires p_in_bounds { start + 8 * tri p ≤ length s.now }
     requires bound_bound { bound ≤ 2 ^ 62 }
-    ensures { toldWalked result ≡ columnsFrom (breaksIn is_small (pos bound) (sumsAt s.now start (tri p))) 0 p }
+    ensures { told_walked result ≡ columns_from (breaks_in is_small (pos bound) (sums_at s.now start (tri p))) 0 p }
 {
     let least = norm_sum::least_of(is_small);
     let mut found = Walked::Sound;
@@ -39,10 +39,10 @@ fn first_entry(s: &[u8], start: usize, p: usize, bound: u64, is_small: bool) -> 
 
 // The first unsound one of p right sides.
 fn first_side(s: &[u8], matrix: usize, rights: usize, p: usize, bound: u64) -> Walked
-    requires p_le_labels_most { p ≤ labelsMost }
+    requires p_le_labels_most { p ≤ labels_most }
     requires p_in_bounds { (matrix + 8 * tri p ≤ length s.now) × (rights + 8 * p ≤ length s.now) }
     requires bound_bound { bound ≤ 2 ^ 62 }
-    ensures { toldWalked result ≡ firstFrom (breaksSide (pos bound) (sumsAt s.now matrix (tri p)) (sumsAt s.now rights p)) 0 p }
+    ensures { told_walked result ≡ first_from (breaks_side (pos bound) (sums_at s.now matrix (tri p)) (sums_at s.now rights p)) 0 p }
 {
     let mut i: usize = 0;
     while i < p {
@@ -64,9 +64,9 @@ fn first_beyond(
     accepted: u64,
     square: u64,
 ) -> Unsound
-    requires arcs_le_arcs_most { (arcs ≤ arcsMost) × (p ≤ labelsMost) }
+    requires arcs_le_arcs_most { (arcs ≤ arcs_most) × (p ≤ labels_most) }
     requires p_in_bounds { (matrix + 8 * tri p ≤ length s.now) × (rights + 8 * p ≤ length s.now) }
-    ensures { toldWhere result ≡ sidesWhere arcs p (sumsAt s.now matrix (tri p)) (sumsAt s.now rights p) accepted square }
+    ensures { told_where result ≡ sides_where arcs p (sums_at s.now matrix (tri p)) (sums_at s.now rights p) accepted square }
 {
     let bound = norm_totals::bound_of(arcs, accepted, norm_totals::FILE_RIGHT_UNIT);
     match first_side(s, matrix, rights, p, bound) {
@@ -85,9 +85,9 @@ pub fn first_unsound(
     totals: usize,
     is_small: bool,
 ) -> Unsound
-    requires arcs_le_arcs_most { (arcs ≤ arcsMost) × (p ≤ labelsMost) }
+    requires arcs_le_arcs_most { (arcs ≤ arcs_most) × (p ≤ labels_most) }
     requires p_in_bounds { (matrix + 8 * tri p ≤ length s.now) × (rights + 8 * p ≤ length s.now) × (totals + 16 ≤ length s.now) }
-    ensures { toldWhere result ≡ unsoundAt is_small s.now arcs p matrix rights totals }
+    ensures { told_where result ≡ unsound_at is_small s.now arcs p matrix rights totals }
 {
     let accepted = byte_read::read_u64(s, totals);
     let square = byte_read::read_u64(s, totals + 8);

@@ -11,17 +11,17 @@ use mir.Syntax.{w64}
 use mir.Val.{to_z, of_z}
 use mir.ValLaws.{of_z-to_z}
 use Rattle.byte_section.specs.Section.{encoded}
-use Rattle.byte_section.proofs.Trips.{length-encoded}
+use Rattle.byte_section.proofs.Trips.{length_encoded}
 use Rattle.norm_system.specs.System.{System}
 use Rattle.byte_words.specs.Stands.{stands}
-use Rattle.norm_room.specs.Room.{headsLong, labelInHeads, systemInRooms, labelNumbers, headsOf}
+use Rattle.norm_room.specs.Room.{heads_long, label_in_heads, system_in_rooms, label_numbers, heads_of}
 use Rattle.norm_write.proofs.Laws.{Words}
 
 -- how many elements the heads of a system have
-pub heads-long : (x : System) → length (headsOf x) ≡ headsLong (length x.arcs) (length x.labels)
-unfolding headsOf labelNumbers
-heads-long x =
-    let many : length (encoded labelNumbers x.labels) ≡ length x.labels * 5 = length-encoded labelNumbers 5 (λ l. refl) x.labels in
+pub heads_long_lem : (x : System) → length (heads_of x) ≡ heads_long (length x.arcs) (length x.labels)
+unfolding heads_of label_numbers
+heads_long_lem x =
+    let many : length (encoded label_numbers x.labels) ≡ length x.labels * 5 = length_encoded label_numbers 5 (λ l. refl) x.labels in
     simp length-append (omega (arith, many))
 
 -- the element at a place, and the rest
@@ -29,9 +29,9 @@ cut : (h : List ℕ) (at n : ℕ) → suc at ≡ n → n ≤ length h → get_or
 cut h at n e f = ap (λ k. get_or h at 0 ∷ drop k h) (sym e) ∙ sym (drop-cons h at 0 (omega arith))
 
 module _ (h : List ℕ) (fits : Words h) where
-  label-cut : (at : ℕ) → at + 5 ≤ length h → labelNumbers (labelInHeads h at) ++ drop (at + 5) h ≡ drop at h
-  unfolding labelNumbers labelInHeads
-  label-cut at f =
+  label_cut : (at : ℕ) → at + 5 ≤ length h → label_numbers (label_in_heads h at) ++ drop (at + 5) h ≡ drop at h
+  unfolding label_numbers label_in_heads
+  label_cut at f =
       let last : of_z w64 (to_z w64 (get_or h (at + 4) 0)) ≡ get_or h (at + 4) 0 = of_z-to_z w64 _ (record { fits = fits (at + 4) }) in
       let tail : (x : ℕ) → x ≡ get_or h (at + 4) 0 → x ∷ drop (at + 5) h ≡ drop (at + 4) h = λ x e. ap (λ y. y ∷ drop (at + 5) h) e ∙ cut h (at + 4) (at + 5) (omega arith) (omega arith) in
       ap (λ l. get_or h at 0 ∷ get_or h (at + 1) 0 ∷ get_or h (at + 2) 0 ∷ get_or h (at + 3) 0 ∷ l) (tail _ last)
@@ -40,29 +40,29 @@ module _ (h : List ℕ) (fits : Words h) where
       ∙ ap (λ l. get_or h at 0 ∷ l) (cut h (at + 1) (at + 2) (omega arith) (omega arith))
       ∙ cut h at (at + 1) (omega arith) (omega arith)
 
-  labels-cut : (n at : ℕ) → at + 5 * n ≤ length h → encoded labelNumbers (stands (labelInHeads h) 5 n at) ++ drop (at + 5 * n) h ≡ drop at h
+  labels_cut : (n at : ℕ) → at + 5 * n ≤ length h → encoded label_numbers (stands (label_in_heads h) 5 n at) ++ drop (at + 5 * n) h ≡ drop at h
   unfolding stands encoded
-  labels-cut zero at f = let z : at + 5 * 0 ≡ at = omega arith in ap (λ k. drop k h) z
-  labels-cut (suc n) at f =
+  labels_cut zero at f = let z : at + 5 * 0 ≡ at = omega arith in ap (λ k. drop k h) z
+  labels_cut (suc n) at f =
       let on : at + 5 * suc n ≡ at + 5 + 5 * n = omega arith in
-      append_assoc (labelNumbers (labelInHeads h at)) _ _
-      ∙ ap (λ k. labelNumbers (labelInHeads h at) ++ (encoded labelNumbers (stands (labelInHeads h) 5 n (at + 5)) ++ drop k h)) on
-      ∙ ap (λ l. labelNumbers (labelInHeads h at) ++ l) (labels-cut n (at + 5) (omega arith))
-      ∙ label-cut at (omega arith)
+      append_assoc (label_numbers (label_in_heads h at)) _ _
+      ∙ ap (λ k. label_numbers (label_in_heads h at) ++ (encoded label_numbers (stands (label_in_heads h) 5 n (at + 5)) ++ drop k h)) on
+      ∙ ap (λ l. label_numbers (label_in_heads h at) ++ l) (labels_cut n (at + 5) (omega arith))
+      ∙ label_cut at (omega arith)
 
-  module _ (a p : ℕ) (m r : List ℤ) (long : headsLong a p ≤ length h) where
-    heads-cut : headsOf (systemInRooms a p h m r) ++ drop (headsLong a p) h ≡ h
-    unfolding headsOf systemInRooms
-    heads-cut =
-        let labels = encoded labelNumbers (stands (labelInHeads h) 5 p a) in
-        let totals : get_or h (a + 5 * p) 0 ∷ get_or h (a + 5 * p + 1) 0 ∷ drop (headsLong a p) h ≡ drop (a + 5 * p) h =
-        ap (λ l. get_or h (a + 5 * p) 0 ∷ l) (cut h (a + 5 * p + 1) (headsLong a p) (omega arith) (omega arith)) ∙ cut h (a + 5 * p) (a + 5 * p + 1) (omega arith) (omega arith) in
+  module _ (a p : ℕ) (m r : List ℤ) (long : heads_long a p ≤ length h) where
+    heads_cut : heads_of (system_in_rooms a p h m r) ++ drop (heads_long a p) h ≡ h
+    unfolding heads_of system_in_rooms
+    heads_cut =
+        let labels = encoded label_numbers (stands (label_in_heads h) 5 p a) in
+        let totals : get_or h (a + 5 * p) 0 ∷ get_or h (a + 5 * p + 1) 0 ∷ drop (heads_long a p) h ≡ drop (a + 5 * p) h =
+        ap (λ l. get_or h (a + 5 * p) 0 ∷ l) (cut h (a + 5 * p + 1) (heads_long a p) (omega arith) (omega arith)) ∙ cut h (a + 5 * p) (a + 5 * p + 1) (omega arith) (omega arith) in
         simp append_assoc
         (ap (λ l. take a h ++ (labels ++ l)) totals
-        ∙ ap (λ l. take a h ++ l) (labels-cut p a (omega arith))
+        ∙ ap (λ l. take a h ++ l) (labels_cut p a (omega arith))
         ∙ take-append-drop a h)
 
-    pub heads-in : length (systemInRooms a p h m r).arcs ≡ a → length (systemInRooms a p h m r).labels ≡ p → headsOf (systemInRooms a p h m r) ≡ take (headsLong a p) h
-    heads-in arcs labels =
-        let n : length (headsOf (systemInRooms a p h m r)) ≡ headsLong a p = heads-long (systemInRooms a p h m r) ∙ ap₂ headsLong arcs labels in
-        sym (ap (take (headsLong a p)) (sym heads-cut) ∙ take_at (headsOf (systemInRooms a p h m r)) _ (headsLong a p) n)
+    pub heads_in : length (system_in_rooms a p h m r).arcs ≡ a → length (system_in_rooms a p h m r).labels ≡ p → heads_of (system_in_rooms a p h m r) ≡ take (heads_long a p) h
+    heads_in arcs labels =
+        let n : length (heads_of (system_in_rooms a p h m r)) ≡ heads_long a p = heads_long_lem (system_in_rooms a p h m r) ∙ ap₂ heads_long arcs labels in
+        sym (ap (take (heads_long a p)) (sym heads_cut) ∙ take_at (heads_of (system_in_rooms a p h m r)) _ (heads_long a p) n)

@@ -1,7 +1,7 @@
 // The normal file, written: the bytes of a system that stands in three lent rooms, or a refusal that changes nothing.
 ghost use Rattle.std.specs.Prelude.{◌≡◌, length};
-ghost use Rattle.norm_write.specs.Write.{writeNormal, normalLeftIn};
-ghost use Rattle.byte_section.specs.Told.{toldWrite};
+ghost use Rattle.norm_write.specs.Write.{write_normal, normal_left_in};
+ghost use Rattle.byte_section.specs.Told.{told_write};
 
 use byte_section::WriteAnswer;
 use refusal::{Refusal, Verdict};
@@ -16,8 +16,8 @@ pub fn write(
     rights: &[i64],
     out: &mut [u8],
 ) -> WriteAnswer
-    ensures answer { toldWrite result ≡ writeNormal arcs parameters heads.now matrix.now rights.now (length out.old) }
-    ensures left { out.new ≡ normalLeftIn arcs parameters heads.now matrix.now rights.now out.old }
+    ensures answer { told_write result ≡ write_normal arcs parameters heads.now matrix.now rights.now (length out.old) }
+    ensures left { out.new ≡ normal_left_in arcs parameters heads.now matrix.now rights.now out.old }
 {
     match norm_judge::judge(arcs, parameters, heads, matrix, rights) {
         Verdict::Refused(refusal) => WriteAnswer::Refused(refusal),

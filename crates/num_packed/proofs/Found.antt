@@ -11,74 +11,74 @@ use native.Mathlib.Numerals.{add-one}
 use Rattle.num_whole.specs.Tests.{pick}
 use Rattle.num_whole.proofs.Cases.{yes, no, by_cases}
 use Rattle.num_packed.specs.Triangle.{tri}
-use Rattle.num_packed.specs.Found.{Found, none, at, firstFrom, inColumn, columnsFrom}
-use Rattle.num_packed.proofs.Places.{tri-within, earlier}
+use Rattle.num_packed.specs.Found.{Found, none, at, first_from, in_column, columns_from}
+use Rattle.num_packed.proofs.Places.{tri_within, earlier}
 
 -- something was found, or nothing
-pub none-not : {k : ℕ} → at k ≡ none → ⊥
-none-not e = let z : ◌≡◌ {A = ℕ} 0 1 = cc in omega arith
+pub none_not : {k : ℕ} → at k ≡ none → ⊥
+none_not e = let z : ◌≡◌ {A = ℕ} 0 1 = cc in omega arith
 
 pub at_same : {k l : ℕ} → at k ≡ at l → k ≡ l
 at_same e = cc
 
 -- ---- n numbers, i of them done
 module _ (f : ℕ → Bool) (n i : ℕ) where
-  pub first-end : n ≤ i → firstFrom f i (n - i) ≡ none
-  unfolding firstFrom
-  first-end e = let z : n - i ≡ zero = omega arith in rw z
+  pub first_end : n ≤ i → first_from f i (n - i) ≡ none
+  unfolding first_from
+  first_end e = let z : n - i ≡ zero = omega arith in rw z
 
   module _ (more : i < n) where
     one_less : n - i ≡ suc (n - (i + 1))
     one_less = omega arith
 
-    pub first-here : f i ≡ true → firstFrom f i (n - i) ≡ at i
-    unfolding firstFrom pick
-    first-here e = rw (one_less, e)
+    pub first_here : f i ≡ true → first_from f i (n - i) ≡ at i
+    unfolding first_from pick
+    first_here e = rw (one_less, e)
 
-    pub first_on : f i ≡ false → firstFrom f i (n - i) ≡ firstFrom f (i + 1) (n - (i + 1))
-    unfolding firstFrom pick
+    pub first_on : f i ≡ false → first_from f i (n - i) ≡ first_from f (i + 1) (n - (i + 1))
+    unfolding first_from pick
     first_on e = rw (one_less, e)
 
 -- ---- p columns, j of them done
 module _ (f : ℕ → ℕ → Bool) (p j : ℕ) where
-  pub columns-end : p ≤ j → columnsFrom f j (p - j) ≡ none
-  unfolding columnsFrom
-  columns-end e = let z : p - j ≡ zero = omega arith in rw z
+  pub columns_end : p ≤ j → columns_from f j (p - j) ≡ none
+  unfolding columns_from
+  columns_end e = let z : p - j ≡ zero = omega arith in rw z
 
   module _ (more : j < p) where
     column : p - j ≡ suc (p - (j + 1))
     column = omega arith
 
-    pub columns-here : (i : ℕ) → firstFrom (λ v. f v j) 0 (j + 1) ≡ at i → columnsFrom f j (p - j) ≡ at (tri j + i)
-    unfolding columnsFrom inColumn
-    columns-here i e = let e₁ = rw (add-one j) at e in rw (column, e₁)
+    pub columns_here : (i : ℕ) → first_from (λ v. f v j) 0 (j + 1) ≡ at i → columns_from f j (p - j) ≡ at (tri j + i)
+    unfolding columns_from in_column
+    columns_here i e = let e₁ = rw (add-one j) at e in rw (column, e₁)
 
-    pub columns-on : firstFrom (λ v. f v j) 0 (j + 1) ≡ none → columnsFrom f j (p - j) ≡ columnsFrom f (j + 1) (p - (j + 1))
-    unfolding columnsFrom inColumn
-    columns-on e = let e₁ = rw (add-one j) at e in rw (column, e₁)
+    pub columns_on : first_from (λ v. f v j) 0 (j + 1) ≡ none → columns_from f j (p - j) ≡ columns_from f (j + 1) (p - (j + 1))
+    unfolding columns_from in_column
+    columns_on e = let e₁ = rw (add-one j) at e in rw (column, e₁)
 
 -- ---- where there is none, the test fails at each
-first-none-from : (f : ℕ → Bool) (n i : ℕ) → firstFrom f i n ≡ none → (v : ℕ) → i ≤ v → v < i + n → f v ≡ false
-unfolding firstFrom
-first-none-from f zero i e v h l = absurd (omega arith)
-first-none-from f (suc n) i e v h l =
+first_none_from : (f : ℕ → Bool) (n i : ℕ) → first_from f i n ≡ none → (v : ℕ) → i ≤ v → v < i + n → f v ≡ false
+unfolding first_from
+first_none_from f zero i e v h l = absurd (omega arith)
+first_none_from f (suc n) i e v h l =
     by_cases (f i)
-    (λ t. absurd (none-not (yes _ _ _ t refl ∙ e)))
+    (λ t. absurd (none_not (yes _ _ _ t refl ∙ e)))
     (λ t. ⊎_elim (λ q. subst (λ m. f m ≡ false) q t)
-    (λ q. first-none-from f n (i + 1) (no _ _ _ t refl ∙ e) v (omega arith) (omega arith)) (eq-or-lt_of_le h))
+    (λ q. first_none_from f n (i + 1) (no _ _ _ t refl ∙ e) v (omega arith) (omega arith)) (eq-or-lt_of_le h))
 
-pub first-none : (f : ℕ → Bool) (n : ℕ) → firstFrom f 0 n ≡ none → (v : ℕ) → v < n → f v ≡ false
-first-none f n e v l = first-none-from f n 0 e v (omega arith) (omega arith)
+pub first_none : (f : ℕ → Bool) (n : ℕ) → first_from f 0 n ≡ none → (v : ℕ) → v < n → f v ≡ false
+first_none f n e v l = first_none_from f n 0 e v (omega arith) (omega arith)
 
 -- and where it fails at each, there is none
-first-sound-from : (f : ℕ → Bool) (n i : ℕ) → ((v : ℕ) → i ≤ v → v < i + n → f v ≡ false) → firstFrom f i n ≡ none
-unfolding firstFrom
-first-sound-from f zero i h = refl
-first-sound-from f (suc n) i h =
-    sym (no _ _ _ (h i (omega arith) (omega arith)) (sym (first-sound-from f n (i + 1) (λ v a b. h v (omega arith) (omega arith)))))
+first_sound_from : (f : ℕ → Bool) (n i : ℕ) → ((v : ℕ) → i ≤ v → v < i + n → f v ≡ false) → first_from f i n ≡ none
+unfolding first_from
+first_sound_from f zero i h = refl
+first_sound_from f (suc n) i h =
+    sym (no _ _ _ (h i (omega arith) (omega arith)) (sym (first_sound_from f n (i + 1) (λ v a b. h v (omega arith) (omega arith)))))
 
-pub first-sound : (f : ℕ → Bool) (n : ℕ) → ((v : ℕ) → v < n → f v ≡ false) → firstFrom f 0 n ≡ none
-first-sound f n h = first-sound-from f n 0 (λ v a b. h v (omega arith))
+pub first_sound : (f : ℕ → Bool) (n : ℕ) → ((v : ℕ) → v < n → f v ≡ false) → first_from f 0 n ≡ none
+first_sound f n h = first_sound_from f n 0 (λ v a b. h v (omega arith))
 
 -- ---- what was found is the first: the test holds there, and at none of those before it
 record FirstOf (f : ℕ → Bool) (i n k : ℕ) : Type 0 where
@@ -86,9 +86,9 @@ record FirstOf (f : ℕ → Bool) (i n k : ℕ) : Type 0 where
   holds : f k ≡ true
   before : (v : ℕ) → i ≤ v → v < k → f v ≡ false
 
-first_of : (f : ℕ → Bool) (n i k : ℕ) → firstFrom f i n ≡ at k → FirstOf f i n k
-unfolding firstFrom
-first_of f zero i k e = absurd (none-not (sym e))
+first_of : (f : ℕ → Bool) (n i k : ℕ) → first_from f i n ≡ at k → FirstOf f i n k
+unfolding first_from
+first_of f zero i k e = absurd (none_not (sym e))
 first_of f (suc n) i k e =
     by_cases (f i)
     (λ t. let same : i ≡ k = at_same (yes _ _ _ t refl ∙ e) in
@@ -106,43 +106,43 @@ pub record FirstNumber (f : ℕ → Bool) (n k : ℕ) : Type 0 where
   pub holds : f k ≡ true
   pub before : (v : ℕ) → v < k → f v ≡ false
 
-pub first-number : (f : ℕ → Bool) (n k : ℕ) → firstFrom f 0 n ≡ at k → FirstNumber f n k
-first-number f n k e =
+pub first_number : (f : ℕ → Bool) (n k : ℕ) → first_from f 0 n ≡ at k → FirstNumber f n k
+first_number f n k e =
     let r = first_of f n 0 k e in
     record { inside = omega (arith, r.inside); holds = r.holds; before = λ v l. r.before v (omega arith) l }
 
 -- a column's part in the answer, by what was found in it
-in-column : (base : ℕ) (x rest : Found) → (x ≡ none → inColumn base x rest ≡ rest) × ((i : ℕ) → x ≡ at i → inColumn base x rest ≡ at (base + i))
-unfolding inColumn
-in-column base x rest = (λ e. rw e, λ i e. rw e)
+in_column_lem : (base : ℕ) (x rest : Found) → (x ≡ none → in_column base x rest ≡ rest) × ((i : ℕ) → x ≡ at i → in_column base x rest ≡ at (base + i))
+unfolding in_column
+in_column_lem base x rest = (λ e. rw e, λ i e. rw e)
 
-pub by-found : {A : Type 0} (x : Found) → (x ≡ none → A) → ((i : ℕ) → x ≡ at i → A) → A
-by-found none f g = f refl
-by-found (at i) f g = g i refl
+pub by_found : {A : Type 0} (x : Found) → (x ≡ none → A) → ((i : ℕ) → x ≡ at i → A) → A
+by_found none f g = f refl
+by_found (at i) f g = g i refl
 
-columns-none-from : (f : ℕ → ℕ → Bool) (n j : ℕ) → columnsFrom f j n ≡ none → (v u : ℕ) → v ≤ u → j ≤ u → u < j + n → f v u ≡ false
-unfolding columnsFrom
-columns-none-from f zero j e v u h a b = absurd (omega arith)
-columns-none-from f (suc n) j e v u h a b =
-    let col = firstFrom (λ i. f i j) 0 (suc j) in
-    let rest = columnsFrom f (j + 1) n in
-    by-found col
-    (λ t. ⊎_elim (λ q. subst (λ m. f v m ≡ false) q (first-none (λ i. f i j) (suc j) t v (omega arith)))
-    (λ q. columns-none-from f n (j + 1) (sym ((in-column (tri j) col rest).0 t) ∙ e) v u h (omega arith) (omega arith)) (eq-or-lt_of_le a))
-    (λ i t. absurd (none-not (sym ((in-column (tri j) col rest).1 i t) ∙ e)))
+columns_none_from : (f : ℕ → ℕ → Bool) (n j : ℕ) → columns_from f j n ≡ none → (v u : ℕ) → v ≤ u → j ≤ u → u < j + n → f v u ≡ false
+unfolding columns_from
+columns_none_from f zero j e v u h a b = absurd (omega arith)
+columns_none_from f (suc n) j e v u h a b =
+    let col = first_from (λ i. f i j) 0 (suc j) in
+    let rest = columns_from f (j + 1) n in
+    by_found col
+    (λ t. ⊎_elim (λ q. subst (λ m. f v m ≡ false) q (first_none (λ i. f i j) (suc j) t v (omega arith)))
+    (λ q. columns_none_from f n (j + 1) (sym ((in_column_lem (tri j) col rest).0 t) ∙ e) v u h (omega arith) (omega arith)) (eq-or-lt_of_le a))
+    (λ i t. absurd (none_not (sym ((in_column_lem (tri j) col rest).1 i t) ∙ e)))
 
-pub columns-none : (f : ℕ → ℕ → Bool) (p : ℕ) → columnsFrom f 0 p ≡ none → (v u : ℕ) → v ≤ u → u < p → f v u ≡ false
-columns-none f p e v u h l = columns-none-from f p 0 e v u h (omega arith) (omega arith)
+pub columns_none : (f : ℕ → ℕ → Bool) (p : ℕ) → columns_from f 0 p ≡ none → (v u : ℕ) → v ≤ u → u < p → f v u ≡ false
+columns_none f p e v u h l = columns_none_from f p 0 e v u h (omega arith) (omega arith)
 
-columns-sound-from : (f : ℕ → ℕ → Bool) (n j : ℕ) → ((v u : ℕ) → v ≤ u → j ≤ u → u < j + n → f v u ≡ false) → columnsFrom f j n ≡ none
-unfolding columnsFrom
-columns-sound-from f zero j h = refl
-columns-sound-from f (suc n) j h =
-    let col = first-sound (λ i. f i j) (suc j) (λ v l. h v j (omega arith) (omega arith) (omega arith)) in
-    (in-column (tri j) _ _).0 col ∙ columns-sound-from f n (j + 1) (λ v u a b l. h v u a (omega arith) (omega arith))
+columns_sound_from : (f : ℕ → ℕ → Bool) (n j : ℕ) → ((v u : ℕ) → v ≤ u → j ≤ u → u < j + n → f v u ≡ false) → columns_from f j n ≡ none
+unfolding columns_from
+columns_sound_from f zero j h = refl
+columns_sound_from f (suc n) j h =
+    let col = first_sound (λ i. f i j) (suc j) (λ v l. h v j (omega arith) (omega arith) (omega arith)) in
+    (in_column_lem (tri j) _ _).0 col ∙ columns_sound_from f n (j + 1) (λ v u a b l. h v u a (omega arith) (omega arith))
 
-pub columns-sound : (f : ℕ → ℕ → Bool) (p : ℕ) → ((v u : ℕ) → v ≤ u → u < p → f v u ≡ false) → columnsFrom f 0 p ≡ none
-columns-sound f p h = columns-sound-from f p 0 (λ v u a b l. h v u a (omega arith))
+pub columns_sound : (f : ℕ → ℕ → Bool) (p : ℕ) → ((v u : ℕ) → v ≤ u → u < p → f v u ≡ false) → columns_from f 0 p ≡ none
+columns_sound f p h = columns_sound_from f p 0 (λ v u a b l. h v u a (omega arith))
 
 -- of a triangle's entries, in the order of their places
 pub record FirstEntry (f : ℕ → ℕ → Bool) (p k : ℕ) : Type 0 where
@@ -154,16 +154,16 @@ pub record FirstEntry (f : ℕ → ℕ → Bool) (p k : ℕ) : Type 0 where
   pub holds : f row column ≡ true
   pub before : (i j : ℕ) → i ≤ j → tri j + i < k → f i j ≡ false
 
-first-entry-from : (f : ℕ → ℕ → Bool) (n j k : ℕ) → ((v u : ℕ) → v ≤ u → u < j → f v u ≡ false) → columnsFrom f j n ≡ at k → FirstEntry f (j + n) k
-unfolding columnsFrom
-first-entry-from f zero j k known e = absurd (none-not (sym e))
-first-entry-from f (suc n) j k known e =
-    let col = firstFrom (λ i. f i j) 0 (suc j) in
-    let rest = columnsFrom f (j + 1) n in
-    by-found col
+first_entry_from : (f : ℕ → ℕ → Bool) (n j k : ℕ) → ((v u : ℕ) → v ≤ u → u < j → f v u ≡ false) → columns_from f j n ≡ at k → FirstEntry f (j + n) k
+unfolding columns_from
+first_entry_from f zero j k known e = absurd (none_not (sym e))
+first_entry_from f (suc n) j k known e =
+    let col = first_from (λ i. f i j) 0 (suc j) in
+    let rest = columns_from f (j + 1) n in
+    by_found col
     (λ t. let more : (v u : ℕ) → v ≤ u → u < j + 1 → f v u ≡ false =
-    λ v u h l. ⊎_elim (λ q. subst (λ m. f v m ≡ false) (sym q) (first-none (λ i. f i j) (suc j) t v (omega arith))) (λ q. known v u h (omega arith)) (eq-or-lt_of_le (low l)) in
-    let r = first-entry-from f n (j + 1) k more (sym ((in-column (tri j) col rest).0 t) ∙ e) in
+    λ v u h l. ⊎_elim (λ q. subst (λ m. f v m ≡ false) (sym q) (first_none (λ i. f i j) (suc j) t v (omega arith))) (λ q. known v u h (omega arith)) (eq-or-lt_of_le (low l)) in
+    let r = first_entry_from f n (j + 1) k more (sym ((in_column_lem (tri j) col rest).0 t) ∙ e) in
     record {
       row = r.row;
       column = r.column;
@@ -173,8 +173,8 @@ first-entry-from f (suc n) j k known e =
       holds = r.holds;
       before = r.before;
     })
-    (λ i t. let same : tri j + i ≡ k = at_same (sym ((in-column (tri j) col rest).1 i t) ∙ e) in
-    let r = first-number (λ v. f v j) (suc j) i t in
+    (λ i t. let same : tri j + i ≡ k = at_same (sym ((in_column_lem (tri j) col rest).1 i t) ∙ e) in
+    let r = first_number (λ v. f v j) (suc j) i t in
     let upper : i ≤ j = omega (arith, r.inside) in
     record {
       row = i;
@@ -190,11 +190,11 @@ first-entry-from f (suc n) j k known e =
     low : {m : ℕ} → m < j + 1 → m ≤ j
     low l = omega arith
 
-pub first_entry : (f : ℕ → ℕ → Bool) (p k : ℕ) → columnsFrom f 0 p ≡ at k → FirstEntry f p k
+pub first_entry : (f : ℕ → ℕ → Bool) (p k : ℕ) → columns_from f 0 p ≡ at k → FirstEntry f p k
 first_entry f p k e =
-    subst (λ n. FirstEntry f n k) (zero-add p) (first-entry-from f p 0 k (λ v u h l. absurd (not-suc-le-zero l)) e)
+    subst (λ n. FirstEntry f n k) (zero-add p) (first_entry_from f p 0 k (λ v u h l. absurd (not-suc-le-zero l)) e)
 
-pub columns-inside : (f : ℕ → ℕ → Bool) (p k : ℕ) → columnsFrom f 0 p ≡ at k → k < tri p
-columns-inside f p k e =
+pub columns_inside : (f : ℕ → ℕ → Bool) (p k : ℕ) → columns_from f 0 p ≡ at k → k < tri p
+columns_inside f p k e =
     let r = first_entry f p k e in
-    omega (arith, r.place, r.upper, tri-within r.column p r.inside)
+    omega (arith, r.place, r.upper, tri_within r.column p r.inside)

@@ -22,23 +22,23 @@ zero_bits (negsuc n) f = ne_eqb (2 ^ 64 - suc n) 0 (λ e. never n f.sfits e)
     never : (n : ℕ) → n < 2 ^ 63 → 2 ^ 64 - suc n ≡ 0 → ⊥
     never n h e = omega arith
 
-pub is-zero : (z : ℤ) → SFits w64 z → of_z w64 z ≡ 0 → is_zero z ≡ true
-is-zero z f e = sym (zero_bits z f) ∙ eq-eqb (of_z w64 z) 0 e
+pub is_zero_lem : (z : ℤ) → SFits w64 z → of_z w64 z ≡ 0 → is_zero z ≡ true
+is_zero_lem z f e = sym (zero_bits z f) ∙ eq-eqb (of_z w64 z) 0 e
 
-pub not-zero : (z : ℤ) → SFits w64 z → (of_z w64 z ≡ 0 → ⊥) → is_zero z ≡ false
-not-zero z f e = sym (zero_bits z f) ∙ ne_eqb (of_z w64 z) 0 e
+pub not_zero : (z : ℤ) → SFits w64 z → (of_z w64 z ≡ 0 → ⊥) → is_zero z ≡ false
+not_zero z f e = sym (zero_bits z f) ∙ ne_eqb (of_z w64 z) 0 e
 
 -- 0 - b, of a b that is not negative
-pub neg-fits : (b : ℤ) → pos 0 ≤ℤ b → SFits w64 b → SFits w64 (neg_ℤ b)
-neg-fits (pos zero) p f = f
-neg-fits (pos (suc n)) p f = record { sfits = omega (arith, f.sfits) }
-neg-fits (negsuc n) p f = absurd p.le
+pub neg_fits : (b : ℤ) → pos 0 ≤ℤ b → SFits w64 b → SFits w64 (neg_ℤ b)
+neg_fits (pos zero) p f = f
+neg_fits (pos (suc n)) p f = record { sfits = omega (arith, f.sfits) }
+neg_fits (negsuc n) p f = absurd p.le
 
 pub lower : (b : ℤ) → SFits w64 b → pos 0 -ℤ to_z w64 (of_z w64 b) ≡ neg_ℤ b
 lower b f = ap (λ z. pos 0 -ℤ z) (to_z-of_z w64 b f) ∙ +ℤ_idl (neg_ℤ b)
 
-pub lower-back : (b : ℤ) → pos 0 ≤ℤ b → SFits w64 b → to_z w64 (of_z w64 (pos 0 -ℤ to_z w64 (of_z w64 b))) ≡ neg_ℤ b
-lower-back b p f = ap (λ z. to_z w64 (of_z w64 z)) (lower b f) ∙ to_z-of_z w64 (neg_ℤ b) (neg-fits b p f)
+pub lower_back : (b : ℤ) → pos 0 ≤ℤ b → SFits w64 b → to_z w64 (of_z w64 (pos 0 -ℤ to_z w64 (of_z w64 b))) ≡ neg_ℤ b
+lower_back b p f = ap (λ z. to_z w64 (of_z w64 z)) (lower b f) ∙ to_z-of_z w64 (neg_ℤ b) (neg_fits b p f)
 
 -- a test of two numbers, from the machine's test of what it reads back
 pub test_of : (x y a b : ℤ) (t : Bool) → x ≡ a → y ≡ b → lt_z x y ≡ t → lt_z a b ≡ t
@@ -54,9 +54,9 @@ other true x y e = absurd (apart e)
 other false x y e = refl
 
 -- ---- zero, and not below it
-pub zero-true : (z : ℤ) → is_zero z ≡ true → z ≡ pos 0
-zero-true (pos n) e = ap pos (eqb-true n 0 e)
-zero-true (negsuc n) e = absurd (apart (sym e))
+pub zero_true : (z : ℤ) → is_zero z ≡ true → z ≡ pos 0
+zero_true (pos n) e = ap pos (eqb-true n 0 e)
+zero_true (negsuc n) e = absurd (apart (sym e))
 
 pub zero_is : (z : ℤ) → z ≡ pos 0 → is_zero z ≡ true
 zero_is z e = ap is_zero e
@@ -65,27 +65,27 @@ pub plain_of : (z : ℤ) → lt_z z (pos 0) ≡ false → z ≡ pos (nat_abs z)
 plain_of (pos n) e = refl
 plain_of (negsuc n) e = absurd (apart e)
 
-pub plain-is : (z : ℤ) → z ≡ pos (nat_abs z) → lt_z z (pos 0) ≡ false
-plain-is (pos n) e = le-ltb n 0 (omega arith)
-plain-is (negsuc n) e = ap (λ z. lt_z z (pos 0)) e ∙ le-ltb (suc n) 0 (omega arith)
+pub plain_is : (z : ℤ) → z ≡ pos (nat_abs z) → lt_z z (pos 0) ≡ false
+plain_is (pos n) e = le-ltb n 0 (omega arith)
+plain_is (negsuc n) e = ap (λ z. lt_z z (pos 0)) e ∙ le-ltb (suc n) 0 (omega arith)
 
-pub not-below : (n : ℕ) → pos 0 ≤ℤ pos n
-not-below n = le_z_yes (le→leb 0 n zero-le)
+pub not_below : (n : ℕ) → pos 0 ≤ℤ pos n
+not_below n = le_z_yes (le→leb 0 n zero-le)
 
 -- ---- a bound
 -- a number that is neither above b nor below -b
-pub between-bounds : (b : ℕ) (x : ℤ) → lt_z (pos b) x ≡ false → lt_z x (neg_ℤ (pos b)) ≡ false → nat_abs x ≤ b
-between-bounds b (pos n) h l = ltb-false b n h
-between-bounds zero (negsuc n) h l = absurd (apart l)
-between-bounds (suc b) (negsuc n) h l = omega (arith, ltb-false b n l)
+pub between_bounds : (b : ℕ) (x : ℤ) → lt_z (pos b) x ≡ false → lt_z x (neg_ℤ (pos b)) ≡ false → nat_abs x ≤ b
+between_bounds b (pos n) h l = ltb-false b n h
+between_bounds zero (negsuc n) h l = absurd (apart l)
+between_bounds (suc b) (negsuc n) h l = omega (arith, ltb-false b n l)
 
 -- and one within b is neither
-pub not-above : (b : ℕ) (z : ℤ) → nat_abs z ≤ b → lt_z (pos b) z ≡ false
-not-above b (pos n) h = le-ltb b n h
-not-above b (negsuc n) h = refl
+pub not_above : (b : ℕ) (z : ℤ) → nat_abs z ≤ b → lt_z (pos b) z ≡ false
+not_above b (pos n) h = le-ltb b n h
+not_above b (negsuc n) h = refl
 
-pub not-under : (b : ℕ) (z : ℤ) → nat_abs z ≤ b → lt_z z (neg_ℤ (pos b)) ≡ false
-not-under zero (pos n) h = le-ltb n 0 (omega arith)
-not-under (suc b) (pos n) h = refl
-not-under zero (negsuc n) h = absurd (omega arith)
-not-under (suc b) (negsuc n) h = le-ltb b n (omega arith)
+pub not_under : (b : ℕ) (z : ℤ) → nat_abs z ≤ b → lt_z z (neg_ℤ (pos b)) ≡ false
+not_under zero (pos n) h = le-ltb n 0 (omega arith)
+not_under (suc b) (pos n) h = refl
+not_under zero (negsuc n) h = absurd (omega arith)
+not_under (suc b) (negsuc n) h = le-ltb b n (omega arith)

@@ -11,20 +11,20 @@ pub data Found : Type 0 where
   at : ℕ → Found
 
 -- the first of n numbers from i on at which a test holds
-unfoldable pub firstFrom : (ℕ → Bool) → ℕ → ℕ → Found
-firstFrom f i zero = none
-firstFrom f i (suc n) = pick (f i) (at i) (firstFrom f (i + 1) n)
+unfoldable pub first_from : (ℕ → Bool) → ℕ → ℕ → Found
+first_from f i zero = none
+first_from f i (suc n) = pick (f i) (at i) (first_from f (i + 1) n)
 
 -- the first entry of n columns from the jth on at whose row and column a test holds, by its number in the packed triangle
-unfoldable pub inColumn : ℕ → Found → Found → Found
-inColumn base none rest = rest
-inColumn base (at i) rest = at (base + i)
+unfoldable pub in_column : ℕ → Found → Found → Found
+in_column base none rest = rest
+in_column base (at i) rest = at (base + i)
 
-unfoldable pub columnsFrom : (ℕ → ℕ → Bool) → ℕ → ℕ → Found
-columnsFrom f j zero = none
-columnsFrom f j (suc n) = inColumn (tri j) (firstFrom (λ i. f i j) 0 (suc j)) (columnsFrom f (j + 1) n)
+unfoldable pub columns_from : (ℕ → ℕ → Bool) → ℕ → ℕ → Found
+columns_from f j zero = none
+columns_from f j (suc n) = in_column (tri j) (first_from (λ i. f i j) 0 (suc j)) (columns_from f (j + 1) n)
 
 -- what the answer of a walk over sums says
-abbrev pub toldWalked : Walked → Found
-toldWalked Sound = none
-toldWalked (Unsound k) = at k
+abbrev pub told_walked : Walked → Found
+told_walked Sound = none
+told_walked (Unsound k) = at k

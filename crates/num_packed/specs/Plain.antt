@@ -9,5 +9,5 @@ unfoldable pub seen_at : List ℤ → ℕ → Bool
 seen_at s i = lt_z (pos 0) (entry s i i)
 
 -- sum k is neither above a bound nor below its negative
-unfoldable pub withinAt : ℤ → List ℤ → ℕ → Bool
-withinAt b s k = cond (lt_z b (get_or s k (pos 0))) false (not (lt_z (get_or s k (pos 0)) (neg_ℤ b)))
+unfoldable pub within_at : ℤ → List ℤ → ℕ → Bool
+within_at b s k = cond (lt_z b (get_or s k (pos 0))) false (not (lt_z (get_or s k (pos 0)) (neg_ℤ b)))

@@ -5,5 +5,5 @@ use Rattle.num_whole.specs.Tests.{up_to, both}
 use Rattle.num_packed.specs.Triangle.{tri}
 
 -- rooms of these lengths hold the sums of p parameters
-unfoldable pub sumsRoomy : ℕ → ℕ → ℕ → Bool
-sumsRoomy p matrix rights = both (up_to (tri p) matrix) (up_to p rights)
+unfoldable pub sums_roomy : ℕ → ℕ → ℕ → Bool
+sums_roomy p matrix rights = both (up_to (tri p) matrix) (up_to p rights)

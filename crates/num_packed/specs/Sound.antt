@@ -22,8 +22,8 @@ breaks b s i j =
     (cond (is_zero (entry s i i)) true (is_zero (entry s j j))))))
 
 -- a right side is too large, or is not 0 where the diagonal of its parameter is 0
-unfoldable pub breaksSide : ℤ → List ℤ → List ℤ → ℕ → Bool
-breaksSide b s r i =
+unfoldable pub breaks_side : ℤ → List ℤ → List ℤ → ℕ → Bool
+breaks_side b s r i =
     cond (lt_z b (get_or r i (pos 0))) true
     (cond (lt_z (get_or r i (pos 0)) (neg_ℤ b)) true
     (cond (is_zero (get_or r i (pos 0))) false (is_zero (entry s i i))))

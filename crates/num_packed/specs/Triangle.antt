@@ -12,8 +12,8 @@ columns w a j zero = []
 columns w a j (suc n) = times (w *ℤ get_or a j (pos 0)) (take (suc j) a) ++ columns w a (suc j) n
 
 -- the whole triangle
-abbrev pub triangleTerms : ℤ → List ℤ → List ℤ
-triangleTerms w a = columns w a 0 (length a)
+abbrev pub triangle_terms : ℤ → List ℤ → List ℤ
+triangle_terms w a = columns w a 0 (length a)
 
 -- how many numbers the first j columns have
 unfoldable pub tri : ℕ → ℕ

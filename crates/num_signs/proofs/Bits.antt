@@ -37,21 +37,21 @@ module _ (w : Width) (z : ℤ) (f : SFits w z) where
     turned : Turned w z
     turned = turn w z f (rw (to_z-of_z w z f) at below)
 
-    pub turned-fits : T (non_neg (to_z w (2 ^ bits w - 1 - of_z w z))) × Fits w (nat_abs (to_z w (2 ^ bits w - 1 - of_z w z)))
-    turned-fits = rw turned.is (tt, record { fits = half_full w turned.small })
+    pub turned_fits : T (non_neg (to_z w (2 ^ bits w - 1 - of_z w z))) × Fits w (nat_abs (to_z w (2 ^ bits w - 1 - of_z w z)))
+    turned_fits = rw turned.is (tt, record { fits = half_full w turned.small })
 
-    pub turned-small : nat_abs (to_z w (2 ^ bits w - 1 - of_z w z)) ≤ 2 ^ bits w - 1
-    turned-small = rw turned.is (omega (arith, pow-bits w, turned.small))
+    pub turned_small : nat_abs (to_z w (2 ^ bits w - 1 - of_z w z)) ≤ 2 ^ bits w - 1
+    turned_small = rw turned.is (omega (arith, pow-bits w, turned.small))
 
-    pub turned-back : 2 ^ bits w - 1 - nat_abs (to_z w (2 ^ bits w - 1 - of_z w z)) ≡ of_z w z
-    turned-back = rw turned.is turned.back
+    pub turned_back : 2 ^ bits w - 1 - nat_abs (to_z w (2 ^ bits w - 1 - of_z w z)) ≡ of_z w z
+    turned_back = rw turned.is turned.back
 
   module _ (above : lt_z (to_z w (of_z w z)) (pos 0) ≡ false) where
     kept : T (non_neg z) × (nat_abs z ≡ of_z w z)
     kept = keep w z (rw (to_z-of_z w z f) at above)
 
-    pub kept-fits : T (non_neg (to_z w (of_z w z))) × Fits w (nat_abs (to_z w (of_z w z)))
-    kept-fits = rw (to_z-of_z w z f) (kept.0, rw kept.1 (of_z_fits w z f))
+    pub kept_fits : T (non_neg (to_z w (of_z w z))) × Fits w (nat_abs (to_z w (of_z w z)))
+    kept_fits = rw (to_z-of_z w z f) (kept.0, rw kept.1 (of_z_fits w z f))
 
     pub kept_back : nat_abs (to_z w (of_z w z)) ≡ of_z w z
     kept_back = ap nat_abs (to_z-of_z w z f) ∙ kept.1

@@ -24,10 +24,10 @@ module _ {A : Type 0} (b : Bool) {x : A} (y z : A) where
   unfolding pick
   no e h = rw e h
 
-pub last-fails : (a : Bool) {b : Bool} → b ≡ false → both a b ≡ false
+pub last_fails : (a : Bool) {b : Bool} → b ≡ false → both a b ≡ false
 unfolding both
-last-fails true e = e
-last-fails false e = refl
+last_fails true e = e
+last_fails false e = refl
 
 module _ (a b : Bool) where
   pub fails : a ≡ false → false ≡ both a b
@@ -47,21 +47,21 @@ module _ (a b : Bool) where
   at_last e h = rw e h
 
 module _ (a b : ℕ) where
-  pub is-less : a < b → less a b ≡ true
+  pub is_less : a < b → less a b ≡ true
   unfolding less
-  is-less = lt-ltb a b
+  is_less = lt-ltb a b
 
-  pub not-less : b ≤ a → less a b ≡ false
+  pub not_less : b ≤ a → less a b ≡ false
   unfolding less
-  not-less = le-ltb a b
+  not_less = le-ltb a b
 
-  pub is-upTo : a ≤ b → up_to a b ≡ true
+  pub is_up_to : a ≤ b → up_to a b ≡ true
   unfolding up_to
-  is-upTo = le-leb a b
+  is_up_to = le-leb a b
 
-  pub not-upTo : b < a → up_to a b ≡ false
+  pub not_up_to : b < a → up_to a b ≡ false
   unfolding up_to
-  not-upTo = lt-leb a b
+  not_up_to = lt-leb a b
 
   pub is_same : a ≡ b → same a b ≡ true
   unfolding same
@@ -76,34 +76,34 @@ module _ (a b : ℕ) where
   unfolding less
   by_less = refl
 
-  pub by-upTo : leb a b ≡ up_to a b
+  pub by_up_to : leb a b ≡ up_to a b
   unfolding up_to
-  by-upTo = refl
+  by_up_to = refl
 
-  pub by-same : eqb a b ≡ same a b
+  pub by_same : eqb a b ≡ same a b
   unfolding same
-  by-same = refl
+  by_same = refl
 
-  pub by-not-same : not (eqb a b) ≡ not (same a b)
+  pub by_not_same : not (eqb a b) ≡ not (same a b)
   unfolding same
-  by-not-same = refl
+  by_not_same = refl
 
   -- what a test that holds says, and one that fails
-  pub less-true : less a b ≡ true → a < b
+  pub less_true : less a b ≡ true → a < b
   unfolding less
-  less-true = ltb-true a b
+  less_true = ltb-true a b
 
-  pub less-false : less a b ≡ false → b ≤ a
+  pub less_false : less a b ≡ false → b ≤ a
   unfolding less
-  less-false = ltb-false a b
+  less_false = ltb-false a b
 
-  pub upTo-true : up_to a b ≡ true → a ≤ b
+  pub up_to_true : up_to a b ≡ true → a ≤ b
   unfolding up_to
-  upTo-true = leb-true a b
+  up_to_true = leb-true a b
 
-  pub upTo-false : up_to a b ≡ false → b < a
+  pub up_to_false : up_to a b ≡ false → b < a
   unfolding up_to
-  upTo-false = leb-false a b
+  up_to_false = leb-false a b
 
   pub same_true : same a b ≡ true → a ≡ b
   unfolding same
@@ -118,27 +118,27 @@ unfolding both
 both_first true b e = refl
 both_first false b e = e
 
-pub both-second : (a b : Bool) → both a b ≡ true → b ≡ true
+pub both_second : (a b : Bool) → both a b ≡ true → b ≡ true
 unfolding both
-both-second true b e = e
-both-second false b e = absurd (apart (sym e))
+both_second true b e = e
+both_second false b e = absurd (apart (sym e))
 
 module _ (low x high : ℕ) where
-  pub is-between : low ≤ x → x ≤ high → between low x high ≡ true
+  pub is_between : low ≤ x → x ≤ high → between low x high ≡ true
   unfolding between
-  is-between p q = sym (holds _ _ (is-upTo low x p) (sym (is-upTo x high q)))
+  is_between p q = sym (holds _ _ (is_up_to low x p) (sym (is_up_to x high q)))
 
   pub is_below : x < low → between low x high ≡ false
   unfolding between
-  is_below p = sym (fails _ _ (not-upTo low x p))
+  is_below p = sym (fails _ _ (not_up_to low x p))
 
-  pub is-above : high < x → between low x high ≡ false
+  pub is_above : high < x → between low x high ≡ false
   unfolding between
-  is-above q = last-fails (up_to low x) (not-upTo x high q)
+  is_above q = last_fails (up_to low x) (not_up_to x high q)
 
-  pub between-true : between low x high ≡ true → (low ≤ x) × (x ≤ high)
+  pub between_true : between low x high ≡ true → (low ≤ x) × (x ≤ high)
   unfolding between
-  between-true e = (upTo-true low x (both_first _ _ e), upTo-true x high (both-second _ _ e))
+  between_true e = (up_to_true low x (both_first _ _ e), up_to_true x high (both_second _ _ e))
 
 -- a test by cases: what follows where it holds and where it fails follows
 pub by_cases : {A : Type 0} (b : Bool) → (b ≡ true → A) → (b ≡ false → A) → A
@@ -146,15 +146,15 @@ by_cases true f g = f refl
 by_cases false f g = g refl
 
 -- ---- what an acceptance says of the tests before it
-pub refused-not : {A : Type 0} {x : Answered A} {k : ℕ} {a : A} → x ≡ refused k → x ≡ given a → ⊥
-refused-not p e = let z : ◌≡◌ {A = ℕ} 0 1 = cc in omega arith
+pub refused_not : {A : Type 0} {x : Answered A} {k : ℕ} {a : A} → x ≡ refused k → x ≡ given a → ⊥
+refused_not p e = let z : ◌≡◌ {A = ℕ} 0 1 = cc in omega arith
 
 pub chosen : {A : Type 0} (k : ℕ) (b : Bool) (x : Answered A) {a : A} → pick b x (refused k) ≡ given a → (b ≡ true) × (x ≡ given a)
 unfolding pick
 chosen k true x e = (refl, e)
-chosen k false x e = absurd (refused-not refl e)
+chosen k false x e = absurd (refused_not refl e)
 
 pub passed : {A : Type 0} (k : ℕ) (b : Bool) (x : Answered A) {a : A} → pick b (refused k) x ≡ given a → (b ≡ false) × (x ≡ given a)
 unfolding pick
-passed k true x e = absurd (refused-not refl e)
+passed k true x e = absurd (refused_not refl e)
 passed k false x e = (refl, e)

@@ -11,14 +11,14 @@ use lib.ListN.{length, take, get_or, length-take, drop_of_length-le}
 use lib.Seq.{drop-cons, get_or-take}
 use Rattle.num_whole.specs.Tests.{both}
 use Rattle.num_whole.specs.Lists.{all, ascend, rest}
-use Rattle.num_whole.proofs.Cases.{is-upTo, not-upTo, both_first, both-second}
+use Rattle.num_whole.proofs.Cases.{is_up_to, not_up_to, both_first, both_second}
 
 -- what holds of each element holds of the one at a place
-pub all-at : {A : Type 0} (f : A → Bool) (l : List A) (d : A) (i : ℕ) → all f l ≡ true → i < length l → f (get_or l i d) ≡ true
+pub all_at : {A : Type 0} (f : A → Bool) (l : List A) (d : A) (i : ℕ) → all f l ≡ true → i < length l → f (get_or l i d) ≡ true
 unfolding all
-all-at f [] d i e h = absurd (not-suc-le-zero h)
-all-at f (a ∷ l) d zero e h = both_first _ _ e
-all-at f (a ∷ l) d (suc i) e h = all-at f l d i (both-second _ _ e) (le_of_suc-le-suc h)
+all_at f [] d i e h = absurd (not-suc-le-zero h)
+all_at f (a ∷ l) d zero e h = both_first _ _ e
+all_at f (a ∷ l) d (suc i) e h = all_at f l d i (both_second _ _ e) (le_of_suc-le-suc h)
 
 -- a list that is walked: nothing is left, or one element and what follows it
 module _ {A : Type 0} (f : A → Bool) {l : List A} where
@@ -27,27 +27,27 @@ module _ {A : Type 0} (f : A → Bool) {l : List A} where
   all_done e = rw e
 
   module _ {a : A} {m : List A} (e : l ≡ a ∷ m) where
-    pub all-on : f a ≡ true → all f l ≡ all f m
+    pub all_on : f a ≡ true → all f l ≡ all f m
     unfolding all both
-    all-on t = rw (e, t)
+    all_on t = rw (e, t)
 
-    pub all-off : f a ≡ false → all f l ≡ false
+    pub all_off : f a ≡ false → all f l ≡ false
     unfolding all both
-    all-off t = rw (e, t)
+    all_off t = rw (e, t)
 
 module _ {A : Type 0} (key : A → ℕ) (floor : ℕ) {l : List A} where
-  pub ascend-done : l ≡ [] → ascend key floor l ≡ true
+  pub ascend_done : l ≡ [] → ascend key floor l ≡ true
   unfolding ascend
-  ascend-done e = rw e
+  ascend_done e = rw e
 
   module _ {a : A} {m : List A} (e : l ≡ a ∷ m) where
-    pub ascend-on : floor ≤ key a → ascend key floor l ≡ ascend key (key a + 1) m
+    pub ascend_on : floor ≤ key a → ascend key floor l ≡ ascend key (key a + 1) m
     unfolding ascend both
-    ascend-on t = rw (e, is-upTo _ _ t)
+    ascend_on t = rw (e, is_up_to _ _ t)
 
-    pub ascend-off : key a < floor → ascend key floor l ≡ false
+    pub ascend_off : key a < floor → ascend key floor l ≡ false
     unfolding ascend both
-    ascend-off t = rw (e, not-upTo _ _ t)
+    ascend_off t = rw (e, not_up_to _ _ t)
 
 -- the first n elements of a list, i of them done
 module _ {A : Type 0} (l : List A) (n i : ℕ) where
@@ -67,19 +67,19 @@ module _ {A : Type 0} (l : List A) (n i : ℕ) where
 
     module _ (d : A) (fits : n ≤ length l) (more : i < n) where
       pub all_pass : f (get_or l i d) ≡ true → all f (rest l n i) ≡ all f (rest l n (i + 1))
-      all_pass = all-on f (rest_more d fits more)
+      all_pass = all_on f (rest_more d fits more)
 
-      pub all-fail : f (get_or l i d) ≡ false → all f (rest l n i) ≡ false
-      all-fail = all-off f (rest_more d fits more)
+      pub all_fail : f (get_or l i d) ≡ false → all f (rest l n i) ≡ false
+      all_fail = all_off f (rest_more d fits more)
 
   module _ (key : A → ℕ) (floor : ℕ) where
-    pub ascend-end : n ≤ i → ascend key floor (rest l n i) ≡ true
-    ascend-end e = ascend-done key floor (rest_end e)
+    pub ascend_end : n ≤ i → ascend key floor (rest l n i) ≡ true
+    ascend_end e = ascend_done key floor (rest_end e)
 
     module _ (d : A) (fits : n ≤ length l) (more : i < n) where
-      pub ascend-pass : floor ≤ key (get_or l i d)
+      pub ascend_pass : floor ≤ key (get_or l i d)
           → ascend key floor (rest l n i) ≡ ascend key (key (get_or l i d) + 1) (rest l n (i + 1))
-      ascend-pass = ascend-on key floor (rest_more d fits more)
+      ascend_pass = ascend_on key floor (rest_more d fits more)
 
-      pub ascend-fail : key (get_or l i d) < floor → ascend key floor (rest l n i) ≡ false
-      ascend-fail = ascend-off key floor (rest_more d fits more)
+      pub ascend_fail : key (get_or l i d) < floor → ascend key floor (rest l n i) ≡ false
+      ascend_fail = ascend_off key floor (rest_more d fits more)

@@ -5,7 +5,7 @@ ghost use Rattle.num_whole.specs.Answer.{bad};
 ghost use Rattle.num_packed.specs.Triangle.{tri};
 ghost use Rattle.refusal.specs.First.{answered};
 ghost use Rattle.refusal.specs.Number.{number_of};
-ghost use Rattle.refusal.specs.Told.{toldVerdict};
+ghost use Rattle.refusal.specs.Told.{told_verdict};
 ghost use Rattle.arc_read.specs.Arc.{Arc};
 ghost use Rattle.take_state.specs.State.{state_of};
 ghost use Rattle.part_laws.specs.Feeding.{begun, so_far};
@@ -13,21 +13,21 @@ ghost use Rattle.part_laws.specs.Entries.{
   position_of,
   held_of,
   fair,
-  soundAt,
-  parametersIn,
+  sound_at,
+  parameters_in,
   stopped,
-  toldPart,
-  toldForm,
-  beginNumber,
-  beginState,
-  partTold,
-  partPosition,
-  partState,
-  partAnswers,
-  finishTold,
-  finishPosition,
-  headingTold,
-  headingGiven,
+  told_part,
+  told_form,
+  begin_number,
+  begin_state,
+  part_told,
+  part_position,
+  part_state,
+  part_answers,
+  finish_told,
+  finish_position,
+  heading_told,
+  heading_given,
 };
 ghost use Rattle.part.specs.Going.{Going, grown};
 
@@ -51,9 +51,9 @@ pub struct Begun {
 
 // Where a file begins, with an empty state: 20 where the room for fifty parameters is short, else the sums are cleared.
 pub fn begin(matrix: &mut [i64], rights: &mut [i64]) -> Begun
-    ensures answer_value { toldVerdict result.answer ≡ answered (beginNumber matrix.old rights.old) tt }
+    ensures answer_value { told_verdict result.answer ≡ answered (begin_number matrix.old rights.old) tt }
     ensures position { result.position ≡ held_of begun }
-    ensures state { state_of matrix.new rights.new result.tally ≡ beginState matrix.old rights.old }
+    ensures state { state_of matrix.new rights.new result.tally ≡ begin_state matrix.old rights.old }
 {
     if take_room::is_roomy(PARAMETERS_MOST, matrix, rights) {
         let sums = num_packed::triangle(PARAMETERS_MOST);
@@ -84,7 +84,7 @@ pub struct Parted {
 
 // Nothing changes.
 fn stopped(r: Refusal, p: Position, t: Tally) -> Parted
-    ensures { (toldPart result.answer ≡ stopped (number_of r)) × (result.position ≡ p) × (result.tally ≡ t) }
+    ensures { (told_part result.answer ≡ stopped (number_of r)) × (result.position ≡ p) × (result.tally ≡ t) }
 {
     Parted {
         answer: PartAnswer::Stopped(r),
@@ -95,7 +95,7 @@ fn stopped(r: Refusal, p: Position, t: Tally) -> Parted
 
 // A part of a file that it does not open: what is kept grows, or a refusal in its form closes it.
 fn unopened(r: Refusal, place: usize, f: Front, taken: usize, t: Tally) -> Parted
-    ensures answer_value { toldPart result.answer ≡ toldForm (so_far {A = Arc} (bad (number_of r) place)) 0 taken }
+    ensures answer_value { told_part result.answer ≡ told_form (so_far {A = Arc} (bad (number_of r) place)) 0 taken }
     ensures position { result.position ≡ grown (so_far {A = Arc} (bad (number_of r) place)) f taken }
     ensures tally { result.tally ≡ t }
 {
@@ -134,10 +134,10 @@ fn go_on(
     answers: &mut [u8],
 ) -> Parted
     requires { Going p (state_of matrix.old rights.old t) bytes.now (length answers.old) new f n }
-    ensures answer_value { toldPart result.answer ≡ partTold p (state_of matrix.old rights.old t) bytes.now (length answers.old) }
-    ensures position { result.position ≡ partPosition p (state_of matrix.old rights.old t) bytes.now (length answers.old) }
-    ensures state { state_of matrix.new rights.new result.tally ≡ partState p (state_of matrix.old rights.old t) bytes.now (length answers.old) }
-    ensures told { answers.new ≡ partAnswers p (state_of matrix.old rights.old t) bytes.now answers.old }
+    ensures answer_value { told_part result.answer ≡ part_told p (state_of matrix.old rights.old t) bytes.now (length answers.old) }
+    ensures position { result.position ≡ part_position p (state_of matrix.old rights.old t) bytes.now (length answers.old) }
+    ensures state { state_of matrix.new rights.new result.tally ≡ part_state p (state_of matrix.old rights.old t) bytes.now (length answers.old) }
+    ensures told { answers.new ≡ part_answers p (state_of matrix.old rights.old t) bytes.now answers.old }
 {
     let answer = new.answer;
     let taken = p.taken;
@@ -166,8 +166,8 @@ fn go_on(
 
 // Whether the position and the state at it are such as the entries give.
 fn is_given(p: Position, parameters: usize, t: Tally, matrix: &[i64], rights: &[i64]) -> bool
-    requires { (parameters ≡ parametersIn (position_of p).kept) × (tri parameters ≤ length matrix.now) × (parameters ≤ length rights.now) }
-    ensures { result ≡ both (fair p) (soundAt (position_of p) (state_of matrix.now rights.now t)) }
+    requires { (parameters ≡ parameters_in (position_of p).kept) × (tri parameters ≤ length matrix.now) × (parameters ≤ length rights.now) }
+    ensures { result ≡ both (fair p) (sound_at (position_of p) (state_of matrix.now rights.now t)) }
 {
     let old = part_place::open_at(p);
     if part_place::is_fair(p, old) {
@@ -186,10 +186,10 @@ pub fn part(
     bytes: &[u8],
     answers: &mut [u8],
 ) -> Parted
-    ensures answer_value { toldPart result.answer ≡ partTold p (state_of matrix.old rights.old t) bytes.now (length answers.old) }
-    ensures position { result.position ≡ partPosition p (state_of matrix.old rights.old t) bytes.now (length answers.old) }
-    ensures state { state_of matrix.new rights.new result.tally ≡ partState p (state_of matrix.old rights.old t) bytes.now (length answers.old) }
-    ensures told { answers.new ≡ partAnswers p (state_of matrix.old rights.old t) bytes.now answers.old }
+    ensures answer_value { told_part result.answer ≡ part_told p (state_of matrix.old rights.old t) bytes.now (length answers.old) }
+    ensures position { result.position ≡ part_position p (state_of matrix.old rights.old t) bytes.now (length answers.old) }
+    ensures state { state_of matrix.new rights.new result.tally ≡ part_state p (state_of matrix.old rights.old t) bytes.now (length answers.old) }
+    ensures told { answers.new ≡ part_answers p (state_of matrix.old rights.old t) bytes.now answers.old }
 {
     if p.over {
         return stopped(Refusal::Closed, p, t);
@@ -216,8 +216,8 @@ pub fn part(
 
 // The file is over: 28, 6, 1 where something is missing, or nothing is wrong.
 pub fn finish(p: Position) -> Finished
-    ensures answer_value { toldPart result.answer ≡ finishTold p }
-    ensures position { result.position ≡ finishPosition p }
+    ensures answer_value { told_part result.answer ≡ finish_told p }
+    ensures position { result.position ≡ finish_position p }
 {
     if p.over {
         return Finished {
@@ -246,8 +246,8 @@ pub struct Headed {
 
 // The heading of what was handed over: 6, or 1 where it is not complete yet.
 pub fn heading(p: Position) -> Headed
-    ensures answer_value { toldPart result.answer ≡ headingTold p }
-    ensures heading { result.heading ≡ headingGiven p }
+    ensures answer_value { told_part result.answer ≡ heading_told p }
+    ensures heading { result.heading ≡ heading_given p }
 {
     let old = part_place::open_at(p);
     if part_place::is_fair(p, old) {

@@ -11,27 +11,27 @@ use Rattle.num_whole.specs.Tests.{less, same, pick}
 use Rattle.num_whole.specs.Answer.{Judged, good, bad}
 use Rattle.num_whole.proofs.Cases.{yes, no, by_cases, same_true, same_false, is_same, not_same}
 use Rattle.byte_section.specs.Section.{and_then}
-use Rattle.byte_section.proofs.Walk.{not-bad, by-judged, then-good, then-bad}
+use Rattle.byte_section.proofs.Walk.{not_bad, by_judged, then_good, then_bad}
 use Rattle.arc_heading.specs.declared.Heading.{Heading}
-use Rattle.arc_read.specs.Arc.{Arc, readArc}
+use Rattle.arc_read.specs.Arc.{Arc, read_arc}
 use Rattle.take_state.specs.State.{State}
 use Rattle.take_laws.specs.Machine.{run, answers}
-use Rattle.take_laws.specs.Taking.{frame_of, recordAnswer, recordStep}
-use Rattle.take_laws.proofs.Trace.{run-append}
-use Rattle.take_laws.proofs.Appended.{answers-append}
-use Rattle.part_laws.specs.Beginning.{opened, closedAt, done, left, readAt, openedHeading}
-use Rattle.part_laws.specs.Feeding.{Position, begun, ended, so_far, moved, Fed, handed, feed, finish, fedOn, concat, feeds}
-use Rattle.part_laws.proofs.Cuts.{After, after, before, refusal-closes}
+use Rattle.take_laws.specs.Taking.{frame_of, record_answer, record_step}
+use Rattle.take_laws.proofs.Trace.{run_append}
+use Rattle.take_laws.proofs.Appended.{answers_append}
+use Rattle.part_laws.specs.Beginning.{opened, closed_at, done, left, read_at, opened_heading}
+use Rattle.part_laws.specs.Feeding.{Position, begun, ended, so_far, moved, Fed, handed, feed, finish, fed_on, concat, feeds}
+use Rattle.part_laws.proofs.Cuts.{After, after, before, refusal_closes}
 
 -- ---- what is said of the form so far
 module _ {A : Type 0} where
   -- a refusal so far is one of the reading, and not 1
-  pub so-far-bad : (v : Judged A) (number place : ℕ) → so_far v ≡ bad number place → (v ≡ bad number place) × (number ≡ 1 → ⊥)
+  pub so_far_bad : (v : Judged A) (number place : ℕ) → so_far v ≡ bad number place → (v ≡ bad number place) × (number ≡ 1 → ⊥)
   unfolding so_far
-  so-far-bad (good a) number place e = absurd (not-bad e)
-  so-far-bad (bad k p) number place e =
+  so_far_bad (good a) number place e = absurd (not_bad e)
+  so_far_bad (bad k p) number place e =
       by_cases (same k 1)
-      (λ f. absurd (not-bad (yes _ _ _ f refl ∙ e)))
+      (λ f. absurd (not_bad (yes _ _ _ f refl ∙ e)))
       (λ f. let is : ◌≡◌ {A = Judged (Unit {0})} (bad k p) (bad number place) = no _ _ _ f refl ∙ e in
       let one : k ≡ number = cc in
       let two : p ≡ place = cc in
@@ -43,25 +43,25 @@ made v n l z w = record { position = moved v n l; state = z; answers = w; verdic
 
 module _ (t : ℕ) (b : List ℕ) (s : State) (m : List ℕ) where
   abbrev ran : Heading → State → List (List ℕ) → State
-  ran h z l = run (recordStep (frame_of h)) z l
+  ran h z l = run (record_step (frame_of h)) z l
 
   abbrev told : Heading → State → List (List ℕ) → List ℕ
-  told h z l = answers (recordStep (frame_of h)) (recordAnswer (frame_of h)) z l
+  told h z l = answers (record_step (frame_of h)) (record_answer (frame_of h)) z l
 
   -- the records of the first, with the heading of both
   abbrev state₁ : State
-  state₁ = ran (openedHeading b) s (done t b)
+  state₁ = ran (opened_heading b) s (done t b)
 
   abbrev told₁ : List ℕ
-  told₁ = told (openedHeading b) s (done t b)
+  told₁ = told (opened_heading b) s (done t b)
 
-  ran-longer : ran (openedHeading (b ++ m)) s (done t b) ≡ state₁
+  ran_longer : ran (opened_heading (b ++ m)) s (done t b) ≡ state₁
   unfolding run
-  ran-longer = sym (before t b m (λ h l. ran h s l) (λ h k. refl))
+  ran_longer = sym (before t b m (λ h l. ran h s l) (λ h k. refl))
 
-  told-longer : told (openedHeading (b ++ m)) s (done t b) ≡ told₁
+  told_longer : told (opened_heading (b ++ m)) s (done t b) ≡ told₁
   unfolding answers
-  told-longer = sym (before t b m (λ h l. told h s l) (λ h k. refl))
+  told_longer = sym (before t b m (λ h l. told h s l) (λ h k. refl))
 
   abbrev t₁ : ℕ
   t₁ = t + length (done t b)
@@ -70,67 +70,67 @@ module _ (t : ℕ) (b : List ℕ) (s : State) (m : List ℕ) where
   u = left t b ++ m
 
   -- not refused: the second goes on where the first ended
-  on : handed t (b ++ m) s ≡ fedOn (made (good tt) t₁ (left t b) state₁ told₁) (handed t₁ u state₁)
+  on : handed t (b ++ m) s ≡ fed_on (made (good tt) t₁ (left t b) state₁ told₁) (handed t₁ u state₁)
   unfolding and_then
   on =
       let x = after t b m in
-      let h = openedHeading (b ++ m) in
+      let h = opened_heading (b ++ m) in
       let d = done t₁ u in
-      let v = so_far (readAt t₁ u) in
+      let v = so_far (read_at t₁ u) in
       let number : t + length (done t (b ++ m)) ≡ t₁ + length d =
       ap (λ l. t + length l) x.records ∙ ap (λ n. t + n) (length-append (done t b) d) ∙ omega arith in
-      let state : ran h s (done t (b ++ m)) ≡ ran (openedHeading u) state₁ d =
-      ap (ran h s) x.records ∙ run-append (recordStep (frame_of h)) s (done t b) d ∙ ap₂ (λ k z. ran k z d) x.heading ran-longer in
-      let heard : told h s (done t (b ++ m)) ≡ told₁ ++ told (openedHeading u) state₁ d =
+      let state : ran h s (done t (b ++ m)) ≡ ran (opened_heading u) state₁ d =
+      ap (ran h s) x.records ∙ run_append (record_step (frame_of h)) s (done t b) d ∙ ap₂ (λ k z. ran k z d) x.heading ran_longer in
+      let heard : told h s (done t (b ++ m)) ≡ told₁ ++ told (opened_heading u) state₁ d =
       ap (told h s) x.records
-      ∙ answers-append (recordStep (frame_of h)) (recordAnswer (frame_of h)) s (done t b) d
-      ∙ ap₂ (λ p q. p ++ q) told-longer (ap₂ (λ k z. told k z d) x.heading ran-longer) in
+      ∙ answers_append (record_step (frame_of h)) (record_answer (frame_of h)) s (done t b) d
+      ∙ ap₂ (λ p q. p ++ q) told_longer (ap₂ (λ k z. told k z d) x.heading ran_longer) in
       ap₂ (λ w l. made w (t + length (done t (b ++ m))) l (ran h s (done t (b ++ m))) (told h s (done t (b ++ m)))) (ap so_far x.read) x.rest
       ∙ ap (λ n. made v n (left t₁ u) (ran h s (done t (b ++ m))) (told h s (done t (b ++ m)))) number
       ∙ ap₂ (λ z w. made v (t₁ + length d) (left t₁ u) z w) state heard
 
   -- refused: nothing of the second is heard
-  off : (number place : ℕ) → so_far (readAt t b) ≡ bad number place → handed t (b ++ m) s ≡ made (bad number place) t₁ (left t b) state₁ told₁
+  off : (number place : ℕ) → so_far (read_at t b) ≡ bad number place → handed t (b ++ m) s ≡ made (bad number place) t₁ (left t b) state₁ told₁
   off number place e =
-      let r = so-far-bad (readAt t b) number place e in
-      let x = refusal-closes t b m number place r.0 r.1 in
-      let h = openedHeading (b ++ m) in
-      let v : so_far (readAt t (b ++ m)) ≡ bad number place = ap so_far (x.read ∙ sym r.0) ∙ e in
+      let r = so_far_bad (read_at t b) number place e in
+      let x = refusal_closes t b m number place r.0 r.1 in
+      let h = opened_heading (b ++ m) in
+      let v : so_far (read_at t (b ++ m)) ≡ bad number place = ap so_far (x.read ∙ sym r.0) ∙ e in
       ap₂ (λ w l. made w (t + length l) (left t (b ++ m)) (ran h s l) (told h s l)) v x.records
-      ∙ ap₂ (λ z w. made (bad number place) t₁ (left t b) z w) ran-longer told-longer
+      ∙ ap₂ (λ z w. made (bad number place) t₁ (left t b) z w) ran_longer told_longer
 
-  then-more : handed t (b ++ m) s ≡ fedOn (handed t b s) (feed (handed t b s).position (handed t b s).state m)
+  then_more : handed t (b ++ m) s ≡ fed_on (handed t b s) (feed (handed t b s).position (handed t b s).state m)
   unfolding feed pick and_then
-  then-more =
-      let two : Judged (Unit {0}) → Fed = λ v. fedOn (made v t₁ (left t b) state₁ told₁) (feed (moved v t₁ (left t b)) state₁ m) in
-      by-judged (so_far (readAt t b))
+  then_more =
+      let two : Judged (Unit {0}) → Fed = λ v. fed_on (made v t₁ (left t b) state₁ told₁) (feed (moved v t₁ (left t b)) state₁ m) in
+      by_judged (so_far (read_at t b))
       (λ a e. on ∙ ap two (sym e))
       (λ number place e. off number place e ∙ ap (made (bad number place) t₁ (left t b) state₁) (sym (append-nil told₁)) ∙ ap two (sym e))
 
 -- ---- a part, by whether the file is over: 28, and nothing changes
 module _ (p : Position) (s : State) (l : List ℕ) where
-  pub after-over : p.over ≡ true → feed p s l ≡ record { position = p; state = s; answers = []; verdict = bad 28 0 }
+  pub after_over : p.over ≡ true → feed p s l ≡ record { position = p; state = s; answers = []; verdict = bad 28 0 }
   unfolding feed
-  after-over e = sym (yes _ _ _ e refl)
+  after_over e = sym (yes _ _ _ e refl)
 
-  pub not-over : p.over ≡ false → feed p s l ≡ handed p.taken (p.kept ++ l) s
+  pub not_over : p.over ≡ false → feed p s l ≡ handed p.taken (p.kept ++ l) s
   unfolding feed
-  not-over e = sym (no _ _ _ e refl)
+  not_over e = sym (no _ _ _ e refl)
 
 -- ---- cuts don't matter
-pub cuts : (p : Position) (s : State) (l m : List ℕ) → feed p s (l ++ m) ≡ fedOn (feed p s l) (feed (feed p s l).position (feed p s l).state m)
+pub cuts : (p : Position) (s : State) (l m : List ℕ) → feed p s (l ++ m) ≡ fed_on (feed p s l) (feed (feed p s l).position (feed p s l).state m)
 unfolding and_then
 cuts p s l m =
     by_cases p.over
-    (λ e. after-over p s (l ++ m) e
-    ∙ ap₂ (λ x y. fedOn x y) (sym (after-over p s l e)) (sym (ap (λ x. feed x.position x.state m) (after-over p s l e) ∙ after-over p s m e)))
-    (λ e. not-over p s (l ++ m) e
-    ∙ ap (λ x. handed p.taken x s) (sym (append_assoc p.kept l m)) ∙ then-more p.taken (p.kept ++ l) s m
-    ∙ ap (λ x. fedOn x (feed x.position x.state m)) (sym (not-over p s l e)))
+    (λ e. after_over p s (l ++ m) e
+    ∙ ap₂ (λ x y. fed_on x y) (sym (after_over p s l e)) (sym (ap (λ x. feed x.position x.state m) (after_over p s l e) ∙ after_over p s m e)))
+    (λ e. not_over p s (l ++ m) e
+    ∙ ap (λ x. handed p.taken x s) (sym (append_assoc p.kept l m)) ∙ then_more p.taken (p.kept ++ l) s m
+    ∙ ap (λ x. fed_on x (feed x.position x.state m)) (sym (not_over p s l e)))
 
 -- so the parts are what their bytes are as one part
 pub parts : (p : Position) (s : State) (l : List ℕ) (ms : List (List ℕ)) → feeds p s l ms ≡ feed p s (l ++ concat ms)
 unfolding feeds concat
 parts p s l [] = ap (feed p s) (sym (append-nil l))
 parts p s l (m ∷ ms) =
-    ap (fedOn (feed p s l)) (parts (feed p s l).position (feed p s l).state m ms) ∙ sym (cuts p s l (m ++ concat ms))
+    ap (fed_on (feed p s l)) (parts (feed p s l).position (feed p s l).state m ms) ∙ sym (cuts p s l (m ++ concat ms))

@@ -7,8 +7,8 @@ use Rattle.byte_section.specs.Section.{and_then}
 use Rattle.arc_read.specs.Arc.{Arc}
 use Rattle.take_state.specs.State.{State}
 use Rattle.take_laws.specs.Machine.{run, answers}
-use Rattle.take_laws.specs.Taking.{Frame, frame_of, recordAnswer, recordStep}
-use Rattle.part_laws.specs.Beginning.{done, left, readAt, openedHeading}
+use Rattle.take_laws.specs.Taking.{Frame, frame_of, record_answer, record_step}
+use Rattle.part_laws.specs.Beginning.{done, left, read_at, opened_heading}
 
 -- A position: the bytes handed over without those of the records taken, so the heading as far as it is read and the bytes of an unfinished
 -- count or record; how many records were taken; whether the file is over. One that is over after a refusal keeps no bytes, one after a finish
@@ -44,15 +44,15 @@ pub record Fed : Type 0 where
 -- the bytes s of a file without `taken` records: the whole ones are taken
 module _ (taken : ℕ) (s : List ℕ) (old : State) where
   abbrev frame : Frame
-  frame = frame_of (openedHeading s)
+  frame = frame_of (opened_heading s)
 
   abbrev pub handed : Fed
   handed =
       record {
-        position = moved (so_far (readAt taken s)) (taken + length (done taken s)) (left taken s);
-        state = run (recordStep frame) old (done taken s);
-        answers = answers (recordStep frame) (recordAnswer frame) old (done taken s);
-        verdict = so_far (readAt taken s);
+        position = moved (so_far (read_at taken s)) (taken + length (done taken s)) (left taken s);
+        state = run (record_step frame) old (done taken s);
+        answers = answers (record_step frame) (record_answer frame) old (done taken s);
+        verdict = so_far (read_at taken s);
       }
 
 -- "a part or a finish after finish or after a refusal in the file's form: 28"; it carries no place
@@ -62,7 +62,7 @@ feed p s l =
 
 -- the file is over: what its reading says, 1 too
 unfoldable pub finish : Position → Judged Arc
-finish p = pick p.over (bad 28 0) (readAt p.taken p.kept)
+finish p = pick p.over (bad 28 0) (read_at p.taken p.kept)
 
 -- where finish leads: a file of good form keeps its heading, so that it can still be asked for
 abbrev pub closing : Judged Arc → Position → Position
@@ -70,8 +70,8 @@ closing (good a) p = record { kept = p.kept; taken = p.taken; over = true }
 closing (bad number place) p = ended p.taken
 
 -- ---- one part after another: the answers of both; of the form, what the first refuses, else what the second says
-abbrev pub fedOn : Fed → Fed → Fed
-fedOn x y =
+abbrev pub fed_on : Fed → Fed → Fed
+fed_on x y =
     record {
       position = y.position;
       state = y.state;
@@ -87,4 +87,4 @@ concat (l ∷ ls) = l ++ concat ls
 -- a part, and the parts after it
 unfoldable pub feeds : Position → State → List ℕ → List (List ℕ) → Fed
 feeds p s l [] = feed p s l
-feeds p s l (m ∷ ms) = fedOn (feed p s l) (feeds (feed p s l).position (feed p s l).state m ms)
+feeds p s l (m ∷ ms) = fed_on (feed p s l) (feeds (feed p s l).position (feed p s l).state m ms)

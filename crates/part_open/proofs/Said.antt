@@ -7,14 +7,14 @@ use Rattle.refusal.specs.Number.{number_of}
 use Rattle.refusal.specs.declared.Refusal.{Refusal}
 use Rattle.byte_section.specs.Section.{and_then}
 use Rattle.byte_section.specs.declared.ReadAnswer.TheVariants as Answers
-use Rattle.part_open.specs.Told.{toldOpening}
+use Rattle.part_open.specs.Told.{told_opening}
 use Rattle.part_open.specs.declared.Opening.{Opening}
 
 module _ (o : Opening) where
-  pub opening-read : o.answer ≡ Answers.Read → toldOpening o ≡ good (record { heading = o.heading; count = o.count; start = o.start })
-  unfolding toldOpening and_then
-  opening-read e = rw e
+  pub opening_read : o.answer ≡ Answers.Read → told_opening o ≡ good (record { heading = o.heading; count = o.count; start = o.start })
+  unfolding told_opening and_then
+  opening_read e = rw e
 
-  pub opening-refused : {r : Refusal} {place : ℕ} → o.answer ≡ Answers.Refused r place → toldOpening o ≡ bad (number_of r) place
-  unfolding toldOpening and_then
-  opening-refused e = rw e
+  pub opening_refused : {r : Refusal} {place : ℕ} → o.answer ≡ Answers.Refused r place → told_opening o ≡ bad (number_of r) place
+  unfolding told_opening and_then
+  opening_refused e = rw e

@@ -1,10 +1,10 @@
 // What opens an arc file, read of its beginning: the heading, the count of its records and the place of the first of them.
 ghost use Rattle.std.specs.Prelude.{◌≡◌, ◌≤◌, length};
-ghost use Rattle.num_limits.specs.Capacities.{parametersMost, recordsMost};
+ghost use Rattle.num_limits.specs.Capacities.{parameters_most, records_most};
 ghost use Rattle.refusal.specs.Number.{number_of};
 ghost use Rattle.num_whole.specs.Answer.{bad};
 ghost use Rattle.part_laws.specs.Beginning.{opened};
-ghost use Rattle.part_open.specs.Told.{toldOpening};
+ghost use Rattle.part_open.specs.Told.{told_opening};
 
 use arc_heading::Heading;
 use byte_section::{CountAnswer, ReadAnswer};
@@ -21,7 +21,7 @@ pub struct Opening {
 }
 
 fn refused(r: Refusal, place: usize) -> Opening
-    ensures { (toldOpening result ≡ bad (number_of r) place) × (result.heading.parameters ≤ parametersMost) × (result.start ≤ 0) × (result.count ≤ 0) }
+    ensures { (told_opening result ≡ bad (number_of r) place) × (result.heading.parameters ≤ parameters_most) × (result.start ≤ 0) × (result.count ≤ 0) }
 {
     Opening {
         answer: ReadAnswer::Refused(r, place),
@@ -32,7 +32,7 @@ fn refused(r: Refusal, place: usize) -> Opening
 }
 
 pub fn open(s: &[u8]) -> Opening
-    ensures { (toldOpening result ≡ opened s.now) × (result.heading.parameters ≤ parametersMost) × (result.start ≤ length s.now) × (result.count ≤ recordsMost) }
+    ensures { (told_opening result ≡ opened s.now) × (result.heading.parameters ≤ parameters_most) × (result.start ≤ length s.now) × (result.count ≤ records_most) }
 {
     let first = arc_front::read_heading(s);
     let answer = first.answer;

@@ -8,70 +8,70 @@ use native.Mathlib.Nat.{mul-le-mul}
 use lib.ListN.{length}
 use Rattle.num_whole.specs.Tests.{less, pick}
 use Rattle.num_whole.specs.Answer.{Judged, good, bad}
-use Rattle.num_whole.proofs.Cases.{yes, no, is-less, not-less, upTo-true, less-true, both_first, both-second}
-use Rattle.num_limits.specs.Capacities.{parametersMost, recordsMost}
+use Rattle.num_whole.proofs.Cases.{yes, no, is_less, not_less, up_to_true, less_true, both_first, both_second}
+use Rattle.num_limits.specs.Capacities.{parameters_most, records_most}
 use Rattle.arc_read.specs.Arc.{Arc}
-use Rattle.part_laws.specs.Beginning.{opened, size_of, ends_at, closedAt, readAt}
+use Rattle.part_laws.specs.Beginning.{opened, size_of, ends_at, closed_at, read_at}
 use Rattle.part_laws.specs.Feeding.{Position, ended, closing}
-use Rattle.part_laws.specs.Entries.{positionMost, position_of, held_of, Told, took, broken, tidy, placed, led, fair, toldEnd}
+use Rattle.part_laws.specs.Entries.{position_most, position_of, held_of, Told, took, broken, tidy, placed, led, fair, told_end}
 use Rattle.part_laws.specs.declared.Position as ByValue
-use Rattle.part_laws.proofs.ByValue.{tidy-fits, tidy-long, held_back}
-use Rattle.part_laws.proofs.Cuts.{read-good, read-bad}
-use Rattle.part_laws.proofs.Six.{placed-amid, within-numbers}
+use Rattle.part_laws.proofs.ByValue.{tidy_fits, tidy_long, held_back}
+use Rattle.part_laws.proofs.Cuts.{read_good, read_bad}
+use Rattle.part_laws.proofs.Six.{placed_amid, within_numbers}
 
-pub small : (n p : ℕ) → n ≤ recordsMost → p ≤ parametersMost → n * (32 + 2 * p) ≤ 8650620
+pub small : (n p : ℕ) → n ≤ records_most → p ≤ parameters_most → n * (32 + 2 * p) ≤ 8650620
 small n p h k = let size : 32 + 2 * p ≤ 132 = omega arith in mul-le-mul h size
 
 -- ---- a position that the entries give, of a file that is not over
-module _ (p : ByValue.Position) (room : length p.kept ≡ positionMost) (ok : fair p ≡ true) (going : p.over ≡ false) where
+module _ (p : ByValue.Position) (room : length p.kept ≡ position_most) (ok : fair p ≡ true) (going : p.over ≡ false) where
   clean : tidy p ≡ true
   unfolding fair
   clean = both_first _ _ ok
 
   pub there : placed (position_of p) ≡ true
   unfolding fair led
-  there = no _ _ _ going refl ∙ both-second _ _ ok
+  there = no _ _ _ going refl ∙ both_second _ _ ok
 
   pub long : length (position_of p).kept ≡ p.length
-  long = tidy-long p room clean
+  long = tidy_long p room clean
 
-  pub fits : p.length ≤ positionMost
-  fits = tidy-fits p room clean
+  pub fits : p.length ≤ position_most
+  fits = tidy_fits p room clean
 
   abbrev reading : Judged Arc
-  reading = readAt p.taken (position_of p).kept
+  reading = read_at p.taken (position_of p).kept
 
   module _ (a : Arc) (e : opened (position_of p).kept ≡ good a) where
     pub few : p.taken ≤ a.count
-    few = (placed-amid (position_of p) a there e).few
+    few = (placed_amid (position_of p) a there e).few
 
-    read_is : reading ≡ closedAt a (p.length + p.taken * size_of a)
-    read_is = read-good p.taken (position_of p).kept a e ∙ ap (λ n. closedAt a (n + p.taken * size_of a)) long
+    read_is : reading ≡ closed_at a (p.length + p.taken * size_of a)
+    read_is = read_good p.taken (position_of p).kept a e ∙ ap (λ n. closed_at a (n + p.taken * size_of a)) long
 
     -- 1
-    pub ends-short : p.length + p.taken * size_of a < ends_at a
-        → (broken 1 (p.length + p.taken * size_of a) p.taken ≡ toldEnd reading p.taken) × (held_of (ended p.taken) ≡ held_of (closing reading (position_of p)))
-    unfolding closedAt
-    ends-short h =
-        let is : bad 1 (p.length + p.taken * size_of a) ≡ reading = yes _ _ _ (is-less _ _ h) refl ∙ sym read_is in
-        (ap (λ x. toldEnd x p.taken) is, ap (λ x. held_of (closing x (position_of p))) is)
+    pub ends_short : p.length + p.taken * size_of a < ends_at a
+        → (broken 1 (p.length + p.taken * size_of a) p.taken ≡ told_end reading p.taken) × (held_of (ended p.taken) ≡ held_of (closing reading (position_of p)))
+    unfolding closed_at
+    ends_short h =
+        let is : bad 1 (p.length + p.taken * size_of a) ≡ reading = yes _ _ _ (is_less _ _ h) refl ∙ sym read_is in
+        (ap (λ x. told_end x p.taken) is, ap (λ x. held_of (closing x (position_of p))) is)
 
     -- or nothing is missing
-    pub ends-all : ends_at a ≤ p.length + p.taken * size_of a
-        → (took 0 ≡ toldEnd reading p.taken)
+    pub ends_all : ends_at a ≤ p.length + p.taken * size_of a
+        → (took 0 ≡ told_end reading p.taken)
         × (record { kept = p.kept; length = p.length; taken = p.taken; over = true } ≡ held_of (closing reading (position_of p)))
-    unfolding closedAt
-    ends-all h =
-        let v = placed-amid (position_of p) a there e in
-        let most : p.length + p.taken * size_of a ≤ ends_at a = omega (arith, long, within-numbers a (length (position_of p).kept) p.taken v.few v.short) in
-        let is : good a ≡ reading = no _ _ _ (not-less _ _ h) (no _ _ _ (not-less _ _ most) refl) ∙ sym read_is in (
-          ap (λ x. toldEnd x p.taken) is,
+    unfolding closed_at
+    ends_all h =
+        let v = placed_amid (position_of p) a there e in
+        let most : p.length + p.taken * size_of a ≤ ends_at a = omega (arith, long, within_numbers a (length (position_of p).kept) p.taken v.few v.short) in
+        let is : good a ≡ reading = no _ _ _ (not_less _ _ h) (no _ _ _ (not_less _ _ most) refl) ∙ sym read_is in (
+          ap (λ x. told_end x p.taken) is,
           ap (λ q. record { kept = q.kept; length = q.length; taken = q.taken; over = true }) (sym (held_back p room clean)) ∙ ap (λ x. held_of (closing x (position_of p))) is,
         )
 
   -- before the file is opened
-  pub ends-before : (number place : ℕ) → opened (position_of p).kept ≡ bad number place
-      → (broken number place p.taken ≡ toldEnd reading p.taken) × (held_of (ended p.taken) ≡ held_of (closing reading (position_of p)))
-  ends-before number place e =
-      let is : bad number place ≡ reading = sym (read-bad p.taken (position_of p).kept e) in
-      (ap (λ x. toldEnd x p.taken) is, ap (λ x. held_of (closing x (position_of p))) is)
+  pub ends_before : (number place : ℕ) → opened (position_of p).kept ≡ bad number place
+      → (broken number place p.taken ≡ told_end reading p.taken) × (held_of (ended p.taken) ≡ held_of (closing reading (position_of p)))
+  ends_before number place e =
+      let is : bad number place ≡ reading = sym (read_bad p.taken (position_of p).kept e) in
+      (ap (λ x. told_end x p.taken) is, ap (λ x. held_of (closing x (position_of p))) is)

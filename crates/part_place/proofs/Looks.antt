@@ -9,31 +9,31 @@ use lib.ListN.{length, take, drop, replicate, length-append, take-append-drop}
 use lib.Seq.{take_at, take_all, length-take-le}
 use Rattle.num_whole.specs.Tests.{less, both, same, pick}
 use Rattle.num_whole.specs.Lists.{padded}
-use Rattle.num_whole.proofs.Cases.{by_cases, yes, no, holds, fails, less-true, less-false}
-use Rattle.num_whole.proofs.Padded.{put-padded}
+use Rattle.num_whole.proofs.Cases.{by_cases, yes, no, holds, fails, less_true, less_false}
+use Rattle.num_whole.proofs.Padded.{put_padded}
 use Rattle.byte_words.specs.Words.{lay}
-use Rattle.byte_words.proofs.Words.{lay-append}
+use Rattle.byte_words.proofs.Words.{lay_append}
 use Rattle.part_laws.specs.Beginning.{opened}
-use Rattle.part_laws.specs.Entries.{positionMost, position_of, placedBy, endsBy, placed, ends, led, tidy, fair}
+use Rattle.part_laws.specs.Entries.{position_most, position_of, placed_by, ends_by, placed, ends, led, tidy, fair}
 use Rattle.part_laws.specs.declared.Position as ByValue
-use Rattle.part_laws.proofs.ByValue.{tidy-long}
-use Rattle.part_open.specs.Told.{toldOpening}
+use Rattle.part_laws.proofs.ByValue.{tidy_long}
+use Rattle.part_open.specs.Told.{told_opening}
 use Rattle.part_place.specs.Looks.{OpensAt}
 use Rattle.part_open.specs.declared.Opening.{Opening}
 
 -- a length past a room is as all of it
-pub least-take : (n m : ℕ) (l : List ℕ) → length l ≡ m → take (min n m) l ≡ take n l
-least-take n m l e =
+pub least_take : (n m : ℕ) (l : List ℕ) → length l ≡ m → take (min n m) l ≡ take n l
+least_take n m l e =
     by_cases (less n m)
-    (λ f. let h : min n m ≡ n = omega (arith, less-true _ _ f) in rw h)
-    (λ f. let h : min n m ≡ m = omega (arith, less-false _ _ f) in
-    rw h (take_all m l (omega arith) ∙ sym (take_all n l (omega (arith, less-false _ _ f)))))
+    (λ f. let h : min n m ≡ n = omega (arith, less_true _ _ f) in rw h)
+    (λ f. let h : min n m ≡ m = omega (arith, less_false _ _ f) in
+    rw h (take_all m l (omega arith) ∙ sym (take_all n l (omega (arith, less_false _ _ f)))))
 
 -- ---- bytes put one after another into zeros
-pub kept-so : (n : ℕ) (a xs ys : List ℕ) → length xs + length ys ≤ n → a ≡ lay (lay (replicate n 0) 0 xs) (length xs) ys → a ≡ padded n 0 (xs ++ ys)
+pub kept_so : (n : ℕ) (a xs ys : List ℕ) → length xs + length ys ≤ n → a ≡ lay (lay (replicate n 0) 0 xs) (length xs) ys → a ≡ padded n 0 (xs ++ ys)
 unfolding lay
-kept-so n a xs ys h e =
-    e ∙ lay-append (replicate n 0) 0 (length xs) xs ys (omega arith) ∙ put-padded n 0 (xs ++ ys) (omega (arith, length-append xs ys))
+kept_so n a xs ys h e =
+    e ∙ lay_append (replicate n 0) 0 (length xs) xs ys (omega arith) ∙ put_padded n 0 (xs ++ ys) (omega (arith, length-append xs ys))
 
 -- ---- the front of bytes and of others after them
 pub front_cut : (x bytes : List ℕ) (m n : ℕ) → length x ≤ m → n ≡ min (m - length x) (length bytes) → x ++ take n bytes ≡ take m (x ++ bytes)
@@ -43,24 +43,24 @@ front_cut x bytes m n fits is =
     let apart : x ++ bytes ≡ (x ++ take n bytes) ++ drop n bytes =
     ap (λ z. x ++ z) (sym (take-append-drop n bytes)) ∙ sym (append_assoc x (take n bytes) (drop n bytes)) in
     sym (by_cases (less (length x + length bytes) m)
-    (λ e. let all : n ≡ length bytes = omega (arith, less-true _ _ e) in
+    (λ e. let all : n ≡ length bytes = omega (arith, less_true _ _ e) in
     let fit : take n bytes ≡ bytes = take_all n bytes (omega arith) in
-    take_all m (x ++ bytes) (omega (arith, length-append x bytes, less-true _ _ e)) ∙ ap (λ z. x ++ z) (sym fit))
-    (λ e. let full : length x + n ≡ m = omega (arith, less-false _ _ e) in
+    take_all m (x ++ bytes) (omega (arith, length-append x bytes, less_true _ _ e)) ∙ ap (λ z. x ++ z) (sym fit))
+    (λ e. let full : length x + n ≡ m = omega (arith, less_false _ _ e) in
     ap (take m) apart ∙ take_at (x ++ take n bytes) (drop n bytes) m (both_long ∙ full)))
 
 -- ---- whether the entries give it
-module _ (p : ByValue.Position) (o : Opening) (room : length p.kept ≡ positionMost) (v : OpensAt p o) {x : Bool} where
-  pub fair-over : tidy p ≡ true → p.over ≡ true → x ≡ endsBy p.length p.taken (toldOpening o) → x ≡ fair p
+module _ (p : ByValue.Position) (o : Opening) (room : length p.kept ≡ position_most) (v : OpensAt p o) {x : Bool} where
+  pub fair_over : tidy p ≡ true → p.over ≡ true → x ≡ ends_by p.length p.taken (told_opening o) → x ≡ fair p
   unfolding fair led ends
-  fair-over t f e =
-      e ∙ ap₂ (λ n j. endsBy n p.taken j) (sym (tidy-long p room t)) v.told ∙ holds _ _ t (yes _ _ _ f refl)
+  fair_over t f e =
+      e ∙ ap₂ (λ n j. ends_by n p.taken j) (sym (tidy_long p room t)) v.told ∙ holds _ _ t (yes _ _ _ f refl)
 
-  pub fair-on : tidy p ≡ true → p.over ≡ false → x ≡ placedBy p.length p.taken (toldOpening o) → x ≡ fair p
+  pub fair_on : tidy p ≡ true → p.over ≡ false → x ≡ placed_by p.length p.taken (told_opening o) → x ≡ fair p
   unfolding fair led placed
-  fair-on t f e =
-      e ∙ ap₂ (λ n j. placedBy n p.taken j) (sym (tidy-long p room t)) v.told ∙ holds _ _ t (no _ _ _ f refl)
+  fair_on t f e =
+      e ∙ ap₂ (λ n j. placed_by n p.taken j) (sym (tidy_long p room t)) v.told ∙ holds _ _ t (no _ _ _ f refl)
 
-pub fair-not : (p : ByValue.Position) → tidy p ≡ false → false ≡ fair p
+pub fair_not : (p : ByValue.Position) → tidy p ≡ false → false ≡ fair p
 unfolding fair
-fair-not p t = fails _ _ t
+fair_not p t = fails _ _ t

@@ -2,15 +2,15 @@
 ghost use Rattle.std.specs.Prelude.{◌≡◌, true, false, ◌++◌, ◌+◌, ◌≤◌, length};
 ghost use Rattle.num_whole.specs.Tests.{less, pick, both, same};
 ghost use Rattle.num_whole.specs.Lists.{padded};
-ghost use Rattle.num_limits.specs.Capacities.{parametersMost};
+ghost use Rattle.num_limits.specs.Capacities.{parameters_most};
 ghost use Rattle.num_packed.specs.Triangle.{tri};
 ghost use Rattle.refusal.specs.Number.{number_of};
-ghost use Rattle.take_state.specs.State.{state_of, sumsSound, soundState};
-ghost use Rattle.part_laws.specs.Beginning.{readAt};
+ghost use Rattle.take_state.specs.State.{state_of, sums_sound, sound_state};
+ghost use Rattle.part_laws.specs.Beginning.{read_at};
 ghost use Rattle.part_laws.specs.Feeding.{ended, begun, closing};
-ghost use Rattle.part_laws.specs.Entries.{recordSizeMost, positionMost, position_of, held_of, tidy, fair, parametersIn, placedBy, endsBy, soundBy, toldPart, toldEnd};
-ghost use Rattle.part_open.specs.Told.{toldOpening};
-ghost use Rattle.part_place.specs.Looks.{completedBy, OpensAt, FrontOf, RoomAt};
+ghost use Rattle.part_laws.specs.Entries.{record_size_most, position_most, position_of, held_of, tidy, fair, parameters_in, placed_by, ends_by, sound_by, told_part, told_end};
+ghost use Rattle.part_open.specs.Told.{told_opening};
+ghost use Rattle.part_place.specs.Looks.{completed_by, OpensAt, FrontOf, RoomAt};
 
 use arc_kinds::SettingsAnswer;
 use byte_section::{CountAnswer, ReadAnswer};
@@ -49,8 +49,8 @@ pub fn ended(taken: usize) -> Position
 
 // Bytes and others after them, with zeros to the end of the room.
 pub fn keep(first: &[u8], others: &[u8]) -> [u8; POSITION_MOST]
-    requires { length first.now + length others.now ≤ positionMost }
-    ensures { result ≡ padded positionMost 0 (first.now ++ others.now) }
+    requires { length first.now + length others.now ≤ position_most }
+    ensures { result ≡ padded position_most 0 (first.now ++ others.now) }
 {
     let mut a = [0; POSITION_MOST];
     arc_fields::put_run(first, &mut a, 0);
@@ -93,7 +93,7 @@ pub fn front_of(p: Position, bytes: &[u8]) -> Front
 
 // The parameters that were read, or fifty.
 fn parameters_in(s: &[u8]) -> usize
-    ensures { result ≡ parametersIn s.now }
+    ensures { result ≡ parameters_in s.now }
 {
     match arc_kinds::read_settings(s) {
         SettingsAnswer::Got(_) => match byte_section::read_count(s, 16, 1, PARAMETERS_U32) {
@@ -105,7 +105,7 @@ fn parameters_in(s: &[u8]) -> usize
 }
 
 pub fn parameters_at(p: Position) -> usize
-    ensures { result ≡ parametersIn (position_of p).kept }
+    ensures { result ≡ parameters_in (position_of p).kept }
 {
     let kept = p.kept;
     let len = num_whole::least(p.length, POSITION_MOST);
@@ -114,8 +114,8 @@ pub fn parameters_at(p: Position) -> usize
 
 // How many records are whole in `long` bytes of a file that opens so.
 pub fn completed(new: Opening, taken: usize, long: usize) -> usize
-    requires { new.heading.parameters ≤ parametersMost }
-    ensures { result ≡ completedBy taken long (toldOpening new) }
+    requires { new.heading.parameters ≤ parameters_most }
+    ensures { result ≡ completed_by taken long (told_opening new) }
 {
     let answer = new.answer;
     let count = new.count;
@@ -152,8 +152,8 @@ fn is_tidy(p: Position) -> bool
 
 // The length that a position's bytes stay below, counted from the first record.
 fn limit(taken: usize, count: usize, size: usize) -> usize
-    requires { size ≤ recordSizeMost }
-    ensures { (result ≡ pick (less taken count) size 1) × (result ≤ recordSizeMost) }
+    requires { size ≤ record_size_most }
+    ensures { (result ≡ pick (less taken count) size 1) × (result ≤ record_size_most) }
 {
     if taken < count { size } else { 1 }
 }
@@ -170,8 +170,8 @@ fn first_only(r: Refusal, taken: usize) -> bool
 
 // Whether the entries give so many bytes and records taken, while the file is not over.
 fn is_placed(old: Opening, length: usize, taken: usize) -> bool
-    requires { (old.heading.parameters ≤ parametersMost) × (old.start ≤ positionMost) }
-    ensures { result ≡ placedBy length taken (toldOpening old) }
+    requires { (old.heading.parameters ≤ parameters_most) × (old.start ≤ position_most) }
+    ensures { result ≡ placed_by length taken (told_opening old) }
 {
     let answer = old.answer;
     let count = old.count;
@@ -191,7 +191,7 @@ fn is_placed(old: Opening, length: usize, taken: usize) -> bool
 
 // Whether they do where it is over.
 fn is_ended(old: Opening, length: usize, taken: usize) -> bool
-    ensures { result ≡ endsBy length taken (toldOpening old) }
+    ensures { result ≡ ends_by length taken (told_opening old) }
 {
     let answer = old.answer;
     let count = old.count;
@@ -232,8 +232,8 @@ pub fn is_fair(p: Position, old: Opening) -> bool
 
 // Whether the tally and the sums hold nothing, for so many parameters.
 fn sums_empty(parameters: usize, t: Tally, matrix: &[i64], rights: &[i64]) -> bool
-    requires { (parameters ≤ parametersMost) × (tri parameters ≤ length matrix.now) × (parameters ≤ length rights.now) }
-    ensures { result ≡ sumsSound 0 parameters (state_of matrix.now rights.now t) }
+    requires { (parameters ≤ parameters_most) × (tri parameters ≤ length matrix.now) × (parameters ≤ length rights.now) }
+    ensures { result ≡ sums_sound 0 parameters (state_of matrix.now rights.now t) }
 {
     if take_tally::tally_sound(0, t) {
         match num_packed::first_unsound(matrix, parameters, 0) {
@@ -250,8 +250,8 @@ fn sums_empty(parameters: usize, t: Tally, matrix: &[i64], rights: &[i64]) -> bo
 
 // Whether a state holds nothing, for so many parameters.
 fn is_empty(parameters: usize, t: Tally, matrix: &[i64], rights: &[i64]) -> bool
-    requires { (parameters ≤ parametersMost) × (tri parameters ≤ length matrix.now) × (parameters ≤ length rights.now) }
-    ensures { result ≡ soundState 0 parameters (state_of matrix.now rights.now t) }
+    requires { (parameters ≤ parameters_most) × (tri parameters ≤ length matrix.now) × (parameters ≤ length rights.now) }
+    ensures { result ≡ sound_state 0 parameters (state_of matrix.now rights.now t) }
 {
     if sums_empty(parameters, t, matrix, rights) {
         take_tally::marks_sound(parameters, t, matrix)
@@ -269,9 +269,9 @@ pub fn is_sound_at(
     matrix: &[i64],
     rights: &[i64],
 ) -> bool
-    requires parameters_le_parameters_most { (parameters ≤ parametersMost) × (tri parameters ≤ length matrix.now) × (parameters ≤ length rights.now) }
-    requires room_at { RoomAt (toldOpening old) matrix.now rights.now }
-    ensures { result ≡ soundBy parameters taken (state_of matrix.now rights.now t) (toldOpening old) }
+    requires parameters_le_parameters_most { (parameters ≤ parameters_most) × (tri parameters ≤ length matrix.now) × (parameters ≤ length rights.now) }
+    requires room_at { RoomAt (told_opening old) matrix.now rights.now }
+    ensures { result ≡ sound_by parameters taken (state_of matrix.now rights.now t) (told_opening old) }
 {
     let answer = old.answer;
     let h = old.heading;
@@ -292,8 +292,8 @@ pub fn is_sound_at(
 // What is answered where the file is over, and where that leads: 1 where something is missing, else its heading is kept.
 pub fn end_of(p: Position, old: Opening) -> Finished
     requires { OpensAt p old × (fair p ≡ true) × (p.over ≡ false) }
-    ensures answer_value { toldPart result.answer ≡ toldEnd (readAt p.taken (position_of p).kept) p.taken }
-    ensures position { result.position ≡ held_of (closing (readAt p.taken (position_of p).kept) (position_of p)) }
+    ensures answer_value { told_part result.answer ≡ told_end (read_at p.taken (position_of p).kept) p.taken }
+    ensures position { result.position ≡ held_of (closing (read_at p.taken (position_of p).kept) (position_of p)) }
 {
     let answer = old.answer;
     let count = old.count;

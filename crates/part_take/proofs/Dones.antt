@@ -8,28 +8,28 @@ use native.Mathlib.Nat.{suc-mul}
 use lib.ListN.{length, take, drop, replicate, length-append, length-take}
 use lib.Seq.{length-take-le, drop-drop, drop-append-add, take-take, take_at}
 use Rattle.num_whole.specs.Answer.{good}
-use Rattle.arc_kinds.specs.Kinds.{recordSize}
+use Rattle.arc_kinds.specs.Kinds.{record_size}
 use Rattle.arc_heading.specs.declared.Heading.{Heading}
 use Rattle.arc_read.specs.Arc.{Arc}
 use Rattle.take_laws.specs.Taking.{cut}
 use Rattle.part_laws.specs.Beginning.{opened, done}
-use Rattle.part_laws.proofs.Front.{opened-start, done-within, done-cut, cut-take, drop-take-le}
+use Rattle.part_laws.proofs.Front.{opened_start, done_within, done_cut, cut_take, drop_take_le}
 use Rattle.part_take.specs.Ready.{beginning, Ready}
 
 nothing : {A : Type 0} (l : List A) → length l ≡ 0 → l ≡ []
 nothing [] e = refl
 nothing (x ∷ l) e = absurd (omega arith)
 
-front-part : (i k m : ℕ) (l : List ℕ) → i + k ≤ m → take k (drop i (take m l)) ≡ take k (drop i l)
-front-part i k m l h =
+front_part : (i k m : ℕ) (l : List ℕ) → i + k ≤ m → take k (drop i (take m l)) ≡ take k (drop i l)
+front_part i k m l h =
     let j = m - i in
     let all : m ≡ i + j = omega arith in
     let less : k ≤ j = omega arith in
-    ap (λ x. take k (drop i (take x l))) all ∙ ap (take k) (drop-take-le i j l) ∙ take-take k j (drop i l) less
+    ap (λ x. take k (drop i (take x l))) all ∙ ap (take k) (drop_take_le i j l) ∙ take-take k j (drop i l) less
 
 module _ (h : Heading) (count start : ℕ) (front : List ℕ) (len taken n : ℕ) (bytes : List ℕ) (r : Ready h count start front len taken n bytes) (room : length front ≡ 1088) where
   abbrev size : ℕ
-  size = recordSize h.parameters
+  size = record_size h.parameters
 
   abbrev b : List ℕ
   b = beginning front len bytes
@@ -38,42 +38,42 @@ module _ (h : Heading) (count start : ℕ) (front : List ℕ) (len taken n : ℕ
   a = record { heading = h; count = count; start = start }
 
   pub low : start ≤ 956
-  low = opened-start b a r.opens
+  low = opened_start b a r.opens
 
   long : length b ≡ len + length bytes
   long = length-append (take len front) bytes ∙ ap (λ k. k + length bytes) (length-take-le len front (omega (arith, r.within)))
 
   -- the front is that of the bytes
-  pub front-first : take (min 1088 (len + length bytes)) front ≡ take 1088 b
-  front-first =
+  pub front_first : take (min 1088 (len + length bytes)) front ≡ take 1088 b
+  front_first =
       let m = min 1088 (len + length bytes) in
       let size_is : length (take 1088 b) ≡ m = length-take 1088 b ∙ omega (arith, long) in
       ap (take m) r.room ∙ take_at (take 1088 b) (replicate (1088 - length (take 1088 b)) 0) m size_is
 
   -- they stand in the bytes
   pub inside : start + n * size ≤ len + length bytes
-  inside = omega (arith, done-within taken b a r.opens, long, ap (λ k. k * size) r.number)
+  inside = omega (arith, done_within taken b a r.opens, long, ap (λ k. k * size) r.number)
 
   pub none_done : n ≡ 0 → [] ≡ done taken b
   none_done z = sym (nothing (done taken b) (omega (arith, r.number)))
 
-  pub some-done : (k : ℕ) → n ≡ suc k → h.parameters ≤ 50
+  pub some_done : (k : ℕ) → n ≡ suc k → h.parameters ≤ 50
       → take size (drop start front) ∷ cut size k (take (k * size) (drop (start + size - len) bytes)) ≡ done taken b
   unfolding cut
-  some-done k e few =
+  some_done k e few =
       let room-one : start + size ≤ length b = omega (arith, inside, long, ap (λ m. m * size) e, suc-mul k size) in
       let m = min 1088 (len + length bytes) in
       let first : take size (drop start front) ≡ take size (drop start b) =
-      sym (front-part start size m front (omega (arith, low, r.near, long)))
-      ∙ ap (λ z. take size (drop start z)) front-first
-      ∙ front-part start size 1088 b (omega (arith, low)) in
+      sym (front_part start size m front (omega (arith, low, r.near, long)))
+      ∙ ap (λ z. take size (drop start z)) front_first
+      ∙ front_part start size 1088 b (omega (arith, low)) in
       let gap : len + (start + size - len) ≡ start + size = omega (arith, r.near) in
       let others : drop (start + size - len) bytes ≡ drop size (drop start b) =
       sym (drop-append-add (take len front) bytes (start + size - len))
       ∙ ap (λ j. drop j b) (ap (λ j. j + (start + size - len)) (length-take-le len front (omega (arith, r.within))) ∙ gap)
       ∙ sym (drop-drop size start b) in
-      ap₂ (λ x y. x ∷ y) first (cut-take size k (drop (start + size - len) bytes) ∙ ap (cut size k) others)
-      ∙ sym (done-cut taken b a r.opens ∙ ap (λ j. cut size j (drop start b)) (sym r.number ∙ e))
+      ap₂ (λ x y. x ∷ y) first (cut_take size k (drop (start + size - len) bytes) ∙ ap (cut size k) others)
+      ∙ sym (done_cut taken b a r.opens ∙ ap (λ j. cut size j (drop start b)) (sym r.number ∙ e))
 
-  pub inside-others : (k : ℕ) → n ≡ suc k → start + (k * size + size) ≤ len + length bytes
-  inside-others k e = omega (arith, inside, ap (λ m. m * size) e, suc-mul k size)
+  pub inside_others : (k : ℕ) → n ≡ suc k → start + (k * size + size) ≤ len + length bytes
+  inside_others k e = omega (arith, inside, ap (λ m. m * size) e, suc-mul k size)

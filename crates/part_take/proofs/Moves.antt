@@ -11,26 +11,26 @@ use lib.Seq.{length-take-le, drop-append-add, take-take, take_all}
 use Rattle.num_whole.specs.Tests.{less, same, pick}
 use Rattle.num_whole.specs.Answer.{Judged, good, bad}
 use Rattle.num_whole.specs.Lists.{padded}
-use Rattle.num_whole.proofs.Cases.{yes, no, by_cases, is-less, not-less, not_same, less-true, less-false}
-use Rattle.arc_kinds.specs.Kinds.{recordSize}
+use Rattle.num_whole.proofs.Cases.{yes, no, by_cases, is_less, not_less, not_same, less_true, less_false}
+use Rattle.arc_kinds.specs.Kinds.{record_size}
 use Rattle.arc_heading.specs.declared.Heading.{Heading}
 use Rattle.arc_read.specs.Arc.{Arc}
-use Rattle.part_laws.specs.Beginning.{opened, ends_at, closedAt, whole, behind, done, left, readAt}
+use Rattle.part_laws.specs.Beginning.{opened, ends_at, closed_at, whole, behind, done, left, read_at}
 use Rattle.part_laws.specs.Feeding.{ended, so_far, moved}
-use Rattle.part_laws.specs.Entries.{positionMost, held_of, Told, took, broken, toldForm}
+use Rattle.part_laws.specs.Entries.{position_most, held_of, Told, took, broken, told_form}
 use Rattle.part_laws.proofs.Runs.{whole_long}
-use Rattle.part_laws.proofs.Cuts.{done-good, left-good, read-good}
-use Rattle.part_laws.proofs.Six.{whole-few, behind-few, so-far-within}
-use Rattle.part_laws.proofs.Opened.{opened-within}
-use Rattle.part_laws.proofs.Front.{opened-start, left_cut}
+use Rattle.part_laws.proofs.Cuts.{done_good, left_good, read_good}
+use Rattle.part_laws.proofs.Six.{whole_few, behind_few, so_far_within}
+use Rattle.part_laws.proofs.Opened.{opened_within}
+use Rattle.part_laws.proofs.Front.{opened_start, left_cut}
 use Rattle.part_take.specs.Ready.{beginning, Ready}
-use Rattle.part_take.proofs.Dones.{front-first}
+use Rattle.part_take.proofs.Dones.{front_first}
 
 module _ (h : Heading) (count start : ℕ) (front : List ℕ) (len taken n : ℕ) (bytes : List ℕ) (r : Ready h count start front len taken n bytes) (room : length front ≡ 1088)
     (few : h.parameters ≤ 50) (fewer : taken ≤ count)
   where
     abbrev size : ℕ
-    size = recordSize h.parameters
+    size = record_size h.parameters
 
     abbrev b : List ℕ
     b = beginning front len bytes
@@ -39,58 +39,58 @@ module _ (h : Heading) (count start : ℕ) (front : List ℕ) (len taken n : ℕ
     a = record { heading = h; count = count; start = start }
 
     abbrev verdict : Judged (Unit {0})
-    verdict = so_far (readAt taken b)
+    verdict = so_far (read_at taken b)
 
     long : length b ≡ len + length bytes
     long = length-append (take len front) bytes ∙ ap (λ k. k + length bytes) (length-take-le len front (omega (arith, r.within)))
 
-    read_is : readAt taken b ≡ closedAt a (len + length bytes + taken * size)
-    read_is = read-good taken b a r.opens ∙ ap (λ k. closedAt a (k + taken * size)) long
+    read_is : read_at taken b ≡ closed_at a (len + length bytes + taken * size)
+    read_is = read_good taken b a r.opens ∙ ap (λ k. closed_at a (k + taken * size)) long
 
     abbrev N : ℕ
     N = len + length bytes + taken * size
 
     -- 3
-    pub goes-surplus : start + count * size < N
-        → (broken 3 (start + count * size) (taken + n) ≡ toldForm verdict n (taken + n)) × (held_of (ended (taken + n)) ≡ held_of (moved verdict (taken + n) (left taken b)))
-    unfolding so_far closedAt
-    goes-surplus p =
-        let is : closedAt a N ≡ bad 3 (ends_at a) = sym (no _ _ _ (not-less _ _ (omega arith)) (yes _ _ _ (is-less _ _ p) refl)) in
+    pub goes_surplus : start + count * size < N
+        → (broken 3 (start + count * size) (taken + n) ≡ told_form verdict n (taken + n)) × (held_of (ended (taken + n)) ≡ held_of (moved verdict (taken + n) (left taken b)))
+    unfolding so_far closed_at
+    goes_surplus p =
+        let is : closed_at a N ≡ bad 3 (ends_at a) = sym (no _ _ _ (not_less _ _ (omega arith)) (yes _ _ _ (is_less _ _ p) refl)) in
         let three : bad 3 (ends_at a) ≡ verdict = no _ _ _ (not_same 3 1 (λ z. omega arith)) refl ∙ ap so_far (sym (read_is ∙ is)) in
-        (ap (λ v. toldForm v n (taken + n)) three, ap (λ v. held_of (moved v (taken + n) (left taken b))) three)
+        (ap (λ v. told_form v n (taken + n)) three, ap (λ v. held_of (moved v (taken + n) (left taken b))) three)
 
     -- or not
     module _ (p : N ≤ start + count * size) where
       goes_on : good tt ≡ verdict
-      goes_on = sym (ap so_far read_is ∙ so-far-within a N p)
+      goes_on = sym (ap so_far read_is ∙ so_far_within a N p)
 
       -- what is left is short
-      left-long : length (left taken b) ≤ 1087
-      left-long =
+      left_long : length (left taken b) ≤ 1087
+      left_long =
           let m = count - taken in
           let l = drop start b in
           let j = length (whole size m l) in
           let rest = length (behind size m l) in
-          let within = opened-within b a r.opens in
+          let within = opened_within b a r.opens in
           let is : length (left taken b) ≡ start + rest =
-          ap length (left-good taken b a r.opens) ∙ length-append (take start b) (behind size m l) ∙ ap (λ k. k + rest) (length-take-le start b within) in
-          let low = opened-start b a r.opens in
+          ap length (left_good taken b a r.opens) ∙ length-append (take start b) (behind size m l) ∙ ap (λ k. k + rest) (length-take-le start b within) in
+          let low = opened_start b a r.opens in
           by_cases (less j m)
-          (λ e. omega (arith, is, low, behind-few size m l (less-true _ _ e)))
-          (λ e. let all : j + taken ≡ count = omega (arith, less-false _ _ e, whole-few size m l) in
+          (λ e. omega (arith, is, low, behind_few size m l (less_true _ _ e)))
+          (λ e. let all : j + taken ≡ count = omega (arith, less_false _ _ e, whole_few size m l) in
           omega (arith, is, low, long, whole_long size m l, length-drop start b, add-mul j taken size, ap (λ x. x * size) all))
 
       left_is : left taken b ≡ take start b ++ drop (start + n * size) b
       left_is = left_cut taken b a r.opens ∙ ap (λ k. take start b ++ drop (start + k * size) b) (sym r.number)
 
       -- no record: all of it
-      pub goes_none : n ≡ 0 → (took 0 ≡ toldForm verdict n (taken + n))
+      pub goes_none : n ≡ 0 → (took 0 ≡ told_form verdict n (taken + n))
           × (record { kept = front; length = len + length bytes; taken = taken + n; over = false } ≡ held_of (moved verdict (taken + n) (left taken b)))
       goes_none z =
           let whole-b : left taken b ≡ b = left_is ∙ ap (λ k. take start b ++ drop k b) none ∙ take-append-drop start b in
-          let small : length b ≤ 1087 = omega (arith, ap length whole-b, left-long) in
-          let kept : front ≡ padded positionMost 0 (left taken b) = r.room ∙ ap (padded positionMost 0) (take_all 1088 b (omega arith) ∙ sym whole-b) in (
-            ap₂ (λ v k. toldForm v k (taken + n)) goes_on (sym z),
+          let small : length b ≤ 1087 = omega (arith, ap length whole-b, left_long) in
+          let kept : front ≡ padded position_most 0 (left taken b) = r.room ∙ ap (padded position_most 0) (take_all 1088 b (omega arith) ∙ sym whole-b) in (
+            ap₂ (λ v k. told_form v k (taken + n)) goes_on (sym z),
             ap₂ (λ x k. record { kept = x; length = k; taken = taken + n; over = false }) kept (sym long ∙ ap length (sym whole-b)) ∙ ap (λ v. held_of (moved v (taken + n) (left taken b))) goes_on,
           )
         where
@@ -105,39 +105,39 @@ module _ (h : Heading) (count start : ℕ) (front : List ℕ) (len taken n : ℕ
         pub more : size ≤ n * size
         more = let k = n - 1 in let e : n ≡ suc k = omega arith in omega (arith, ap (λ x. x * size) e, suc-mul k size)
 
-        rest-is : drop upto bytes ≡ drop (start + n * size) b
-        rest-is =
+        rest_is : drop upto bytes ≡ drop (start + n * size) b
+        rest_is =
             let gap : len + upto ≡ start + n * size = omega (arith, r.near, more) in
             sym (drop-append-add (take len front) bytes upto)
             ∙ ap (λ j. drop j b) (ap (λ j. j + upto) (length-take-le len front (omega (arith, r.within))) ∙ gap)
 
-        pub rest-fits : start + length (drop upto bytes) ≤ 1088
-        rest-fits =
+        pub rest_fits : start + length (drop upto bytes) ≤ 1088
+        rest_fits =
             omega (
               arith,
-              left-long,
+              left_long,
               ap length left_is,
               length-append (take start b) (drop (start + n * size) b),
-              length-take-le start b (opened-within b a r.opens),
-              ap length rest-is,
+              length-take-le start b (opened_within b a r.opens),
+              ap length rest_is,
             )
 
-        pub goes_some : (took n ≡ toldForm verdict n (taken + n))
-            × (record { kept = padded positionMost 0 (take start front ++ drop upto bytes); length = start + length (drop upto bytes); taken = taken + n; over = false }
+        pub goes_some : (took n ≡ told_form verdict n (taken + n))
+            × (record { kept = padded position_most 0 (take start front ++ drop upto bytes); length = start + length (drop upto bytes); taken = taken + n; over = false }
             ≡ held_of (moved verdict (taken + n) (left taken b)))
         goes_some =
-            let low = opened-start b a r.opens in
-            let within = opened-within b a r.opens in
+            let low = opened_start b a r.opens in
+            let within = opened_within b a r.opens in
             let rest = drop upto bytes in
             let m = min 1088 (len + length bytes) in
             let head : take start front ≡ take start b =
             sym (take-take start m front (omega (arith, low, within, long)))
-            ∙ ap (take start) (front-first h count start front len taken n bytes r room)
+            ∙ ap (take start) (front_first h count start front len taken n bytes r room)
             ∙ take-take start 1088 b (omega (arith, low)) in
-            let is : take start front ++ rest ≡ left taken b = ap₂ (λ x y. x ++ y) head rest-is ∙ sym left_is in
+            let is : take start front ++ rest ≡ left taken b = ap₂ (λ x y. x ++ y) head rest_is ∙ sym left_is in
             let size_is : start + length rest ≡ length (left taken b) =
             ap (λ k. k + length rest) (sym (length-take-le start front (omega (arith, low)))) ∙ sym (length-append (take start front) rest) ∙ ap length is in (
-              ap (λ v. toldForm v n (taken + n)) goes_on,
-              ap₂ (λ x k. record { kept = padded positionMost 0 x; length = k; taken = taken + n; over = false }) is size_is
+              ap (λ v. told_form v n (taken + n)) goes_on,
+              ap₂ (λ x k. record { kept = padded position_most 0 x; length = k; taken = taken + n; over = false }) is size_is
                   ∙ ap (λ v. held_of (moved v (taken + n) (left taken b))) goes_on,
             )

@@ -1,14 +1,14 @@
 // The records that a part of an arc file completes, taken, and where the part leads once the file is opened.
 ghost use Rattle.std.specs.Prelude.{◌≡◌, ◌∷◌, ◌+◌, ◌*◌, ◌≤◌, length};
-ghost use Rattle.num_limits.specs.Capacities.{parametersMost, recordsMost};
+ghost use Rattle.num_limits.specs.Capacities.{parameters_most, records_most};
 ghost use Rattle.byte_words.specs.Words.{lay};
-ghost use Rattle.arc_kinds.specs.Kinds.{recordSize};
-ghost use Rattle.take_state.specs.State.{state_of, stateNumber};
+ghost use Rattle.arc_kinds.specs.Kinds.{record_size};
+ghost use Rattle.take_state.specs.State.{state_of, state_number};
 ghost use Rattle.take_laws.specs.Machine as machine;
-ghost use Rattle.take_laws.specs.Taking.{frame_of, recordAnswer, recordStep, cut};
-ghost use Rattle.part_laws.specs.Beginning.{done, left, readAt};
+ghost use Rattle.take_laws.specs.Taking.{frame_of, record_answer, record_step, cut};
+ghost use Rattle.part_laws.specs.Beginning.{done, left, read_at};
 ghost use Rattle.part_laws.specs.Feeding.{so_far, moved};
-ghost use Rattle.part_laws.specs.Entries.{openedMost, held_of, toldPart, toldForm};
+ghost use Rattle.part_laws.specs.Entries.{opened_most, held_of, told_part, told_form};
 ghost use Rattle.part_take.specs.Ready.{beginning, Ready};
 
 use arc_heading::Heading;
@@ -28,10 +28,10 @@ fn take_records(
     n: usize,
     answers: &mut [u8],
 ) -> Tally
-    requires t_value { stateNumber h (state_of matrix.old rights.old t) ≡ 0 }
-    requires one_len { (length one.now ≡ recordSize h.parameters) × (length run.now ≡ n * recordSize h.parameters) × (n + 1 ≤ length answers.old) }
-    ensures state { state_of matrix.new rights.new result ≡ machine.run (recordStep (frame_of h)) (state_of matrix.old rights.old t) (one.now ∷ cut (recordSize h.parameters) n run.now) }
-    ensures told { answers.new ≡ lay answers.old 0 (machine.answers (recordStep (frame_of h)) (recordAnswer (frame_of h)) (state_of matrix.old rights.old t) (one.now ∷ cut (recordSize h.parameters) n run.now)) }
+    requires t_value { state_number h (state_of matrix.old rights.old t) ≡ 0 }
+    requires one_len { (length one.now ≡ record_size h.parameters) × (length run.now ≡ n * record_size h.parameters) × (n + 1 ≤ length answers.old) }
+    ensures state { state_of matrix.new rights.new result ≡ machine.run (record_step (frame_of h)) (state_of matrix.old rights.old t) (one.now ∷ cut (record_size h.parameters) n run.now) }
+    ensures told { answers.new ≡ lay answers.old 0 (machine.answers (record_step (frame_of h)) (record_answer (frame_of h)) (state_of matrix.old rights.old t) (one.now ∷ cut (record_size h.parameters) n run.now)) }
 {
     let u = take_lent::run_sound(h, t, matrix, rights, one, &mut answers[..1]);
     take_lent::run_sound(h, u, matrix, rights, run, &mut answers[1..])
@@ -52,11 +52,11 @@ pub fn take_done(
     bytes: &[u8],
     answers: &mut [u8],
 ) -> Tally
-    requires t_value { stateNumber h (state_of matrix.old rights.old t) ≡ 0 }
+    requires t_value { state_number h (state_of matrix.old rights.old t) ≡ 0 }
     requires ready { Ready h count start front len taken n bytes.now }
     requires n_in_bounds { n ≤ length answers.old }
-    ensures state { state_of matrix.new rights.new result ≡ machine.run (recordStep (frame_of h)) (state_of matrix.old rights.old t) (done taken (beginning front len bytes.now)) }
-    ensures told { answers.new ≡ lay answers.old 0 (machine.answers (recordStep (frame_of h)) (recordAnswer (frame_of h)) (state_of matrix.old rights.old t) (done taken (beginning front len bytes.now))) }
+    ensures state { state_of matrix.new rights.new result ≡ machine.run (record_step (frame_of h)) (state_of matrix.old rights.old t) (done taken (beginning front len bytes.now)) }
+    ensures told { answers.new ≡ lay answers.old 0 (machine.answers (record_step (frame_of h)) (record_answer (frame_of h)) (state_of matrix.old rights.old t) (done taken (beginning front len bytes.now))) }
 {
     if n == 0 {
         return t;
@@ -96,9 +96,9 @@ pub fn moved_on(
     bytes: &[u8],
 ) -> Moved
     requires ready { Ready h count start front len taken n bytes.now }
-    requires parameters_le_parameters_most { (h.parameters ≤ parametersMost) × (count ≤ recordsMost) × (taken ≤ count) × (start ≤ openedMost) × (start + n * recordSize h.parameters ≤ len + length bytes.now) }
-    ensures answer_value { toldPart result.answer ≡ toldForm (so_far (readAt taken (beginning front len bytes.now))) n (taken + n) }
-    ensures position { result.position ≡ held_of (moved (so_far (readAt taken (beginning front len bytes.now))) (taken + n) (left taken (beginning front len bytes.now))) }
+    requires parameters_le_parameters_most { (h.parameters ≤ parameters_most) × (count ≤ records_most) × (taken ≤ count) × (start ≤ opened_most) × (start + n * record_size h.parameters ≤ len + length bytes.now) }
+    ensures answer_value { told_part result.answer ≡ told_form (so_far (read_at taken (beginning front len bytes.now))) n (taken + n) }
+    ensures position { result.position ≡ held_of (moved (so_far (read_at taken (beginning front len bytes.now))) (taken + n) (left taken (beginning front len bytes.now))) }
 {
     let size = RECORD_FIXED + PARTIAL_SIZE * h.parameters;
     let end = start + count * size;

@@ -27,6 +27,6 @@ unfoldable pub answered : {A : Type 0} → ℕ → A → Answered A
 answered k a = pick (same k 0) (given a) (refused k)
 
 -- what an answer gives, or d where it is a refusal
-unfoldable pub valueOr : {A : Type 0} → A → Answered A → A
-valueOr d (given a) = a
-valueOr d (refused k) = d
+unfoldable pub value_or : {A : Type 0} → A → Answered A → A
+value_or d (given a) = a
+value_or d (refused k) = d

@@ -4,6 +4,6 @@ use Rattle.refusal.specs.Number.{number_of}
 use Rattle.refusal.specs.declared.Verdict.{Verdict}
 use Rattle.refusal.specs.declared.Verdict.TheVariants as Verdicts
 
-abbrev pub toldVerdict : Verdict → Answered (Unit {0})
-toldVerdict Verdicts.Sound = given tt
-toldVerdict (Verdicts.Refused r) = refused (number_of r)
+abbrev pub told_verdict : Verdict → Answered (Unit {0})
+told_verdict Verdicts.Sound = given tt
+told_verdict (Verdicts.Refused r) = refused (number_of r)

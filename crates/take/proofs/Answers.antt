@@ -8,78 +8,78 @@ use native.Mathlib.Omega.{arith}
 use lib.ListN.{length}
 use Rattle.num_whole.specs.Tests.{same, pick}
 use Rattle.num_whole.specs.Answer.{given, refused}
-use Rattle.num_whole.proofs.Cases.{yes, no, is_same, not_same, is-upTo, not-upTo, upTo-true}
+use Rattle.num_whole.proofs.Cases.{yes, no, is_same, not_same, is_up_to, not_up_to, up_to_true}
 use Rattle.refusal.specs.Number.{number_of}
 use Rattle.refusal.specs.First.{unless, first, answered}
 use Rattle.refusal.specs.declared.Refusal.{Refusal}
 use Rattle.refusal.specs.declared.Refusal.TheVariants.{Room, Short}
 use Rattle.refusal.proofs.Apart.{not_none}
-use Rattle.refusal.proofs.Firsts.{unless-true, unless-false, unless-none, first-none, first-none-left, first_one, first-pass, first_by, answered-given, answered-by, answered-is, answered-not}
+use Rattle.refusal.proofs.Firsts.{unless_true, unless_false, unless_none, first_none, first_none_left, first_one, first_pass, first_by, answered_given, answered_by, answered_is, answered_not}
 use Rattle.byte_words.specs.Words.{lay}
-use Rattle.refusal.specs.Told.{toldVerdict}
+use Rattle.refusal.specs.Told.{told_verdict}
 use Rattle.arc_heading.specs.declared.Heading.{Heading}
 use Rattle.refusal.specs.declared.Verdict.{Verdict}
 use Rattle.refusal.specs.declared.Verdict.TheVariants as Verdicts
-use Rattle.arc_kinds.specs.Kinds.{recordSize}
-use Rattle.take_state.specs.State.{State, stateNumber, capped}
+use Rattle.arc_kinds.specs.Kinds.{record_size}
+use Rattle.take_state.specs.State.{State, state_number, capped}
 use Rattle.take_laws.specs.Machine.{run, answers}
-use Rattle.take_laws.specs.Taking.{frame_of, book, recordAnswer, recordStep, takeAnswer, takeStep, cut, wholeRecords, recordsIn, wholeRun, runNumber, runState, runAnswers}
+use Rattle.take_laws.specs.Taking.{frame_of, book, record_answer, record_step, take_answer, take_step, cut, whole_records, records_in, whole_run, run_number, run_state, run_answers}
 
 -- ---- a verdict and its number
-pub none-by : (k : ℕ) (v : Verdict) → toldVerdict v ≡ answered k (tt {0}) → v ≡ Verdicts.Sound → k ≡ 0
-none-by k v e s = (answered-is k tt tt (sym e ∙ ap toldVerdict s)).0
+pub none_by : (k : ℕ) (v : Verdict) → told_verdict v ≡ answered k (tt {0}) → v ≡ Verdicts.Sound → k ≡ 0
+none_by k v e s = (answered_is k tt tt (sym e ∙ ap told_verdict s)).0
 
-pub some-by : (k : ℕ) (v : Verdict) (r : Refusal) → toldVerdict v ≡ answered k (tt {0}) → v ≡ Verdicts.Refused r → k ≡ number_of r
-some-by k v r e s = answered-not k tt (number_of r) (sym e ∙ ap toldVerdict s)
+pub some_by : (k : ℕ) (v : Verdict) (r : Refusal) → told_verdict v ≡ answered k (tt {0}) → v ≡ Verdicts.Refused r → k ≡ number_of r
+some_by k v r e s = answered_not k tt (number_of r) (sym e ∙ ap told_verdict s)
 
 -- ---- one record
 module _ (h : Heading) (b : List ℕ) (s : State) where
-  module _ (e : stateNumber h s ≡ 0) where
-    pub sound-answer : takeAnswer h b s ≡ recordAnswer (frame_of h) b s
-    unfolding takeAnswer
-    sound-answer = first-pass _ _ e ∙ first_one _
+  module _ (e : state_number h s ≡ 0) where
+    pub sound_answer : take_answer h b s ≡ record_answer (frame_of h) b s
+    unfolding take_answer
+    sound_answer = first_pass _ _ e ∙ first_one _
 
-    pub sound-step : takeStep h b s ≡ recordStep (frame_of h) b s
-    unfolding takeStep recordStep
-    sound-step = ap (λ k. pick (same k 0) (book (frame_of h) b s) s) sound-answer
+    pub sound_step : take_step h b s ≡ record_step (frame_of h) b s
+    unfolding take_step record_step
+    sound_step = ap (λ k. pick (same k 0) (book (frame_of h) b s) s) sound_answer
 
-  module _ (r : Refusal) (e : stateNumber h s ≡ number_of r) where
-    pub refused-answer : takeAnswer h b s ≡ number_of r
-    unfolding takeAnswer
-    refused-answer = sym (first_by _ _ r e)
+  module _ (r : Refusal) (e : state_number h s ≡ number_of r) where
+    pub refused_answer : take_answer h b s ≡ number_of r
+    unfolding take_answer
+    refused_answer = sym (first_by _ _ r e)
 
-    pub refused-step : takeStep h b s ≡ s
-    unfolding takeStep
-    refused-step = sym (no _ _ _ (not_same _ _ (λ z. not_none r (sym refused-answer ∙ z))) refl)
+    pub refused_step : take_step h b s ≡ s
+    unfolding take_step
+    refused_step = sym (no _ _ _ (not_same _ _ (λ z. not_none r (sym refused_answer ∙ z))) refl)
 
 -- ---- a run
 module _ (h : Heading) (l : List ℕ) (room : ℕ) (s : State) where
-  pub run_room : room < wholeRecords h l → refused 20 ≡ answered (runNumber h l room s) (tt {0})
-  unfolding runNumber
-  run_room e = answered-by _ tt Room (sym (first_by _ _ Room (unless-false 20 _ (not-upTo _ _ e))))
+  pub run_room : room < whole_records h l → refused 20 ≡ answered (run_number h l room s) (tt {0})
+  unfolding run_number
+  run_room e = answered_by _ tt Room (sym (first_by _ _ Room (unless_false 20 _ (not_up_to _ _ e))))
 
-  module _ (roomy : wholeRecords h l ≤ room) where
-    to-state : runNumber h l room s ≡ first (stateNumber h s ∷ unless 1 (wholeRun h l) ∷ [])
-    unfolding runNumber
-    to-state = first-pass _ _ (unless-true 20 _ (is-upTo _ _ roomy))
+  module _ (roomy : whole_records h l ≤ room) where
+    to_state : run_number h l room s ≡ first (state_number h s ∷ unless 1 (whole_run h l) ∷ [])
+    unfolding run_number
+    to_state = first_pass _ _ (unless_true 20 _ (is_up_to _ _ roomy))
 
-    pub run-refused : (r : Refusal) → stateNumber h s ≡ number_of r → refused (number_of r) ≡ answered (runNumber h l room s) (tt {0})
-    run-refused r e = answered-by _ tt r (to-state ∙ sym (first_by _ _ r e))
+    pub run_refused : (r : Refusal) → state_number h s ≡ number_of r → refused (number_of r) ≡ answered (run_number h l room s) (tt {0})
+    run_refused r e = answered_by _ tt r (to_state ∙ sym (first_by _ _ r e))
 
-    module _ (e : stateNumber h s ≡ 0) where
-      pub run_short : wholeRun h l ≡ false → refused 1 ≡ answered (runNumber h l room s) (tt {0})
-      run_short f = answered-by _ tt Short (to-state ∙ first-pass _ _ e ∙ sym (first_by _ _ Short (unless-false 1 _ f)))
+    module _ (e : state_number h s ≡ 0) where
+      pub run_short : whole_run h l ≡ false → refused 1 ≡ answered (run_number h l room s) (tt {0})
+      run_short f = answered_by _ tt Short (to_state ∙ first_pass _ _ e ∙ sym (first_by _ _ Short (unless_false 1 _ f)))
 
-      pub run_sound : wholeRun h l ≡ true → given (tt {0}) ≡ answered (runNumber h l room s) (tt {0})
-      run_sound t = answered-given _ tt (to-state ∙ first-pass _ _ e ∙ first-pass _ _ (unless-true 1 _ t) ∙ first-none-left)
+      pub run_sound : whole_run h l ≡ true → given (tt {0}) ≡ answered (run_number h l room s) (tt {0})
+      run_sound t = answered_given _ tt (to_state ∙ first_pass _ _ e ∙ first_pass _ _ (unless_true 1 _ t) ∙ first_none_left)
 
-  module _ (some : runNumber h l room s ≡ 0 → ⊥) where
-    pub state-left : runState h l room s ≡ s
-    unfolding runState
-    state-left = sym (no _ _ _ (not_same _ _ some) refl)
+  module _ (some : run_number h l room s ≡ 0 → ⊥) where
+    pub state_left : run_state h l room s ≡ s
+    unfolding run_state
+    state_left = sym (no _ _ _ (not_same _ _ some) refl)
 
 -- the answers where the run is refused
 module _ (h : Heading) (l out : List ℕ) (s : State) where
-  pub answers-left : (runNumber h l (length out) s ≡ 0 → ⊥) → runAnswers h l out s ≡ out
-  unfolding runAnswers
-  answers-left some = sym (no _ _ _ (not_same _ _ some) refl)
+  pub answers_left_lem : (run_number h l (length out) s ≡ 0 → ⊥) → run_answers h l out s ≡ out
+  unfolding run_answers
+  answers_left_lem some = sym (no _ _ _ (not_same _ _ some) refl)

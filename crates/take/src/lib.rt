@@ -1,10 +1,10 @@
 // Taking records: one record, or a run of them, into the state of an arc.
 ghost use Rattle.std.specs.Prelude.{◌≡◌, ◌*◌, ◌/◌, ◌<◌, length};
 ghost use Rattle.refusal.specs.First.{answered};
-ghost use Rattle.refusal.specs.Told.{toldVerdict};
-ghost use Rattle.take_state.specs.State.{state_of, stateNumber};
-ghost use Rattle.take_laws.specs.Taking.{frame_of, recordAnswer, recordStep, takeAnswer, takeStep, runNumber, runState, runAnswers};
-ghost use Rattle.take_one.specs.Told.{toldTake};
+ghost use Rattle.refusal.specs.Told.{told_verdict};
+ghost use Rattle.take_state.specs.State.{state_of, state_number};
+ghost use Rattle.take_laws.specs.Taking.{frame_of, record_answer, record_step, take_answer, take_step, run_number, run_state, run_answers};
+ghost use Rattle.take_one.specs.Told.{told_take};
 
 use arc_heading::Heading;
 use num_limits::{PARAMETERS_MOST, PARTIAL_SIZE, RECORD_FIXED};
@@ -14,9 +14,9 @@ use take_tally::Tally;
 
 // A record taken, the heading and the state found sound.
 fn take_sound(h: Heading, t: Tally, matrix: &mut [i64], rights: &mut [i64], bytes: &[u8]) -> Taken
-    requires { stateNumber h (state_of matrix.old rights.old t) ≡ 0 }
-    ensures answer_value { toldTake result.answer ≡ answered (recordAnswer (frame_of h) bytes.now (state_of matrix.old rights.old t)) tt }
-    ensures state { state_of matrix.new rights.new result.tally ≡ recordStep (frame_of h) bytes.now (state_of matrix.old rights.old t) }
+    requires { state_number h (state_of matrix.old rights.old t) ≡ 0 }
+    ensures answer_value { told_take result.answer ≡ answered (record_answer (frame_of h) bytes.now (state_of matrix.old rights.old t)) tt }
+    ensures state { state_of matrix.new rights.new result.tally ≡ record_step (frame_of h) bytes.now (state_of matrix.old rights.old t) }
 {
     let p = h.parameters;
     let n = h.stations;
@@ -38,8 +38,8 @@ fn take_sound(h: Heading, t: Tally, matrix: &mut [i64], rights: &mut [i64], byte
 
 // A record taken into a state: 20, 2, 4, 5, 6, 1, 3, 10 to 19, or accepted.
 pub fn take(h: Heading, t: Tally, matrix: &mut [i64], rights: &mut [i64], bytes: &[u8]) -> Taken
-    ensures answer_value { toldTake result.answer ≡ answered (takeAnswer h bytes.now (state_of matrix.old rights.old t)) tt }
-    ensures state { state_of matrix.new rights.new result.tally ≡ takeStep h bytes.now (state_of matrix.old rights.old t) }
+    ensures answer_value { told_take result.answer ≡ answered (take_answer h bytes.now (state_of matrix.old rights.old t)) tt }
+    ensures state { state_of matrix.new rights.new result.tally ≡ take_step h bytes.now (state_of matrix.old rights.old t) }
 {
     match take_state::judge_state(h, t, matrix, rights) {
         Verdict::Sound => take_sound(h, t, matrix, rights, bytes),
@@ -59,7 +59,7 @@ fn judge_run(
     run: &[u8],
     answers: usize,
 ) -> Verdict
-    ensures { toldVerdict result ≡ answered (runNumber h run.now answers (state_of matrix.now rights.now t)) tt }
+    ensures { told_verdict result ≡ answered (run_number h run.now answers (state_of matrix.now rights.now t)) tt }
 {
     let size = RECORD_FIXED + PARTIAL_SIZE * num_whole::least(h.parameters, PARAMETERS_MOST);
     let n = run.len() / size;
@@ -86,9 +86,9 @@ pub fn take_run(
     run: &[u8],
     answers: &mut [u8],
 ) -> Taken
-    ensures answer_value { toldTake result.answer ≡ answered (runNumber h run.now (length answers.old) (state_of matrix.old rights.old t)) tt }
-    ensures state { state_of matrix.new rights.new result.tally ≡ runState h run.now (length answers.old) (state_of matrix.old rights.old t) }
-    ensures told { answers.new ≡ runAnswers h run.now answers.old (state_of matrix.old rights.old t) }
+    ensures answer_value { told_take result.answer ≡ answered (run_number h run.now (length answers.old) (state_of matrix.old rights.old t)) tt }
+    ensures state { state_of matrix.new rights.new result.tally ≡ run_state h run.now (length answers.old) (state_of matrix.old rights.old t) }
+    ensures told { answers.new ≡ run_answers h run.now answers.old (state_of matrix.old rights.old t) }
 {
     match judge_run(h, t, matrix, rights, run, answers.len()) {
         Verdict::Sound => {

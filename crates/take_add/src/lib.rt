@@ -1,9 +1,9 @@
 // Inner to `take_steps`: the terms of one record added to the packed triangle and to the right sides.
 ghost use Rattle.std.specs.Prelude.{◌≡◌, ◌≤◌, ◌<◌, ◌^◌, pos, ◌+ℤ◌, ◌*ℤ◌, nat_abs, length, get_or, set};
-ghost use Rattle.num_limits.specs.Capacities.{parametersMost, stationsMost, weightTop};
-ghost use Rattle.take_marks.specs.Marks.{marksWith};
+ghost use Rattle.num_limits.specs.Capacities.{parameters_most, stations_most, weight_top};
+ghost use Rattle.take_marks.specs.Marks.{marks_with};
 ghost use Rattle.num_whole.specs.Sums.{plus, Within};
-ghost use Rattle.num_packed.specs.Triangle.{times, triangleTerms, tri};
+ghost use Rattle.num_packed.specs.Triangle.{times, triangle_terms, tri};
 
 fn mac(s: i64, f: i64, x: i16) -> i64
     requires { (nat_abs s ≤ 2 ^ 62) × (nat_abs f ≤ 2 ^ 31) }
@@ -13,7 +13,7 @@ fn mac(s: i64, f: i64, x: i16) -> i64
 }
 
 fn scale(w: u32, x: i16) -> i64
-    requires { w ≤ weightTop }
+    requires { w ≤ weight_top }
     ensures { (result ≡ pos w *ℤ x) × (nat_abs result ≤ 2 ^ 31) }
 {
     (w as i64) * (x as i64)
@@ -55,11 +55,11 @@ pub fn add_times(part: &mut [i64], f: i64, a: &[i16])
 // pass over them for both.
 pub fn add_matrix(sums: &mut [i64], a: &[i16], w: u32, marks: &mut [u16], row: u16)
     requires a_in_bounds { tri (length a.now) ≤ length sums.old }
-    requires w_le_weight_top { (w ≤ weightTop) × (length a.now ≤ parametersMost) }
-    requires a_in_bounds_2 { (length a.now ≤ length marks.old) × (row < stationsMost) }
+    requires w_le_weight_top { (w ≤ weight_top) × (length a.now ≤ parameters_most) }
+    requires a_in_bounds_2 { (length a.now ≤ length marks.old) × (row < stations_most) }
     requires within { Within (2 ^ 62) sums.old }
-    ensures sums_after { sums.new ≡ plus sums.old (triangleTerms (pos w) a.now) }
-    ensures marks { marks.new ≡ marksWith row a.now marks.old }
+    ensures sums_after { sums.new ≡ plus sums.old (triangle_terms (pos w) a.now) }
+    ensures marks { marks.new ≡ marks_with row a.now marks.old }
 {
     let mut j: usize = 0;
     let mut k: usize = 0;

@@ -6,12 +6,12 @@ use Rattle.num_whole.specs.Tests.{pick}
 use Rattle.refusal.specs.Number.{number_of}
 use Rattle.refusal.specs.First.{first, answered}
 use Rattle.arc_limits.specs.declared.Settings.{Settings}
-use Rattle.unit_types.specs.Types.{rowOfType}
+use Rattle.unit_types.specs.Types.{row_of_type}
 use Rattle.unit_types.specs.declared.TypeRow.{TypeRow}
 use Rattle.arc_record.specs.declared.Record.{Record}
-use Rattle.take_rules.specs.Rules.{clockOk, timeOf, inWindow}
-use Rattle.arc_record.specs.Record.{recordIn}
-use Rattle.take_laws.specs.Taking.{Frame, frame, stationIn, stationRow, stamp, typeColumn, residual, lengthTests, recordTests}
+use Rattle.take_rules.specs.Rules.{clock_ok, time_of, in_window}
+use Rattle.arc_record.specs.Record.{record_in}
+use Rattle.take_laws.specs.Taking.{Frame, frame, station_in, station_row, stamp, type_column, residual, length_tests, record_tests}
 use Rattle.take_fit.specs.declared.Fit.{Fit}
 use Rattle.take_fit.specs.declared.Fitted.{Fitted}
 use Rattle.take_fit.specs.declared.Fitted.TheVariants as Fits
@@ -21,50 +21,50 @@ use Rattle.take_fit.specs.declared.Seat.{Seat}
 use Rattle.take_fit.specs.declared.Seat.TheVariants as Seats
 
 -- what is kept of a record: where it stands in the state, its time, its sigma and residual, and its type's step and F
-unfoldable pub fitOf : Frame → List ℕ → Fit
-fitOf f b =
+unfoldable pub fit_of : Frame → List ℕ → Fit
+fit_of f b =
     record {
-      place = stationRow f b;
-      column = typeColumn b;
+      place = station_row f b;
+      column = type_column b;
       time = stamp f b;
-      sigma = (recordIn b).sigma;
+      sigma = (record_in b).sigma;
       residual = residual b;
-      step = (rowOfType (recordIn b).kind).step;
-      factor = (rowOfType (recordIn b).kind).factor;
+      step = (row_of_type (record_in b).kind).step;
+      factor = (row_of_type (record_in b).kind).factor;
     }
 
 -- 1, 3, 10 to 16, or what is kept
 unfoldable pub fitted : Frame → List ℕ → Answered Fit
-fitted f b = answered (first (first (lengthTests f b) ∷ first (recordTests f b) ∷ [])) (fitOf f b)
+fitted f b = answered (first (first (length_tests f b) ∷ first (record_tests f b) ∷ [])) (fit_of f b)
 
 -- 13, 14, or the time
 unfoldable pub timed : Settings → ℕ → ℕ → ℤ → Answered ℕ
 timed a day ms correction =
-    pick (clockOk day ms)
-    (pick (inWindow a.first a.days (timeOf day ms correction)) (given (nat_abs (timeOf day ms correction))) (refused 14))
+    pick (clock_ok day ms)
+    (pick (in_window a.first a.days (time_of day ms correction)) (given (nat_abs (time_of day ms correction))) (refused 14))
     (refused 13)
 
 -- ---- what the answers say
-abbrev pub toldTime : TimeAnswer → Answered ℕ
-toldTime (Times.Is t) = given t
-toldTime (Times.Refused r) = refused (number_of r)
+abbrev pub told_time : TimeAnswer → Answered ℕ
+told_time (Times.Is t) = given t
+told_time (Times.Refused r) = refused (number_of r)
 
-abbrev pub toldFit : Fitted → Answered Fit
-toldFit (Fits.Is x) = given x
-toldFit (Fits.Refused r) = refused (number_of r)
+abbrev pub told_fit : Fitted → Answered Fit
+told_fit (Fits.Is x) = given x
+told_fit (Fits.Refused r) = refused (number_of r)
 
-abbrev pub toldSeat : Seat → Answered ℕ
-toldSeat (Seats.At i) = given i
-toldSeat Seats.Nowhere = refused 10
+abbrev pub told_seat : Seat → Answered ℕ
+told_seat (Seats.At i) = given i
+told_seat Seats.Nowhere = refused 10
 
 -- ---- what the parts of the judging promise each other, of any bytes that the record was decoded from
 -- a record r of a listed station and of a type
 abbrev pub Listed : Settings → ℕ → ℤ → TypeRow → Record → Fitted → Type 0
 Listed a place correction row r x =
-    (f : Frame) (b : List ℕ) → f.settings ≡ a → stationIn f b ≡ given place → get_or f.corrections place (pos 0) ≡ correction
-    → row ≡ rowOfType r.kind → r ≡ recordIn b → toldFit x ≡ answered (first (recordTests f b)) (fitOf f b)
+    (f : Frame) (b : List ℕ) → f.settings ≡ a → station_in f b ≡ given place → get_or f.corrections place (pos 0) ≡ correction
+    → row ≡ row_of_type r.kind → r ≡ record_in b → told_fit x ≡ answered (first (record_tests f b)) (fit_of f b)
 
 -- a record r
 abbrev pub Decoded : Settings → List ℕ → List ℤ → Record → Fitted → Type 0
 Decoded a ns cs r x =
-    (p : ℕ) (b : List ℕ) → r ≡ recordIn b → toldFit x ≡ answered (first (recordTests (frame a p ns cs) b)) (fitOf (frame a p ns cs) b)
+    (p : ℕ) (b : List ℕ) → r ≡ record_in b → told_fit x ≡ answered (first (record_tests (frame a p ns cs) b)) (fit_of (frame a p ns cs) b)

@@ -1,16 +1,16 @@
 // Inner to `take`: one record fitted to its heading, by numbers alone: 1, 3, 10 to 16, or what is kept of it.
 ghost use Rattle.std.specs.Prelude.{◌≡◌, true, ◌*◌, ◌≤◌, ◌<◌, length};
-ghost use Rattle.num_limits.specs.Capacities.{parametersMost};
+ghost use Rattle.num_limits.specs.Capacities.{parameters_most};
 ghost use Rattle.num_whole.specs.Answer.{refused};
 ghost use Rattle.num_whole.specs.Tests.{pick};
-ghost use Rattle.arc_limits.specs.Limits.{settingsOk};
-ghost use Rattle.arc_heading.specs.Judge.{findFrom};
+ghost use Rattle.arc_limits.specs.Limits.{settings_ok};
+ghost use Rattle.arc_heading.specs.Judge.{find_from};
 ghost use Rattle.unit_types.specs.Types.{is_type};
 ghost use Rattle.unit_measure.specs.Measures.{reading};
-ghost use Rattle.unit_convert.specs.Units.{toldUnit};
-ghost use Rattle.unit_residual.specs.Residuals.{residualOf};
+ghost use Rattle.unit_convert.specs.Units.{told_unit};
+ghost use Rattle.unit_residual.specs.Residuals.{residual_of};
 ghost use Rattle.take_laws.specs.Taking.{frame};
-ghost use Rattle.take_fit.specs.Fit.{Listed, Decoded, fitted, timed, toldFit, toldTime, toldSeat};
+ghost use Rattle.take_fit.specs.Fit.{Listed, Decoded, fitted, timed, told_fit, told_time, told_seat};
 
 use arc_limits::Settings;
 use arc_record::Record;
@@ -53,7 +53,7 @@ enum Seat {
 
 // Where a number stands in a list of stations' numbers.
 fn find(numbers: &[u16], number: u16) -> Seat
-    ensures { toldSeat result ≡ findFrom number 0 numbers.now }
+    ensures { told_seat result ≡ find_from number 0 numbers.now }
 {
     let mut i: usize = 0;
     while i < numbers.len() {
@@ -67,7 +67,7 @@ fn find(numbers: &[u16], number: u16) -> Seat
 
 // The residual of a record: 11, 15, 16, or r.
 fn residual_of(r: Record) -> UnitAnswer
-    ensures { toldUnit result ≡ pick (is_type r.kind) (residualOf (reading r.kind r.observed r.computed)) (refused 11) }
+    ensures { told_unit result ≡ pick (is_type r.kind) (residual_of (reading r.kind r.observed r.computed)) (refused 11) }
 {
     match unit_measure::measured(r.kind, r.observed, r.computed) {
         MeasurementAnswer::Is(m) => unit_residual::residual(m),
@@ -77,8 +77,8 @@ fn residual_of(r: Record) -> UnitAnswer
 
 // The corrected time of a clock's reading: 13, 14, or t, which is not below 0 in the window.
 fn time_of(settings: Settings, day: u32, ms: u32, correction: i32) -> TimeAnswer
-    requires { settingsOk settings ≡ true }
-    ensures { toldTime result ≡ timed settings day ms correction }
+    requires { settings_ok settings ≡ true }
+    ensures { told_time result ≡ timed settings day ms correction }
 {
     if take_rules::clock_ok(day, ms) {
         let t = take_rules::time(day, ms, correction);
@@ -98,7 +98,7 @@ fn fit_listed(
     row: unit_types::TypeRow,
     r: Record,
 ) -> Fitted
-    requires { (settingsOk settings ≡ true) × (is_type r.kind ≡ true) }
+    requires { (settings_ok settings ≡ true) × (is_type r.kind ≡ true) }
     ensures { Listed settings place correction row r result }
 {
     if take_rules::sigma_ok(r.sigma) {
@@ -123,7 +123,7 @@ fn fit_listed(
 
 // 10 to 16 for a record.
 fn fit_record(settings: Settings, numbers: &[u16], corrections: &[i32], r: Record) -> Fitted
-    requires settings_value { settingsOk settings ≡ true }
+    requires settings_value { settings_ok settings ≡ true }
     requires numbers_in_bounds { length numbers.now ≤ length corrections.now }
     ensures { Decoded settings numbers.now corrections.now r result }
 {
@@ -144,9 +144,9 @@ pub fn fits(
     corrections: &[i32],
     bytes: &[u8],
 ) -> Fitted
-    requires settings_value { (settingsOk settings ≡ true) × (parameters ≤ parametersMost) }
+    requires settings_value { (settings_ok settings ≡ true) × (parameters ≤ parameters_most) }
     requires numbers_in_bounds { length numbers.now ≤ length corrections.now }
-    ensures { toldFit result ≡ fitted (frame settings parameters numbers.now corrections.now) bytes.now }
+    ensures { told_fit result ≡ fitted (frame settings parameters numbers.now corrections.now) bytes.now }
 {
     let size = RECORD_FIXED + PARTIAL_SIZE * parameters;
     if bytes.len() < size {

@@ -1,12 +1,12 @@
 -- For the proofs of the code alone: no public promise and no law cites this, and an auditor may skip it.
 -- What an accepted record adds, and the tests that are left for one that fits its heading.
 use Rattle.std.specs.Prelude.{ℕ, ◌*◌, [], ◌∷◌, ℤ, pos, ◌*ℤ◌, nat_abs}
-use Rattle.num_limits.specs.Capacities.{countMost}
+use Rattle.num_limits.specs.Capacities.{count_most}
 use Rattle.num_whole.specs.Answer.{Answered, given, refused}
 use Rattle.num_whole.specs.Tests.{less}
 use Rattle.refusal.specs.Number.{number_of}
 use Rattle.refusal.specs.First.{unless, first, answered}
-use Rattle.take_rules.specs.Rules.{weightOf, passesEdit}
+use Rattle.take_rules.specs.Rules.{weight_of, passes_edit}
 use Rattle.take_laws.specs.Taking.{residual}
 use Rattle.take_fit.specs.declared.Fit.{Fit}
 use Rattle.take_judge.specs.declared.Terms.{Terms}
@@ -14,26 +14,26 @@ use Rattle.take_judge.specs.declared.Judgement.{Judgement}
 use Rattle.take_judge.specs.declared.Judgement.TheVariants as Judgements
 
 -- w, w·R and w·R²
-unfoldable pub termsBy : ℕ → ℤ → ℕ → Terms
-termsBy sigma r factor =
+unfoldable pub terms_by : ℕ → ℤ → ℕ → Terms
+terms_by sigma r factor =
     record {
-      weight = weightOf sigma;
-      side = pos (weightOf sigma) *ℤ (r *ℤ pos factor);
-      square = weightOf sigma * (nat_abs (r *ℤ pos factor) * nat_abs (r *ℤ pos factor));
+      weight = weight_of sigma;
+      side = pos (weight_of sigma) *ℤ (r *ℤ pos factor);
+      square = weight_of sigma * (nat_abs (r *ℤ pos factor) * nat_abs (r *ℤ pos factor));
     }
 
 -- 17, 18, 19, or the terms
-unfoldable pub judgedLate : ℕ → Fit → ℕ → ℕ → Answered Terms
-judgedLate level x last count =
+unfoldable pub judged_late : ℕ → Fit → ℕ → ℕ → Answered Terms
+judged_late level x last count =
     answered
     (first
     (unless 17 (less last x.time)
-    ∷ unless 18 (passesEdit level x.sigma x.step x.residual)
-    ∷ unless 19 (less count countMost)
+    ∷ unless 18 (passes_edit level x.sigma x.step x.residual)
+    ∷ unless 19 (less count count_most)
     ∷ []))
-    (termsBy x.sigma x.residual x.factor)
+    (terms_by x.sigma x.residual x.factor)
 
 -- what the answer says
-abbrev pub toldJudgement : Judgement → Answered Terms
-toldJudgement (Judgements.Accepted x) = given x
-toldJudgement (Judgements.Refused r) = refused (number_of r)
+abbrev pub told_judgement : Judgement → Answered Terms
+told_judgement (Judgements.Accepted x) = given x
+told_judgement (Judgements.Refused r) = refused (number_of r)

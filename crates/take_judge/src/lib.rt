@@ -1,6 +1,6 @@
 // Inner to `take`: one record that fits its heading judged by its station's last time and count: 17, 18, 19, or what it adds to the sums.
 ghost use Rattle.std.specs.Prelude.{◌≡◌, ◌*◌, ◌≤◌, ◌<◌, ◌^◌, pos, nat_abs, ◌*ℤ◌};
-ghost use Rattle.take_judge.specs.Judged.{termsBy, judgedLate, toldJudgement};
+ghost use Rattle.take_judge.specs.Judged.{terms_by, judged_late, told_judgement};
 
 use refusal::Refusal;
 use take_fit::Fit;
@@ -23,7 +23,7 @@ pub enum Judgement {
 fn terms_of(sigma: u16, residual: i64, factor: u64) -> Terms
     requires le_sigma { (1 ≤ sigma) × (sigma ≤ 256) × (factor ≤ 4) × (nat_abs residual ≤ 2 ^ 41) }
     requires factor_bound { nat_abs (residual *ℤ pos factor) ≤ 2560 * sigma }
-    ensures { result ≡ termsBy sigma residual factor }
+    ensures { result ≡ terms_by sigma residual factor }
 {
     let w = take_rules::weight(sigma);
     let scaled = residual * factor as i64;
@@ -39,7 +39,7 @@ fn terms_of(sigma: u16, residual: i64, factor: u64) -> Terms
 pub fn judge(level: u16, x: Fit, last: u64, count: u32) -> Judgement
     requires level_bound { (level ≤ 100) × (1 ≤ x.sigma) × (x.sigma ≤ 256) × (x.step * x.factor ≡ 256) × (nat_abs x.residual ≤ 2 ^ 41) }
     requires step_bound { (x.step ≤ 256) × (x.factor ≤ 4) }
-    ensures { toldJudgement result ≡ judgedLate level x last count }
+    ensures { told_judgement result ≡ judged_late level x last count }
 {
     if last < x.time {
         if take_rules::passes_edit(level, x.sigma, x.step, x.residual) {

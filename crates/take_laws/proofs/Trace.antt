@@ -7,17 +7,17 @@ use mathlib.Core.Bool.{false}
 use mathlib.Core.List.{List, [], ◌∷◌, ◌++◌, map}
 use native.Mathlib.Omega.{arith}
 use Rattle.num_whole.specs.Tests.{less, up_to, same}
-use Rattle.num_whole.proofs.Cases.{by_cases, less-true, less-false, upTo-true, same_true, same_false, is_same, not_same}
+use Rattle.num_whole.proofs.Cases.{by_cases, less_true, less_false, up_to_true, same_true, same_false, is_same, not_same}
 use Rattle.take_laws.specs.Machine.{run, answers}
-use Rattle.take_laws.specs.Mix.{keep, pairs, only, inOrder, Alike, recordsTold, toldTo}
+use Rattle.take_laws.specs.Mix.{keep, pairs, only, in_order, Alike, records_told, told_to}
 use Rattle.num_whole.specs.Lists.{Each}
-use Rattle.take_laws.proofs.Lists.{keep-yes, keep-no, split, in-order-alike, alike-rest}
+use Rattle.take_laws.proofs.Lists.{keep_yes, keep_no, split, in_order_alike, alike_rest}
 
 module _ {R S : Type 0} (step : R → S → S) where
-  pub run-append : (s : S) (l m : List R) → run step s (l ++ m) ≡ run step (run step s l) m
+  pub run_append : (s : S) (l m : List R) → run step s (l ++ m) ≡ run step (run step s l) m
   unfolding run
-  run-append s [] m = refl
-  run-append s (r ∷ l) m = run-append (step r s) l m
+  run_append s [] m = refl
+  run_append s (r ∷ l) m = run_append (step r s) l m
 
   -- what each step keeps is kept
   pub reached : (P : S → Type 0) → ((r : R) (s : S) → P s → P (step r s)) → (l : List R) (s : S) → P s → P (run step s l)
@@ -34,36 +34,36 @@ pub record Stationed {R S A : Type 0} (step : R → S → S) (ans : R → S → 
 
 module _ {R S A : Type 0} (step : R → S → S) (ans : R → S → A) (who : R → ℕ) (n : ℕ) (v : Stationed step ans who n) where
   -- a step of another station is not heard by the records of station k
-  unheard : (k : ℕ) (r' : R) → (who r' ≡ k → ⊥) → (l : List R) (s : S) → recordsTold step ans (step r' s) (only who k l) ≡ recordsTold step ans s (only who k l)
+  unheard : (k : ℕ) (r' : R) → (who r' ≡ k → ⊥) → (l : List R) (s : S) → records_told step ans (step r' s) (only who k l) ≡ records_told step ans s (only who k l)
   unfolding keep pairs answers
   unheard k r' d [] s = refl
   unheard k r' d (r ∷ l) s =
       by_cases (same (who r) k)
-      (λ t. let mine = keep-yes (λ x. same (who x) k) r l t in
+      (λ t. let mine = keep_yes (λ x. same (who x) k) r l t in
       let other : who r ≡ who r' → ⊥ = λ e. d (sym e ∙ same_true (who r) k t) in
-      ap (recordsTold step ans (step r' s)) mine
-      ∙ ap₂ (λ a u. (r, a) ∷ recordsTold step ans u (only who k l)) (v.deaf r r' s other) (v.commute r r' s other)
+      ap (records_told step ans (step r' s)) mine
+      ∙ ap₂ (λ a u. (r, a) ∷ records_told step ans u (only who k l)) (v.deaf r r' s other) (v.commute r r' s other)
       ∙ ap (λ x. (r, ans r s) ∷ x) (unheard k r' d l (step r s))
-      ∙ sym (ap (recordsTold step ans s) mine))
-      (λ t. let theirs = keep-no (λ x. same (who x) k) r l t in
-      ap (recordsTold step ans (step r' s)) theirs ∙ unheard k r' d l s ∙ sym (ap (recordsTold step ans s) theirs))
+      ∙ sym (ap (records_told step ans s) mine))
+      (λ t. let theirs = keep_no (λ x. same (who x) k) r l t in
+      ap (records_told step ans (step r' s)) theirs ∙ unheard k r' d l s ∙ sym (ap (records_told step ans s) theirs))
 
   -- A. what is told to a station's records in a list is what they are told when they are taken alone
-  pub alone : (k : ℕ) (l : List R) (s : S) → toldTo who k (recordsTold step ans s l) ≡ recordsTold step ans s (only who k l)
+  pub alone : (k : ℕ) (l : List R) (s : S) → told_to who k (records_told step ans s l) ≡ records_told step ans s (only who k l)
   unfolding keep pairs answers
   alone k [] s = refl
   alone k (r ∷ l) s =
       by_cases (same (who r) k)
-      (λ t. keep-yes (λ x. same (who x.0) k) (r, ans r s) (recordsTold step ans (step r s) l) t
+      (λ t. keep_yes (λ x. same (who x.0) k) (r, ans r s) (records_told step ans (step r s) l) t
       ∙ ap (λ x. (r, ans r s) ∷ x) (alone k l (step r s))
-      ∙ sym (ap (recordsTold step ans s) (keep-yes (λ x. same (who x) k) r l t)))
-      (λ t. keep-no (λ x. same (who x.0) k) (r, ans r s) (recordsTold step ans (step r s) l) t
+      ∙ sym (ap (records_told step ans s) (keep_yes (λ x. same (who x) k) r l t)))
+      (λ t. keep_no (λ x. same (who x.0) k) (r, ans r s) (records_told step ans (step r s) l) t
       ∙ alone k l (step r s) ∙ unheard k r (same_false (who r) k t) l s
-      ∙ sym (ap (recordsTold step ans s) (keep-no (λ x. same (who x) k) r l t)))
+      ∙ sym (ap (records_told step ans s) (keep_no (λ x. same (who x) k) r l t)))
 
   -- B. two mixes of the same: each station's records are told the same
-  pub same-answers : (l m : List R) → Alike who n l m → (k : ℕ) → k < n → (s : S) → toldTo who k (recordsTold step ans s l) ≡ toldTo who k (recordsTold step ans s m)
-  same-answers l m h k b s = alone k l s ∙ ap (recordsTold step ans s) (h k b) ∙ sym (alone k m s)
+  pub same_answers : (l m : List R) → Alike who n l m → (k : ℕ) → k < n → (s : S) → told_to who k (records_told step ans s l) ≡ told_to who k (records_told step ans s m)
+  same_answers l m h k b s = alone k l s ∙ ap (records_told step ans s) (h k b) ∙ sym (alone k m s)
 
   -- a step goes past a run of other stations' records
   past : (r : R) (m : List R) (s : S) → Each (λ x. same (who x) (who r) ≡ false) m → run step (step r s) m ≡ step r (run step s m)
@@ -77,11 +77,11 @@ module _ {R S A : Type 0} (step : R → S → S) (ans : R → S → A) (who : R 
   idle [] s h = refl
   idle (x ∷ m) s h =
       by_cases (less (who x) n)
-      (λ t. let e : x ∷ only who (who x) m ≡ [] = sym (keep-yes (λ y. same (who y) (who x)) x m (is_same _ _ refl)) ∙ h (who x) (less-true _ _ t) in
+      (λ t. let e : x ∷ only who (who x) m ≡ [] = sym (keep_yes (λ y. same (who y) (who x)) x m (is_same _ _ refl)) ∙ h (who x) (less_true _ _ t) in
       absurd (let z : ◌≡◌ {A = ℕ} 0 1 = cc in omega arith))
-      (λ t. let b = less-false _ _ t in
+      (λ t. let b = less_false _ _ t in
       ap (λ u. run step u m) (v.stray x s b)
-      ∙ idle m s (λ k c. sym (keep-no (λ y. same (who y) k) x m (not_same _ _ (omega arith))) ∙ h k c))
+      ∙ idle m s (λ k c. sym (keep_no (λ y. same (who y) k) x m (not_same _ _ (omega arith))) ∙ h k c))
 
   -- C. two mixes of the same end in the same state
   pub same_end : (l m : List R) (s : S) → Alike who n l m → run step s l ≡ run step s m
@@ -90,31 +90,31 @@ module _ {R S A : Type 0} (step : R → S → S) (ans : R → S → A) (who : R 
   same_end (r ∷ l) m s h =
       by_cases (less (who r) n)
       (λ t. let k = who r in
-      let own = keep-yes (λ x. same (who x) k) r l (is_same k k refl) in
-      let d = split (λ x. same (who x) k) m r (only who k l) (sym (h k (less-true _ _ t)) ∙ own) in
-      same_end l (d.before ++ d.after) (step r s) (alike-rest who n r l m h d)
-      ∙ run-append step (step r s) d.before d.after
+      let own = keep_yes (λ x. same (who x) k) r l (is_same k k refl) in
+      let d = split (λ x. same (who x) k) m r (only who k l) (sym (h k (less_true _ _ t)) ∙ own) in
+      same_end l (d.before ++ d.after) (step r s) (alike_rest who n r l m h d)
+      ∙ run_append step (step r s) d.before d.after
       ∙ ap (λ u. run step u d.after) (past r d.before s d.none)
-      ∙ sym (run-append step s d.before (r ∷ d.after))
+      ∙ sym (run_append step s d.before (r ∷ d.after))
       ∙ ap (run step s) (sym d.is))
-      (λ t. let b = less-false _ _ t in
+      (λ t. let b = less_false _ _ t in
       ap (λ u. run step u l) (v.stray r s b)
-      ∙ same_end l m s (λ k c. sym (keep-no (λ y. same (who y) k) r l (not_same _ _ (omega arith))) ∙ h k c))
+      ∙ same_end l m s (λ k c. sym (keep_no (λ y. same (who y) k) r l (not_same _ _ (omega arith))) ∙ h k c))
 
   -- D. a list ends where the stations' records end, taken one station after another
-  pub in_order : (l : List R) (s : S) → run step s l ≡ run step s (inOrder who n l)
-  in_order l s = same_end l (inOrder who n l) s (in-order-alike who n l)
+  pub in_order_lem : (l : List R) (s : S) → run step s l ≡ run step s (in_order who n l)
+  in_order_lem l s = same_end l (in_order who n l) s (in_order_alike who n l)
 
 -- E. a record of no station is told the same anywhere
 module _ {R S A : Type 0} (step : R → S → S) (ans : R → S → A) (who : R → ℕ) (n : ℕ) (fixed : R → A)
     (lost : (r : R) (s : S) → n ≤ who r → ans r s ≡ fixed r) where
-  pub stray-answers : (l : List R) (s : S) → keep (λ x. up_to n (who x.0)) (recordsTold step ans s l) ≡ map (λ r. (r, fixed r)) (keep (λ r. up_to n (who r)) l)
+  pub stray_answers : (l : List R) (s : S) → keep (λ x. up_to n (who x.0)) (records_told step ans s l) ≡ map (λ r. (r, fixed r)) (keep (λ r. up_to n (who r)) l)
   unfolding keep pairs answers
-  stray-answers [] s = refl
-  stray-answers (r ∷ l) s =
+  stray_answers [] s = refl
+  stray_answers (r ∷ l) s =
       by_cases (up_to n (who r))
-      (λ t. keep-yes (λ x. up_to n (who x.0)) (r, ans r s) (recordsTold step ans (step r s) l) t
-      ∙ ap₂ (λ a x. (r, a) ∷ x) (lost r s (upTo-true _ _ t)) (stray-answers l (step r s))
-      ∙ sym (ap (map (λ r. (r, fixed r))) (keep-yes (λ x. up_to n (who x)) r l t)))
-      (λ t. keep-no (λ x. up_to n (who x.0)) (r, ans r s) (recordsTold step ans (step r s) l) t
-      ∙ stray-answers l (step r s) ∙ sym (ap (map (λ r. (r, fixed r))) (keep-no (λ x. up_to n (who x)) r l t)))
+      (λ t. keep_yes (λ x. up_to n (who x.0)) (r, ans r s) (records_told step ans (step r s) l) t
+      ∙ ap₂ (λ a x. (r, a) ∷ x) (lost r s (up_to_true _ _ t)) (stray_answers l (step r s))
+      ∙ sym (ap (map (λ r. (r, fixed r))) (keep_yes (λ x. up_to n (who x)) r l t)))
+      (λ t. keep_no (λ x. up_to n (who x.0)) (r, ans r s) (records_told step ans (step r s) l) t
+      ∙ stray_answers l (step r s) ∙ sym (ap (map (λ r. (r, fixed r))) (keep_no (λ x. up_to n (who x)) r l t)))

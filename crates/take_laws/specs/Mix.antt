@@ -25,9 +25,9 @@ module _ {R : Type 0} (who : R → ℕ) where
   only k l = keep (λ r. same (who r) k) l
 
   -- the stations below n one after another, each with its own records in their order
-  unfoldable pub inOrder : ℕ → List R → List R
-  inOrder zero l = []
-  inOrder (suc n) l = inOrder n l ++ only n l
+  unfoldable pub in_order : ℕ → List R → List R
+  in_order zero l = []
+  in_order (suc n) l = in_order n l ++ only n l
 
   -- two mixes of the same: each station below n has the same records in the same order. Records of no station may stand anywhere
   abbrev pub Alike : ℕ → List R → List R → Type 0
@@ -35,12 +35,12 @@ module _ {R : Type 0} (who : R → ℕ) where
 
 module _ {R S A : Type 0} (step : R → S → S) (answer : R → S → A) where
   -- each record with its answer
-  abbrev pub recordsTold : S → List R → List (R × A)
-  recordsTold s l = pairs l (answers step answer s l)
+  abbrev pub records_told : S → List R → List (R × A)
+  records_told s l = pairs l (answers step answer s l)
 
 -- of records with their answers: those of station k, and the records that are answered accepted, each in their order
-abbrev pub toldTo : {R A : Type 0} → (R → ℕ) → ℕ → List (R × A) → List (R × A)
-toldTo who k l = keep (λ x. same (who x.0) k) l
+abbrev pub told_to : {R A : Type 0} → (R → ℕ) → ℕ → List (R × A) → List (R × A)
+told_to who k l = keep (λ x. same (who x.0) k) l
 
 unfoldable pub taken : {R : Type 0} → List (R × ℕ) → List R
 taken l = map (λ x. x.0) (keep (λ x. same x.1 0) l)

@@ -1,8 +1,8 @@
 // Inner to the taking: a run taken into lent sums, the heading, the state and the run found sound.
 ghost use Rattle.std.specs.Prelude.{◌≡◌, length};
-ghost use Rattle.arc_heading.specs.Judge.{numbersOf};
+ghost use Rattle.arc_heading.specs.Judge.{numbers_of};
 ghost use Rattle.take_state.specs.State.{state_of};
-ghost use Rattle.take_laws.specs.Taking.{correctionsOf, runNumber, runState, runAnswers};
+ghost use Rattle.take_laws.specs.Taking.{corrections_of, run_number, run_state, run_answers};
 
 use arc_heading::Heading;
 use num_limits::{PARAMETERS_MOST, STATIONS_MOST};
@@ -10,7 +10,7 @@ use take_tally::Tally;
 
 // The numbers of the listed stations, in the order of the heading.
 pub fn numbers_of(h: Heading) -> [u16; STATIONS_MOST]
-    ensures { result ≡ numbersOf h.listed }
+    ensures { result ≡ numbers_of h.listed }
 {
     let mut a: [u16; STATIONS_MOST] = [0; STATIONS_MOST];
     let mut i: usize = 0;
@@ -24,7 +24,7 @@ pub fn numbers_of(h: Heading) -> [u16; STATIONS_MOST]
 
 // Their corrections.
 pub fn corrections_of(h: Heading) -> [i32; STATIONS_MOST]
-    ensures { result ≡ correctionsOf h.listed }
+    ensures { result ≡ corrections_of h.listed }
 {
     let mut a: [i32; STATIONS_MOST] = [0; STATIONS_MOST];
     let mut i: usize = 0;
@@ -46,9 +46,9 @@ pub fn run_sound(
     run: &[u8],
     out: &mut [u8],
 ) -> Tally
-    requires { runNumber h run.now (length out.old) (state_of matrix.old rights.old t) ≡ 0 }
-    ensures state { state_of matrix.new rights.new result ≡ runState h run.now (length out.old) (state_of matrix.old rights.old t) }
-    ensures told { out.new ≡ runAnswers h run.now out.old (state_of matrix.old rights.old t) }
+    requires { run_number h run.now (length out.old) (state_of matrix.old rights.old t) ≡ 0 }
+    ensures state { state_of matrix.new rights.new result ≡ run_state h run.now (length out.old) (state_of matrix.old rights.old t) }
+    ensures told { out.new ≡ run_answers h run.now out.old (state_of matrix.old rights.old t) }
 {
     let p = h.parameters;
     let n = h.stations;

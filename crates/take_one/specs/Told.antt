@@ -4,6 +4,6 @@ use Rattle.refusal.specs.Number.{number_of}
 use Rattle.take_one.specs.declared.TakeAnswer.{TakeAnswer}
 use Rattle.take_one.specs.declared.TakeAnswer.TheVariants.{Accepted, Refused}
 
-abbrev pub toldTake : TakeAnswer → Answered (Unit {0})
-toldTake Accepted = given tt
-toldTake (Refused r) = refused (number_of r)
+abbrev pub told_take : TakeAnswer → Answered (Unit {0})
+told_take Accepted = given tt
+told_take (Refused r) = refused (number_of r)

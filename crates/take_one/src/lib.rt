@@ -2,9 +2,9 @@
 ghost use Rattle.std.specs.Prelude.{◌≡◌, length};
 ghost use Rattle.refusal.specs.First.{answered};
 ghost use Rattle.take_state.specs.State.{state_of};
-ghost use Rattle.take_laws.specs.Taking.{frame, recordAnswer, recordStep};
+ghost use Rattle.take_laws.specs.Taking.{frame, record_answer, record_step};
 ghost use Rattle.take_steps.specs.Runs.{Prepared};
-ghost use Rattle.take_one.specs.Told.{toldTake};
+ghost use Rattle.take_one.specs.Told.{told_take};
 
 use arc_limits::Settings;
 use refusal::Refusal;
@@ -36,8 +36,8 @@ pub fn take_record(
     bytes: &[u8],
 ) -> Taken
     requires { Prepared settings numbers.now corrections.now (state_of matrix.old rights.old t) × (length room.old ≡ length rights.old) }
-    ensures answer_value { toldTake result.answer ≡ answered (recordAnswer (frame settings (length rights.old) numbers.now corrections.now) bytes.now (state_of matrix.old rights.old t)) tt }
-    ensures state { state_of matrix.new rights.new result.tally ≡ recordStep (frame settings (length rights.old) numbers.now corrections.now) bytes.now (state_of matrix.old rights.old t) }
+    ensures answer_value { told_take result.answer ≡ answered (record_answer (frame settings (length rights.old) numbers.now corrections.now) bytes.now (state_of matrix.old rights.old t)) tt }
+    ensures state { state_of matrix.new rights.new result.tally ≡ record_step (frame settings (length rights.old) numbers.now corrections.now) bytes.now (state_of matrix.old rights.old t) }
 {
     match take_fit::fits(settings, rights.len(), numbers, corrections, bytes) {
         Fitted::Is(x) => {

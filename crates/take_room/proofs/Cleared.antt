@@ -12,24 +12,24 @@ use Rattle.take_room.specs.Room.{cleared}
 
 -- clearing: what is done, with the rest cleared
 module _ (room : List ℤ) (n i : ℕ) where
-  pub clear-end : n ≤ i → take i room ++ cleared (n - i) (drop i room) ≡ room
+  pub clear_end : n ≤ i → take i room ++ cleared (n - i) (drop i room) ≡ room
   unfolding cleared
-  clear-end h = let z : n - i ≡ 0 = omega arith in rw z (take-append-drop i room)
+  clear_end h = let z : n - i ≡ 0 = omega arith in rw z (take-append-drop i room)
 
-  pub clear-turn : i < n → n ≤ length room → take i room ++ cleared (n - i) (drop i room) ≡ take (i + 1) (set room i (pos 0)) ++ cleared (n - (i + 1)) (drop (i + 1) (set room i (pos 0)))
+  pub clear_turn : i < n → n ≤ length room → take i room ++ cleared (n - i) (drop i room) ≡ take (i + 1) (set room i (pos 0)) ++ cleared (n - (i + 1)) (drop (i + 1) (set room i (pos 0)))
   unfolding cleared
-  clear-turn h l =
+  clear_turn h l =
       let more : n - i ≡ suc (n - (i + 1)) = omega arith in
       let head : take (i + 1) (set room i (pos 0)) ≡ take i room ++ (pos 0 ∷ []) = rw add-one (take-suc-set room i (pos 0) (omega arith)) in
       let tail : drop (i + 1) (set room i (pos 0)) ≡ drop (i + 1) room = drop-set-lt (i + 1) room i (pos 0) (omega arith) in
       let cut : drop i room ≡ get_or room i (pos 0) ∷ drop (i + 1) room = rw add-one (drop-cons room i (pos 0) (omega arith)) in
       rw (more, cut, head, tail) (sym (append_snoc (take i room) (pos 0) _))
 
-zeros-again : (k n : ℕ) (l : List ℤ) → k ≤ n → replicate k (pos 0) ++ drop k (replicate n (pos 0) ++ l) ≡ replicate n (pos 0) ++ l
-zeros-again zero n l h = refl
-zeros-again (suc k) zero l h = absurd (omega arith)
-zeros-again (suc k) (suc n) l h = ap (λ x. pos 0 ∷ x) (zeros-again k n l (omega arith))
+zeros_again : (k n : ℕ) (l : List ℤ) → k ≤ n → replicate k (pos 0) ++ drop k (replicate n (pos 0) ++ l) ≡ replicate n (pos 0) ++ l
+zeros_again zero n l h = refl
+zeros_again (suc k) zero l h = absurd (omega arith)
+zeros_again (suc k) (suc n) l h = ap (λ x. pos 0 ∷ x) (zeros_again k n l (omega arith))
 
-pub cleared-again : (k n : ℕ) (l : List ℤ) → k ≤ n → cleared k (cleared n l) ≡ cleared n l
+pub cleared_again : (k n : ℕ) (l : List ℤ) → k ≤ n → cleared k (cleared n l) ≡ cleared n l
 unfolding cleared
-cleared-again k n l h = zeros-again k n (drop n l) h
+cleared_again k n l h = zeros_again k n (drop n l) h

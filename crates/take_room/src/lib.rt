@@ -1,14 +1,14 @@
 // Inner to states: whether lent room has place for the sums of so many parameters, and its clearing.
 ghost use Rattle.std.specs.Prelude.{◌≡◌, ◌≤◌, min, length};
-ghost use Rattle.num_limits.specs.Capacities.{parametersMost};
-ghost use Rattle.num_packed.specs.Room.{sumsRoomy};
+ghost use Rattle.num_limits.specs.Capacities.{parameters_most};
+ghost use Rattle.num_packed.specs.Room.{sums_roomy};
 ghost use Rattle.take_room.specs.Room.{cleared};
 
 use num_limits::PARAMETERS_MOST;
 
 // Whether so many parameters have room for their sums.
 pub fn is_roomy(parameters: usize, matrix: &[i64], rights: &[i64]) -> bool
-    ensures { result ≡ sumsRoomy (min parameters parametersMost) (length matrix.now) (length rights.now) }
+    ensures { result ≡ sums_roomy (min parameters parameters_most) (length matrix.now) (length rights.now) }
 {
     let p = num_whole::least(parameters, PARAMETERS_MOST);
     if num_packed::place(0, p) <= matrix.len() {

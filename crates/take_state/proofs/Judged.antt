@@ -6,31 +6,31 @@ use mathlib.Core.Bool.{true, false, not}
 use mathlib.Core.List.{List}
 use native.Mathlib.Nat.{le_of_suc-le-suc}
 use lib.IntN.{ℤ, pos}
-use Rattle.num_whole.proofs.Tables.{below-every, below_fails}
-use Rattle.num_packed.specs.Sound.{breaks, breaksSide}
-use Rattle.num_packed.specs.Found.{none, at, firstFrom, columnsFrom}
-use Rattle.num_packed.proofs.Found.{first-none, first-number, columns-none, first_entry}
-use Rattle.take_state.specs.State.{matrixSound, rightsSound}
+use Rattle.num_whole.proofs.Tables.{below_every, below_fails}
+use Rattle.num_packed.specs.Sound.{breaks, breaks_side}
+use Rattle.num_packed.specs.Found.{none, at, first_from, columns_from}
+use Rattle.num_packed.proofs.Found.{first_none, first_number, columns_none, first_entry}
+use Rattle.take_state.specs.State.{matrix_sound, rights_sound}
 
 module _ (p top : ℕ) (m : List ℤ) where
-  pub matrix-pass : columnsFrom (breaks (pos top) m) 0 p ≡ none → matrixSound p top m ≡ true
-  unfolding matrixSound
-  matrix-pass e = below-every _ p (λ j l. below-every _ (suc j) (λ i k. ap not (columns-none (breaks (pos top) m) p e i j (le_of_suc-le-suc k) l)))
+  pub matrix_pass : columns_from (breaks (pos top) m) 0 p ≡ none → matrix_sound p top m ≡ true
+  unfolding matrix_sound
+  matrix_pass e = below_every _ p (λ j l. below_every _ (suc j) (λ i k. ap not (columns_none (breaks (pos top) m) p e i j (le_of_suc-le-suc k) l)))
 
-  pub matrix-fail : (k : ℕ) → columnsFrom (breaks (pos top) m) 0 p ≡ at k → matrixSound p top m ≡ false
-  unfolding matrixSound
-  matrix-fail k e =
+  pub matrix_fail : (k : ℕ) → columns_from (breaks (pos top) m) 0 p ≡ at k → matrix_sound p top m ≡ false
+  unfolding matrix_sound
+  matrix_fail k e =
       let f = first_entry (breaks (pos top) m) p k e in
       below_fails _ p f.column f.inside
       (below_fails _ (suc f.column) f.row (suc-le-suc f.upper) (ap not f.holds))
 
   module _ (r : List ℤ) where
-    pub rights-pass : firstFrom (breaksSide (pos top) m r) 0 p ≡ none → rightsSound p top m r ≡ true
-    unfolding rightsSound
-    rights-pass e = below-every _ p (λ i l. ap not (first-none (breaksSide (pos top) m r) p e i l))
+    pub rights_pass : first_from (breaks_side (pos top) m r) 0 p ≡ none → rights_sound p top m r ≡ true
+    unfolding rights_sound
+    rights_pass e = below_every _ p (λ i l. ap not (first_none (breaks_side (pos top) m r) p e i l))
 
-    pub rights-fail : (k : ℕ) → firstFrom (breaksSide (pos top) m r) 0 p ≡ at k → rightsSound p top m r ≡ false
-    unfolding rightsSound
-    rights-fail k e =
-        let f = first-number (breaksSide (pos top) m r) p k e in
+    pub rights_fail : (k : ℕ) → first_from (breaks_side (pos top) m r) 0 p ≡ at k → rights_sound p top m r ≡ false
+    unfolding rights_sound
+    rights_fail k e =
+        let f = first_number (breaks_side (pos top) m r) p k e in
         below_fails _ p k f.inside (ap not f.holds)

@@ -1,27 +1,27 @@
 // The state of an arc: its sums in lent room, its tally by value; the empty state, and the judging of one that is handed in.
 ghost use Rattle.std.specs.Prelude.{◌≡◌, ◌+◌, ◌*◌, ◌^◌, ◌≤◌, ◌<◌, min, pos, length};
-ghost use Rattle.num_limits.specs.Capacities.{acceptedMost, parametersMost};
+ghost use Rattle.num_limits.specs.Capacities.{accepted_most, parameters_most};
 ghost use Rattle.num_packed.specs.Triangle.{tri};
 ghost use Rattle.num_whole.specs.Answer.{given};
 ghost use Rattle.refusal.specs.First.{answered};
-ghost use Rattle.refusal.specs.Told.{toldVerdict};
+ghost use Rattle.refusal.specs.Told.{told_verdict};
 ghost use Rattle.take_state.specs.State.{
   state_of,
-  matrixTop,
-  rightTop,
-  matrixSound,
-  rightsSound,
-  sumsSound,
-  soundState,
-  roomNumber,
-  stateNumber,
+  matrix_top,
+  right_top,
+  matrix_sound,
+  rights_sound,
+  sums_sound,
+  sound_state,
+  room_number,
+  state_number,
   started,
-  parameterNumber,
+  parameter_number,
   sight_of,
-  carriersOf,
-  carriesOf,
-  toldSight,
-  toldCarriers,
+  carriers_of,
+  carries_of,
+  told_sight,
+  told_carriers,
 };
 
 use arc_heading::Heading;
@@ -55,7 +55,7 @@ pub struct Started {
 
 // 20, 2, 4, 5.
 fn judge_room(h: Heading, matrix: &[i64], rights: &[i64]) -> Verdict
-    ensures { toldVerdict result ≡ answered (roomNumber h matrix.now rights.now) tt }
+    ensures { told_verdict result ≡ answered (room_number h matrix.now rights.now) tt }
 {
     if take_room::is_roomy(h.parameters, matrix, rights) {
         arc_heading::judge(h)
@@ -66,7 +66,7 @@ fn judge_room(h: Heading, matrix: &[i64], rights: &[i64]) -> Verdict
 
 // 20, 2, 4, 5, else the empty state.
 pub fn start(h: Heading, matrix: &mut [i64], rights: &mut [i64]) -> Started
-    ensures answer_value { toldVerdict result.answer ≡ answered (roomNumber h matrix.old rights.old) tt }
+    ensures answer_value { told_verdict result.answer ≡ answered (room_number h matrix.old rights.old) tt }
     ensures state { state_of matrix.new rights.new result.tally ≡ started h matrix.old rights.old }
 {
     match judge_room(h, matrix, rights) {
@@ -95,15 +95,15 @@ const RIGHT_UNIT: u64 = 8796093022208;
 
 // The bound of sums of n records, each within `unit`.
 fn bound_of(n: u64, unit: u64) -> i64
-    requires { (n ≤ acceptedMost) × (unit ≤ 2 ^ 46) }
+    requires { (n ≤ accepted_most) × (unit ≤ 2 ^ 46) }
     ensures { result ≡ pos (n * unit) }
 {
     (n * unit) as i64
 }
 
 fn matrix_sound(p: usize, n: u64, matrix: &[i64]) -> bool
-    requires { (p ≤ parametersMost) × (tri p ≤ length matrix.now) × (n ≤ acceptedMost) }
-    ensures { result ≡ matrixSound p (matrixTop n) matrix.now }
+    requires { (p ≤ parameters_most) × (tri p ≤ length matrix.now) × (n ≤ accepted_most) }
+    ensures { result ≡ matrix_sound p (matrix_top n) matrix.now }
 {
     match num_packed::first_unsound(matrix, p, bound_of(n, MATRIX_UNIT)) {
         Walked::Sound => true,
@@ -112,8 +112,8 @@ fn matrix_sound(p: usize, n: u64, matrix: &[i64]) -> bool
 }
 
 fn rights_sound(p: usize, n: u64, matrix: &[i64], rights: &[i64]) -> bool
-    requires { (p ≤ parametersMost) × (tri p ≤ length matrix.now) × (p ≤ length rights.now) × (n ≤ acceptedMost) }
-    ensures { result ≡ rightsSound p (rightTop n) matrix.now rights.now }
+    requires { (p ≤ parameters_most) × (tri p ≤ length matrix.now) × (p ≤ length rights.now) × (n ≤ accepted_most) }
+    ensures { result ≡ rights_sound p (right_top n) matrix.now rights.now }
 {
     match num_packed::first_broken_side(matrix, rights, p, bound_of(n, RIGHT_UNIT)) {
         Walked::Sound => true,
@@ -122,8 +122,8 @@ fn rights_sound(p: usize, n: u64, matrix: &[i64], rights: &[i64]) -> bool
 }
 
 fn sums_sound(h: Heading, t: Tally, matrix: &[i64], rights: &[i64]) -> bool
-    requires { (h.parameters ≤ parametersMost) × (tri h.parameters ≤ length matrix.now) × (h.parameters ≤ length rights.now) }
-    ensures { result ≡ sumsSound h.stations h.parameters (state_of matrix.now rights.now t) }
+    requires { (h.parameters ≤ parameters_most) × (tri h.parameters ≤ length matrix.now) × (h.parameters ≤ length rights.now) }
+    ensures { result ≡ sums_sound h.stations h.parameters (state_of matrix.now rights.now t) }
 {
     if take_tally::tally_sound(h.stations, t) {
         let counts = t.counts;
@@ -139,8 +139,8 @@ fn sums_sound(h: Heading, t: Tally, matrix: &[i64], rights: &[i64]) -> bool
 }
 
 fn is_sound(h: Heading, t: Tally, matrix: &[i64], rights: &[i64]) -> bool
-    requires { (h.parameters ≤ parametersMost) × (tri h.parameters ≤ length matrix.now) × (h.parameters ≤ length rights.now) }
-    ensures { result ≡ soundState h.stations h.parameters (state_of matrix.now rights.now t) }
+    requires { (h.parameters ≤ parameters_most) × (tri h.parameters ≤ length matrix.now) × (h.parameters ≤ length rights.now) }
+    ensures { result ≡ sound_state h.stations h.parameters (state_of matrix.now rights.now t) }
 {
     if sums_sound(h, t, matrix, rights) {
         take_tally::marks_sound(h.parameters, t, matrix)
@@ -151,7 +151,7 @@ fn is_sound(h: Heading, t: Tally, matrix: &[i64], rights: &[i64]) -> bool
 
 // 20, 2, 4, 5, 6, else sound.
 pub fn judge_state(h: Heading, t: Tally, matrix: &[i64], rights: &[i64]) -> Verdict
-    ensures { toldVerdict result ≡ answered (stateNumber h (state_of matrix.now rights.now t)) tt }
+    ensures { told_verdict result ≡ answered (state_number h (state_of matrix.now rights.now t)) tt }
 {
     match judge_room(h, matrix, rights) {
         Verdict::Refused(refusal) => Verdict::Refused(refusal),
@@ -166,14 +166,14 @@ pub fn judge_state(h: Heading, t: Tally, matrix: &[i64], rights: &[i64]) -> Verd
 // ---- what is seen, and by whom
 
 fn sight_of(seen: bool) -> Sight
-    ensures { toldSight result ≡ given seen }
+    ensures { told_sight result ≡ given seen }
 {
     if seen { Sight::Seen } else { Sight::Unseen }
 }
 
 // 20, 2, 4, 5, 6 for the heading and its state, 4 where i is none of its parameters.
 fn judge_parameter(h: Heading, t: Tally, matrix: &[i64], rights: &[i64], i: usize) -> Verdict
-    ensures { toldVerdict result ≡ answered (parameterNumber h (state_of matrix.now rights.now t) i) tt }
+    ensures { told_verdict result ≡ answered (parameter_number h (state_of matrix.now rights.now t) i) tt }
 {
     match judge_state(h, t, matrix, rights) {
         Verdict::Refused(refusal) => Verdict::Refused(refusal),
@@ -187,7 +187,7 @@ fn judge_parameter(h: Heading, t: Tally, matrix: &[i64], rights: &[i64], i: usiz
 
 // Whether parameter i is seen.
 pub fn seen(h: Heading, t: Tally, matrix: &[i64], rights: &[i64], i: usize) -> Sight
-    ensures { toldSight result ≡ sight_of h (state_of matrix.now rights.now t) i }
+    ensures { told_sight result ≡ sight_of h (state_of matrix.now rights.now t) i }
 {
     match judge_parameter(h, t, matrix, rights, i) {
         Verdict::Refused(refusal) => Sight::Refused(refusal),
@@ -197,7 +197,7 @@ pub fn seen(h: Heading, t: Tally, matrix: &[i64], rights: &[i64], i: usize) -> S
 
 // How many stations gave an accepted partial other than 0 for parameter i.
 pub fn carried_by(h: Heading, t: Tally, matrix: &[i64], rights: &[i64], i: usize) -> Carriers
-    ensures { toldCarriers result ≡ carriersOf h (state_of matrix.now rights.now t) i }
+    ensures { told_carriers result ≡ carriers_of h (state_of matrix.now rights.now t) i }
 {
     match judge_parameter(h, t, matrix, rights, i) {
         Verdict::Refused(refusal) => Carriers::Refused(refusal),
@@ -207,7 +207,7 @@ pub fn carried_by(h: Heading, t: Tally, matrix: &[i64], rights: &[i64], i: usize
 
 // Whether the station of row k did; 4 also where k is none of the heading's stations.
 pub fn carries(h: Heading, t: Tally, matrix: &[i64], rights: &[i64], i: usize, k: usize) -> Sight
-    ensures { toldSight result ≡ carriesOf h (state_of matrix.now rights.now t) i k }
+    ensures { told_sight result ≡ carries_of h (state_of matrix.now rights.now t) i k }
 {
     match judge_parameter(h, t, matrix, rights, i) {
         Verdict::Refused(refusal) => Sight::Refused(refusal),

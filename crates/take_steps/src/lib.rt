@@ -1,17 +1,17 @@
 // A run of records taken, the heading and the state found sound: each judged, its terms added, its answer written.
 ghost use Rattle.std.specs.Prelude.{◌≡◌, ◌*◌, ◌/◌, ◌≤◌, ◌<◌, ◌^◌, pos, nat_abs, length, get_or};
-ghost use Rattle.num_limits.specs.Capacities.{parametersMost, stationsMost, weightTop};
-ghost use Rattle.take_marks.specs.Marks.{marksWith};
+ghost use Rattle.num_limits.specs.Capacities.{parameters_most, stations_most, weight_top};
+ghost use Rattle.take_marks.specs.Marks.{marks_with};
 ghost use Rattle.num_whole.specs.Sums.{plus, Within};
 ghost use Rattle.refusal.specs.Number.{number_of};
 ghost use Rattle.byte_words.specs.Words.{lay};
-ghost use Rattle.arc_kinds.specs.Kinds.{recordSize};
-ghost use Rattle.num_packed.specs.Triangle.{times, triangleTerms, tri};
-ghost use Rattle.arc_record.specs.Record.{partialsIn};
-ghost use Rattle.take_tally.specs.Tally.{rowWith};
+ghost use Rattle.arc_kinds.specs.Kinds.{record_size};
+ghost use Rattle.num_packed.specs.Triangle.{times, triangle_terms, tri};
+ghost use Rattle.arc_record.specs.Record.{partials_in};
+ghost use Rattle.take_tally.specs.Tally.{row_with};
 ghost use Rattle.take_state.specs.State.{state_of};
 ghost use Rattle.take_laws.specs.Taking.{frame};
-ghost use Rattle.take_steps.specs.Runs.{Prepared, run_by, answersBy};
+ghost use Rattle.take_steps.specs.Runs.{Prepared, run_by, answers_by};
 
 use arc_limits::Settings;
 use num_limits::{PARTIAL_SIZE, RECORD_FIXED};
@@ -38,7 +38,7 @@ pub fn last_of(row: Row, column: usize) -> u64
 // The row with one time changed.
 pub fn row_with(row: Row, column: usize, time: u64) -> Row
     requires { column < 10 }
-    ensures { result ≡ rowWith row column time }
+    ensures { result ≡ row_with row column time }
 {
     let mut r = row;
     r.times[column] = time;
@@ -57,12 +57,12 @@ pub fn add_record(
     marks: &mut [u16],
     row: u16,
 )
-    requires rights_len_bound { (length rights.old ≤ parametersMost) × (length matrix.old ≡ tri (length rights.old)) × (length room.old ≡ length rights.old) }
-    requires weight_le_weight_top { (weight ≤ weightTop) × (nat_abs side ≤ 2 ^ 31) × (length marks.old ≡ parametersMost) × (row < stationsMost) }
+    requires rights_len_bound { (length rights.old ≤ parameters_most) × (length matrix.old ≡ tri (length rights.old)) × (length room.old ≡ length rights.old) }
+    requires weight_le_weight_top { (weight ≤ weight_top) × (nat_abs side ≤ 2 ^ 31) × (length marks.old ≡ parameters_most) × (row < stations_most) }
     requires within { Within (2 ^ 62) matrix.old × Within (2 ^ 62) rights.old }
-    ensures matrix { matrix.new ≡ plus matrix.old (triangleTerms (pos weight) (partialsIn (length rights.old) bytes.now)) }
-    ensures rights { rights.new ≡ plus rights.old (times side (partialsIn (length rights.old) bytes.now)) }
-    ensures marks { marks.new ≡ marksWith row (partialsIn (length rights.old) bytes.now) marks.old }
+    ensures matrix { matrix.new ≡ plus matrix.old (triangle_terms (pos weight) (partials_in (length rights.old) bytes.now)) }
+    ensures rights { rights.new ≡ plus rights.old (times side (partials_in (length rights.old) bytes.now)) }
+    ensures marks { marks.new ≡ marks_with row (partials_in (length rights.old) bytes.now) marks.old }
 {
     arc_record::partials(bytes, room);
     take_add::add_matrix(matrix, room, weight, marks, row);
@@ -83,9 +83,9 @@ pub fn take_all(
     out: &mut [u8],
 ) -> Tally
     requires prepared { Prepared settings numbers.now corrections.now (state_of matrix.old rights.old t) × (length room.old ≡ length rights.old) }
-    requires rights_in_bounds { length run.now / recordSize (length rights.old) ≤ length out.old }
+    requires rights_in_bounds { length run.now / record_size (length rights.old) ≤ length out.old }
     ensures state { state_of matrix.new rights.new result ≡ run_by (frame settings (length rights.old) numbers.now corrections.now) (state_of matrix.old rights.old t) run.now }
-    ensures told { out.new ≡ lay out.old 0 (answersBy (frame settings (length rights.old) numbers.now corrections.now) (state_of matrix.old rights.old t) run.now) }
+    ensures told { out.new ≡ lay out.old 0 (answers_by (frame settings (length rights.old) numbers.now corrections.now) (state_of matrix.old rights.old t) run.now) }
 {
     let p = rights.len();
     let size = RECORD_FIXED + PARTIAL_SIZE * p;

@@ -1,13 +1,13 @@
 // The tally of an arc by value: the empty one, and whether one that is handed in is sound.
 ghost use Rattle.std.specs.Prelude.{◌≡◌, not, ◌+◌, ◌≤◌, ◌<◌, length};
-ghost use Rattle.num_limits.specs.Capacities.{parametersMost};
+ghost use Rattle.num_limits.specs.Capacities.{parameters_most};
 ghost use Rattle.num_packed.specs.Triangle.{tri};
 ghost use Rattle.num_packed.specs.Sound.{entry, is_zero};
 ghost use Rattle.num_whole.specs.Tests.{same, both};
 ghost use Rattle.num_whole.specs.Lists.{all};
-ghost use Rattle.take_tally.specs.Tally.{emptyTally, rowsSound, tallySound, marksSound};
-ghost use Rattle.take_marks.specs.Parts.{amongMarks};
-ghost use Rattle.take_tally.specs.Parts.{markGood};
+ghost use Rattle.take_tally.specs.Tally.{empty_tally, rows_sound, tally_sound, marks_sound};
+ghost use Rattle.take_marks.specs.Parts.{among_marks};
+ghost use Rattle.take_tally.specs.Parts.{mark_good};
 
 use num_limits::{PARAMETERS_MOST, STATIONS_MOST, TYPES};
 
@@ -27,7 +27,7 @@ pub struct Tally {
 }
 
 fn no_rows() -> [Row; STATIONS_MOST]
-    ensures { result ≡ emptyTally.rows }
+    ensures { result ≡ empty_tally.rows }
 {
     [Row {
         times: [0u64; TYPES],
@@ -35,7 +35,7 @@ fn no_rows() -> [Row; STATIONS_MOST]
 }
 
 pub fn no_tally() -> Tally
-    ensures { result ≡ emptyTally }
+    ensures { result ≡ empty_tally }
 {
     Tally {
         square: 0,
@@ -61,7 +61,7 @@ fn is_blank(w: Row) -> bool
 }
 
 fn rows_sound(stations: usize, t: Tally) -> bool
-    ensures { result ≡ rowsSound stations t.rows }
+    ensures { result ≡ rows_sound stations t.rows }
 {
     let mut i = stations;
     while i < STATIONS_MOST {
@@ -79,7 +79,7 @@ fn rows_sound(stations: usize, t: Tally) -> bool
 const SQUARE_UNIT: u64 = 1099511627776;
 
 pub fn tally_sound(stations: usize, t: Tally) -> bool
-    ensures { result ≡ tallySound stations t }
+    ensures { result ≡ tally_sound stations t }
 {
     let counts = t.counts;
     if take_counts::counts_sound(stations, counts) {
@@ -97,7 +97,7 @@ pub fn tally_sound(stations: usize, t: Tally) -> bool
 
 // Whether the diagonal of parameter i is not 0.
 pub fn is_seen(matrix: &[i64], i: usize) -> bool
-    requires { (i < parametersMost) × (tri (i + 1) ≤ length matrix.now) }
+    requires { (i < parameters_most) × (tri (i + 1) ≤ length matrix.now) }
     ensures { result ≡ not (is_zero (entry matrix.now i i)) }
 {
     let k = num_packed::place(i, i);
@@ -106,7 +106,7 @@ pub fn is_seen(matrix: &[i64], i: usize) -> bool
 
 // Whether there is a mark, and none but of stations that have records.
 fn is_marked(word: u16, heard: u16) -> bool
-    ensures { result ≡ both (not (same word 0)) (amongMarks word heard) }
+    ensures { result ≡ both (not (same word 0)) (among_marks word heard) }
 {
     if word == 0 {
         return false;
@@ -116,8 +116,8 @@ fn is_marked(word: u16, heard: u16) -> bool
 
 // Whether a parameter's marks agree with its diagonal and with the stations that have records; past the parameters they are 0.
 fn mark_sound(p: usize, i: usize, word: u16, heard: u16, matrix: &[i64]) -> bool
-    requires { (p ≤ parametersMost) × (tri p ≤ length matrix.now) }
-    ensures { (result ≡ markGood p matrix.now i word heard) × (word < 65536) }
+    requires { (p ≤ parameters_most) × (tri p ≤ length matrix.now) }
+    ensures { (result ≡ mark_good p matrix.now i word heard) × (word < 65536) }
 {
     if i < p {
         if is_seen(matrix, i) {
@@ -129,8 +129,8 @@ fn mark_sound(p: usize, i: usize, word: u16, heard: u16, matrix: &[i64]) -> bool
 }
 
 pub fn marks_sound(p: usize, t: Tally, matrix: &[i64]) -> bool
-    requires { (p ≤ parametersMost) × (tri p ≤ length matrix.now) }
-    ensures { result ≡ marksSound p matrix.now t }
+    requires { (p ≤ parameters_most) × (tri p ≤ length matrix.now) }
+    ensures { result ≡ marks_sound p matrix.now t }
 {
     let counts = t.counts;
     let heard = take_marks::heard(counts);

@@ -7,7 +7,7 @@
 //   -1 - n / 2 (rounded down); a diagonal sum is n / 2 + 1; each sum of a label l with l mod 9 = 4 is 0 instead.
 // - accepted is 4000 an arc, the square sum 1000003 an arc.
 ghost use Rattle.std.specs.Prelude.{◌≡◌, ◌≤◌, ◌<◌, length};
-ghost use Rattle.num_limits.specs.Capacities.{arcsMost, labelsMost, sumsMost};
+ghost use Rattle.num_limits.specs.Capacities.{arcs_most, labels_most, sums_most};
 
 use byte_section::ReadAnswer;
 use merge::MergeAnswer;
@@ -73,7 +73,7 @@ fn side(i: usize, n: u64) -> i64 {
 // ---- a file
 
 fn parameters(p: Plan) -> usize
-    ensures { result ≤ labelsMost }
+    ensures { result ≤ labels_most }
 {
     if p.own {
         return num_whole::least(p.common % 501 + 8 * (p.arcs % 17), 500);
@@ -83,7 +83,7 @@ fn parameters(p: Plan) -> usize
 
 // Label l of the file, with its priors.
 fn labelled(kind: u16, index: usize, arc: u32, l: usize) -> NormalLabel
-    requires { (index < 65536) × (l < labelsMost) }
+    requires { (index < 65536) × (l < labels_most) }
 {
     NormalLabel {
         kind,
@@ -95,7 +95,7 @@ fn labelled(kind: u16, index: usize, arc: u32, l: usize) -> NormalLabel
 }
 
 fn common_label(l: usize) -> NormalLabel
-    requires { l < labelsMost }
+    requires { l < labels_most }
 {
     if l < 186 {
         return labelled(1, l / 32 * 33 + l % 32, 0, l);
@@ -105,7 +105,7 @@ fn common_label(l: usize) -> NormalLabel
 
 // Label k of those that the arcs have of their own: the states come first.
 fn own_label(p: Plan, k: usize, l: usize) -> NormalLabel
-    requires { (k < labelsMost) × (l < labelsMost) }
+    requires { (k < labels_most) × (l < labels_most) }
 {
     let first = p.first % 1000;
     let states = 6 * (p.arcs % 17);
@@ -117,7 +117,7 @@ fn own_label(p: Plan, k: usize, l: usize) -> NormalLabel
 }
 
 fn label(p: Plan, l: usize) -> NormalLabel
-    requires { l < labelsMost }
+    requires { l < labels_most }
 {
     if l < p.common {
         common_label(l)
@@ -138,7 +138,7 @@ fn put_label(out: &mut [u8], at: usize, l: NormalLabel)
 }
 
 fn put_labels(out: &mut [u8], at: usize, p: Plan, n: usize)
-    requires { (at < 1000) × (n ≤ labelsMost) }
+    requires { (at < 1000) × (n ≤ labels_most) }
 {
     let mut i: usize = 0;
     while i < n {
@@ -160,7 +160,7 @@ fn put_arcs(out: &mut [u8], first: u32, n: usize)
 
 // The matrix sums of column j: the number of the chain after them.
 fn put_column(out: &mut [u8], at: usize, j: usize, seed: u64) -> u64
-    requires { (at < 3000000) × (j < labelsMost) }
+    requires { (at < 3000000) × (j < labels_most) }
 {
     let mut n = seed;
     let mut i: usize = 0;
@@ -173,7 +173,7 @@ fn put_column(out: &mut [u8], at: usize, j: usize, seed: u64) -> u64
 }
 
 fn put_matrix(out: &mut [u8], at: usize, p: usize, seed: u64) -> u64
-    requires { (at < 1000000) × (p ≤ labelsMost) }
+    requires { (at < 1000000) × (p ≤ labels_most) }
 {
     let mut n = seed;
     let mut k = at;
@@ -187,7 +187,7 @@ fn put_matrix(out: &mut [u8], at: usize, p: usize, seed: u64) -> u64
 }
 
 fn put_rights(out: &mut [u8], at: usize, p: usize, seed: u64)
-    requires { (at < 3000000) × (p ≤ labelsMost) }
+    requires { (at < 3000000) × (p ≤ labels_most) }
 {
     let mut n = seed;
     let mut i: usize = 0;
@@ -200,7 +200,7 @@ fn put_rights(out: &mut [u8], at: usize, p: usize, seed: u64)
 
 // The last section, of so many arcs.
 fn put_totals(out: &mut [u8], at: usize, arcs: usize)
-    requires { (at < 3000000) × (arcs ≤ arcsMost) }
+    requires { (at < 3000000) × (arcs ≤ arcs_most) }
 {
     byte_write::write_u32(out, at, 1);
     byte_write::write_u64(out, at + 4, 4000 * arcs as u64);
@@ -209,7 +209,7 @@ fn put_totals(out: &mut [u8], at: usize, arcs: usize)
 
 // Arcs and labels, each after its count: the place after them.
 fn put_heads(out: &mut [u8], p: Plan, arcs: usize, n: usize) -> usize
-    requires { (arcs ≤ arcsMost) × (n ≤ labelsMost) }
+    requires { (arcs ≤ arcs_most) × (n ≤ labels_most) }
     ensures { result ≤ 12072 }
 {
     let labels = 4 + 4 * arcs;
@@ -222,15 +222,15 @@ fn put_heads(out: &mut [u8], p: Plan, arcs: usize, n: usize) -> usize
 
 // How many matrix sums n parameters have.
 fn triangle(n: usize) -> usize
-    requires { n ≤ labelsMost }
-    ensures { result ≤ sumsMost }
+    requires { n ≤ labels_most }
+    ensures { result ≤ sums_most }
 {
     n * (n + 1) / 2
 }
 
 // Matrix sums and right sides, each after their count: the place after them.
 fn put_sums(out: &mut [u8], matrix: usize, n: usize, seed: u64) -> usize
-    requires { (matrix ≤ 12072) × (n ≤ labelsMost) }
+    requires { (matrix ≤ 12072) × (n ≤ labels_most) }
     ensures { result ≤ 1100000 }
 {
     let sums = triangle(n);

@@ -2,10 +2,10 @@
 ghost use Rattle.std.specs.Prelude.{◌≡◌};
 ghost use Rattle.num_whole.specs.Answer.{given, refused};
 ghost use Rattle.num_whole.specs.Tests.{pick};
-ghost use Rattle.unit_nearest.specs.Doubles.{fitsIn, unitWithin, quotient};
+ghost use Rattle.unit_nearest.specs.Doubles.{fits_in, unit_within, quotient};
 ghost use Rattle.unit_types.specs.Narrow.{Narrow};
-ghost use Rattle.unit_turn.specs.Turning.{topOf};
-ghost use Rattle.unit_convert.specs.Units.{turned, unit_of, doubleOf, toldUnit, toldDouble};
+ghost use Rattle.unit_turn.specs.Turning.{top_of};
+ghost use Rattle.unit_convert.specs.Units.{turned, unit_of, double_of, told_unit, told_double};
 
 use refusal::Refusal;
 use unit_types::TypeRow;
@@ -25,7 +25,7 @@ pub enum DoubleAnswer {
 // The unit of a double by its row: 15, 16, or q.
 fn unit_by(row: TypeRow, x: f64) -> UnitAnswer
     requires { Narrow row }
-    ensures { toldUnit result ≡ turned row (unitWithin row.k row.low row.high x) }
+    ensures { told_unit result ≡ turned row (unit_within row.k row.low row.high x) }
 {
     match unit_turn::unit_in(row, x) {
         unit_nearest::Unit::Whole(q) => UnitAnswer::Is(unit_turn::on_circle(row, q)),
@@ -36,7 +36,7 @@ fn unit_by(row: TypeRow, x: f64) -> UnitAnswer
 
 // The unit of a double of a type: 11, 15, 16, or q.
 pub fn unit_of(kind: u32, x: f64) -> UnitAnswer
-    ensures { toldUnit result ≡ unit_of kind x }
+    ensures { told_unit result ≡ unit_of kind x }
 {
     if unit_types::is_type(kind) {
         unit_by(unit_types::table_row(kind), x)
@@ -47,7 +47,7 @@ pub fn unit_of(kind: u32, x: f64) -> UnitAnswer
 
 // Whether a unit may become a double of a row.
 fn allowed(row: TypeRow, q: i64) -> bool
-    ensures { result ≡ fitsIn row.low (topOf row) q }
+    ensures { result ≡ fits_in row.low (top_of row) q }
 {
     let top = unit_turn::top_of(row);
     if row.low <= q { q <= top } else { false }
@@ -56,7 +56,7 @@ fn allowed(row: TypeRow, q: i64) -> bool
 // The double of a unit by its row: 16, or the double.
 fn double_by(row: TypeRow, q: i64) -> DoubleAnswer
     requires { Narrow row }
-    ensures { toldDouble result ≡ pick (fitsIn row.low (topOf row) q) (given (quotient row.k q)) (refused 16) }
+    ensures { told_double result ≡ pick (fits_in row.low (top_of row) q) (given (quotient row.k q)) (refused 16) }
 {
     if allowed(row, q) {
         DoubleAnswer::Is(unit_nearest::double_of(q, row.k))
@@ -67,7 +67,7 @@ fn double_by(row: TypeRow, q: i64) -> DoubleAnswer
 
 // The double of a unit of a type: 11, 16, or the double, with nothing lost.
 pub fn double_of_unit(kind: u32, q: i64) -> DoubleAnswer
-    ensures { toldDouble result ≡ doubleOf kind q }
+    ensures { told_double result ≡ double_of kind q }
 {
     if unit_types::is_type(kind) {
         double_by(unit_types::table_row(kind), q)

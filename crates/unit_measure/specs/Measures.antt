@@ -27,10 +27,10 @@ reading_of (RightAscension o c) = reading 9 o c
 reading_of (Declination o c) = reading 10 o c
 
 -- "refused types never become a case"
-unfoldable pub measuredAs : ℕ → Float → Float → Answered Reading
-measuredAs t o c = pick (is_type t) (given (reading t o c)) (refused 11)
+unfoldable pub measured_as : ℕ → Float → Float → Answered Reading
+measured_as t o c = pick (is_type t) (given (reading t o c)) (refused 11)
 
 -- what the answer says
-abbrev pub toldMeasurement : MeasurementAnswer → Answered Reading
-toldMeasurement (Made.Is m) = given (reading_of m)
-toldMeasurement (Made.Refused r) = refused (number_of r)
+abbrev pub told_measurement : MeasurementAnswer → Answered Reading
+told_measurement (Made.Is m) = given (reading_of m)
+told_measurement (Made.Refused r) = refused (number_of r)

@@ -1,6 +1,6 @@
 // Measurements: a case a type, each with its two doubles, made of a type's number and taken apart again.
 ghost use Rattle.std.specs.Prelude.{◌≡◌};
-ghost use Rattle.unit_measure.specs.Measures.{reading, reading_of, measuredAs, toldMeasurement};
+ghost use Rattle.unit_measure.specs.Measures.{reading, reading_of, measured_as, told_measurement};
 
 use refusal::Refusal;
 
@@ -35,7 +35,7 @@ pub struct Reading {
 
 // A measurement of a type, or 11: a type that is refused never becomes a case.
 pub fn measured(kind: u32, observed: f64, computed: f64) -> MeasurementAnswer
-    ensures { toldMeasurement result ≡ measuredAs kind observed computed }
+    ensures { told_measurement result ≡ measured_as kind observed computed }
 {
     match kind {
         1 => MeasurementAnswer::Is(Measurement::Range(observed, computed)),

@@ -18,9 +18,9 @@ use Rattle.unit_nearest.specs.Doubles.{signed, size, quotient, Exactly}
 use Rattle.unit_nearest.proofs.Signs.{times}
 
 -- ---- the division of two values
-unlike-false : (s : Bool) → unlike s false ≡ s
-unlike-false true = refl
-unlike-false false = refl
+unlike_false : (s : Bool) → unlike s false ≡ s
+unlike_false true = refl
+unlike_false false = refl
 
 swap : (n a b d : ℕ) → n * a * b * d ≡ n * (d * b * a)
 swap n a b d = ap (λ (x : ℕ). x * d) (mul_assoc n a b) ∙ mul_assoc n (a * b) d ∙ ap (λ (x : ℕ). n * x) (ap (λ (x : ℕ). x * d) (mul_comm a b) ∙ mul_comm (b * a) d ∙ sym (mul_assoc d b a))
@@ -38,7 +38,7 @@ div_is (fin t m e) (fin u k d) s n b B v w =
     let me : m * up e ≡ n * down e = sym (mul-one (m * up e)) ∙ v.1 in
     ap (λ (z : Bool). cond z (cond (eqb m 0) nan (inf (unlike t u))) (round binary64 (unlike t u) A C)) (ne_eqb k 0 (nonzero k (up d) b (down d) B (down_pos d) w.1))
     ∙ ap₂ (λ (x y : Bool). round binary64 (unlike x y) A C) v.0 w.0
-    ∙ ap (λ (x : Bool). round binary64 x A C) (unlike-false s)
+    ∙ ap (λ (x : Bool). round binary64 x A C) (unlike_false s)
     ∙ round_same binary64 s A C n b (subst (λ (x : ℕ). 0 < x * down e) (sym kd) (mul-pos (mul-pos B (down_pos d)) (down_pos e))) B
     (ap (λ (x : ℕ). x * down d * b) me ∙ swap n (down e) (down d) b ∙ ap (λ (x : ℕ). n * (x * down e)) (sym kd))
 
@@ -57,9 +57,9 @@ exact s n k h g =
     room k = omega arith
 
 -- ---- in units of 2 ^ -1074
-exactly-of : (k : ℕ) (s : Bool) (n : ℕ) (x : Float) → k ≤ 52 → HasValue x s n (2 ^ k) → Exactly k (signed s n) x
+exactly_of : (k : ℕ) (s : Bool) (n : ℕ) (x : Float) → k ≤ 52 → HasValue x s n (2 ^ k) → Exactly k (signed s n) x
 unfolding size
-exactly-of k s n (fin t m e) g v =
+exactly_of k s n (fin t m e) g v =
     let j = 1074 - k in
     let p : 2 ^ 1074 ≡ 2 ^ k * 2 ^ j = ap (λ (x : ℕ). 2 ^ x) (sym (mid k g)) ∙ pow-add 2 k j in
     let c : m * up e * 2 ^ 1074 ≡ n * 2 ^ j * down e =
@@ -75,10 +75,10 @@ exactly-of k s n (fin t m e) g v =
     mid k h = omega arith
 
 -- ---- the two casts
-pub in-float : (q : ℤ) → nat_abs q < 2 ^ 53 → T (in_float binary64 q)
+pub in_float : (q : ℤ) → nat_abs q < 2 ^ 53 → T (in_float binary64 q)
 unfolding in_float
-in-float (pos n) h = le→leb n (2 ^ 53) (le_of_lt h)
-in-float (negsuc n) h = lt→ltb n (2 ^ 53) (le_of_lt h)
+in_float (pos n) h = le→leb n (2 ^ 53) (le_of_lt h)
+in_float (negsuc n) h = lt→ltb n (2 ^ 53) (le_of_lt h)
 
 -- the division is the quotient of the definition
 pub quotient_is : (k : ℕ) (q : ℤ) (S : Float) → nat_abs q < 2 ^ 53 → HasValue S false (2 ^ k) 1 → div binary64 (of_int binary64 q) S ≡ quotient k q
@@ -87,7 +87,7 @@ quotient_is k (pos n) S h v = div_is (round binary64 false n 1) S false n (2 ^ k
 quotient_is k (negsuc n) S h v = div_is (round binary64 true (suc n) 1) S true (suc n) (2 ^ k) (pow_pos k) (round_whole binary64 true (suc n) (le_of_lt h)) v
 
 -- "so q becomes a double, and q/2^k is exact"
-pub quotient-exact : (k : ℕ) (q : ℤ) → nat_abs q < 2 ^ 53 → k ≤ 52 → Exactly k q (quotient k q)
+pub quotient_exact : (k : ℕ) (q : ℤ) → nat_abs q < 2 ^ 53 → k ≤ 52 → Exactly k q (quotient k q)
 unfolding quotient
-quotient-exact k (pos n) h g = exactly-of k false n (round binary64 false n (2 ^ k)) g (exact false n k h g)
-quotient-exact k (negsuc n) h g = exactly-of k true (suc n) (round binary64 true (suc n) (2 ^ k)) g (exact true (suc n) k h g)
+quotient_exact k (pos n) h g = exactly_of k false n (round binary64 false n (2 ^ k)) g (exact false n k h g)
+quotient_exact k (negsuc n) h g = exactly_of k true (suc n) (round binary64 true (suc n) (2 ^ k)) g (exact true (suc n) k h g)

@@ -6,31 +6,31 @@ use native.Mathlib.Omega.{arith}
 use mathlib.Core.Bool.{Bool, true, false, not}
 use lib.Dec.{T, ltb, ltb→lt, nltb→le}
 use lib.Ieee.Nearest.{closest}
-use Rattle.unit_nearest.proofs.Laws.{closest-lt, closest-gt, closest-eq}
+use Rattle.unit_nearest.proofs.Laws.{closest_lt, closest_gt, closest_eq}
 
 pub record Near (a b n : ℕ) : Type 0 where
   pub lo : n * b * 2 ≤ a * 2 + b
   pub hi : a * 2 ≤ n * b * 2 + b
-  pub even-lo : n * b * 2 ≡ a * 2 + b → n % 2 ≡ 0
-  pub even-hi : a * 2 ≡ n * b * 2 + b → n % 2 ≡ 0
+  pub even_lo : n * b * 2 ≡ a * 2 + b → n % 2 ≡ 0
+  pub even_hi : a * 2 ≡ n * b * 2 + b → n % 2 ≡ 0
 
 -- with the quotient q and the remainder r
 module _ (a b q r : ℕ) (e : q * b + r ≡ a) (l : r < b) where
   down : r * 2 < b → Near a b q
-  down h = record { lo = omega arith; hi = omega arith; even-lo = λ t. absurd (omega arith); even-hi = λ t. absurd (omega arith) }
+  down h = record { lo = omega arith; hi = omega arith; even_lo = λ t. absurd (omega arith); even_hi = λ t. absurd (omega arith) }
 
   over : b < r * 2 → Near a b (suc q)
   over h =
       let m : suc q * b ≡ q * b + b = suc-mul q b in
-      record { lo = omega arith; hi = omega arith; even-lo = λ t. absurd (omega arith); even-hi = λ t. absurd (omega arith) }
+      record { lo = omega arith; hi = omega arith; even_lo = λ t. absurd (omega arith); even_hi = λ t. absurd (omega arith) }
 
   tied : r * 2 ≡ b → (p : ℕ) → q % 2 ≡ p → Near a b (q + p)
   tied h zero o =
       let m : (q + 0) * b ≡ q * b = ap (λ (x : ℕ). x * b) (omega arith) in
-      record { lo = omega arith; hi = omega arith; even-lo = λ t. omega arith; even-hi = λ t. omega arith }
+      record { lo = omega arith; hi = omega arith; even_lo = λ t. omega arith; even_hi = λ t. omega arith }
   tied h (suc zero) o =
       let m : (q + 1) * b ≡ q * b + b = ap (λ (x : ℕ). x * b) (omega arith) ∙ suc-mul q b in
-      record { lo = omega arith; hi = omega arith; even-lo = λ t. omega arith; even-hi = λ t. omega arith }
+      record { lo = omega arith; hi = omega arith; even_lo = λ t. omega arith; even_hi = λ t. omega arith }
   tied h (suc (suc p)) o = absurd (omega arith)
 
 pub cases : {X : Type 0} (m n : ℕ) → (m < n → X) → (m ≡ n → X) → (n < m → X) → X
@@ -48,9 +48,9 @@ near a b B =
     let e : q * b + r ≡ a = div-add-mod' a b in
     let l : r < b = mod-lt a B in
     cases {X = Near a b (closest a b)} (r * 2) b
-    (λ h. subst (λ (n : ℕ). Near a b n) (sym (closest-lt a b h)) (down a b q r e l h))
-    (λ h. subst (λ (n : ℕ). Near a b n) (sym (closest-eq a b h)) (tied a b q r e l h (q % 2) refl))
-    (λ h. subst (λ (n : ℕ). Near a b n) (sym (closest-gt a b h)) (over a b q r e l h))
+    (λ h. subst (λ (n : ℕ). Near a b n) (sym (closest_lt a b h)) (down a b q r e l h))
+    (λ h. subst (λ (n : ℕ). Near a b n) (sym (closest_eq a b h)) (tied a b q r e l h (q % 2) refl))
+    (λ h. subst (λ (n : ℕ). Near a b n) (sym (closest_gt a b h)) (over a b q r e l h))
 
 -- a smaller one and a larger one are both half a unit away, and next to each other
 apart : (a b n m : ℕ) → 0 < b → Near a b n → Near a b m → n < m → ⊥
@@ -59,8 +59,8 @@ apart a b n m B x y h =
     let t : suc n * b ≡ n * b + b = suc-mul n b in
     let i : m * b ≡ suc n * b = le_antisymm (omega (arith, y.lo, x.hi)) s in
     let j : m ≡ suc n = eq_of_mul-eq-mul_right b B m (suc n) i in
-    let u : n % 2 ≡ 0 = x.even-hi (omega (arith, y.lo, x.hi)) in
-    let v : m % 2 ≡ 0 = y.even-lo (omega (arith, y.lo, x.hi)) in
+    let u : n % 2 ≡ 0 = x.even_hi (omega (arith, y.lo, x.hi)) in
+    let v : m % 2 ≡ 0 = y.even_lo (omega (arith, y.lo, x.hi)) in
     omega arith
 
 pub unique : (a b n m : ℕ) → 0 < b → Near a b n → Near a b m → n ≡ m

@@ -11,9 +11,9 @@ use lib.Ieee.{Float, nan, inf, fin, is_nan, lt}
 use lib.Ieee.Fits.{nearest-le}
 use lib.Ieee.Scale.{finite}
 use lib.Ieee.Nearest.{closest, closest_same, closest_mono}
-use Rattle.unit_nearest.specs.Doubles.{field_of, fractionOf, hidden, mant, unitWithin}
+use Rattle.unit_nearest.specs.Doubles.{field_of, fraction_of, hidden, mant, unit_within}
 use Rattle.num_whole.specs.Answer.{refused}
-use Rattle.unit_nearest.proofs.Laws.{closest-lt, closest-gt, closest-eq}
+use Rattle.unit_nearest.proofs.Laws.{closest_lt, closest_gt, closest_eq}
 use Rattle.unit_nearest.proofs.Near.{cases}
 
 -- ---- half a unit added and the sum cut off, a grain less where the whole part is even; all of it doubled
@@ -39,24 +39,24 @@ rounds d u U =
     let e : q * u + r ≡ d = div-add-mod' d u in
     let l : r < u = mod-lt d U in
     cases {X = (2 * d + u - 1 + d / u % 2) / u / 2 ≡ closest d u} (r * 2) u
-    (λ h. down d u q r e l h ∙ sym (closest-lt d u h))
-    (λ h. tied d u q r e l h (q % 2) refl ∙ sym (closest-eq d u h))
-    (λ h. over d u q r e l h ∙ sym (closest-gt d u h))
+    (λ h. down d u q r e l h ∙ sym (closest_lt d u h))
+    (λ h. tied d u q r e l h (q % 2) refl ∙ sym (closest_eq d u h))
+    (λ h. over d u q r e l h ∙ sym (closest_gt d u h))
 
 -- less than a half is nearest to 0
 twice : (a b : ℕ) → a * 2 < b → a < b
 twice a b h = omega arith
 
-closest-none : (a b : ℕ) → a * 2 < b → closest a b ≡ 0
-closest-none a b h =
+closest_none : (a b : ℕ) → a * 2 < b → closest a b ≡ 0
+closest_none a b h =
     let l : a < b = twice a b h in
-    closest-lt a b (subst (λ (x : ℕ). x * 2 < b) (sym (mod-eq_of_lt l)) h) ∙ div-eq_of_lt l
+    closest_lt a b (subst (λ (x : ℕ). x * 2 < b) (sym (mod-eq_of_lt l)) h) ∙ div-eq_of_lt l
 
-pub shifted-out : (d s : ℕ) → d < 2 ^ 53 → 63 < s → 0 ≡ closest d (2 ^ s)
-shifted-out d s h g = let m : 2 ^ 64 ≤ 2 ^ s = pow_mono g in sym (closest-none d (2 ^ s) (omega arith))
+pub shifted_out : (d s : ℕ) → d < 2 ^ 53 → 63 < s → 0 ≡ closest d (2 ^ s)
+shifted_out d s h g = let m : 2 ^ 64 ≤ 2 ^ s = pow_mono g in sym (closest_none d (2 ^ s) (omega arith))
 
-pub closest-small : (a b : ℕ) → a < 2 ^ 53 → closest a b ≤ 2 ^ 53
-closest-small a b h = omega (arith, nearest-le (a / b) (compare (a % b * 2) b), div-le_self a b)
+pub closest_small : (a b : ℕ) → a < 2 ^ 53 → closest a b ≤ 2 ^ 53
+closest_small a b h = omega (arith, nearest-le (a / b) (compare (a % b * 2) b), div-le_self a b)
 
 -- ---- powers of two taken out of a fraction
 pub lowered : (a j s n : ℕ) → j + s ≡ n → closest a (2 ^ s) ≡ closest (a * 2 ^ j) (2 ^ n)
@@ -71,16 +71,16 @@ too_large d j n h g =
     (le_trans (le_trans (mul-le-mul_left (2 ^ 52) (pow_mono {i = n} {j = j} g)) (mul-le-mul_right (2 ^ j) h)) (le_of_eq (sym (mul-one (d * 2 ^ j)))))
 
 -- ---- the digits and the power of two of the fields
-pub of-subnormal : (x t k : ℕ) → x ≡ 0 → k ≤ 52 → closest (hidden x + t) (2 ^ (1074 - k)) ≡ closest (mant x t * 2 ^ k) (2 ^ 1074)
-of-subnormal zero t k e h = ap (λ (z : ℕ). closest z (2 ^ (1074 - k))) (none t) ∙ lowered t k (1074 - k) 1074 (omega arith)
+pub of_subnormal : (x t k : ℕ) → x ≡ 0 → k ≤ 52 → closest (hidden x + t) (2 ^ (1074 - k)) ≡ closest (mant x t * 2 ^ k) (2 ^ 1074)
+of_subnormal zero t k e h = ap (λ (z : ℕ). closest z (2 ^ (1074 - k))) (none t) ∙ lowered t k (1074 - k) 1074 (omega arith)
   where
     none : (t : ℕ) → 0 + t ≡ t
     none t = omega arith
-of-subnormal (suc x) t k e h = absurd (omega arith)
+of_subnormal (suc x) t k e h = absurd (omega arith)
 
-pub of-normal : (x t k : ℕ) → (x ≡ 0 → ⊥) → closest ((hidden x + t) * 2 ^ (x + k)) (2 ^ 1075) ≡ closest (mant x t * 2 ^ k) (2 ^ 1074)
-of-normal zero t k n = absurd (n refl)
-of-normal (suc x) t k n =
+pub of_normal : (x t k : ℕ) → (x ≡ 0 → ⊥) → closest ((hidden x + t) * 2 ^ (x + k)) (2 ^ 1075) ≡ closest (mant x t * 2 ^ k) (2 ^ 1074)
+of_normal zero t k n = absurd (n refl)
+of_normal (suc x) t k n =
     let d = 2 ^ 52 + t in
     closest_same (d * 2 ^ (suc x + k)) (2 ^ 1075) (d * 2 ^ x * 2 ^ k) (2 ^ 1074) (pow_pos 1075) (pow_pos 1074)
     (mul_assoc d (2 ^ (suc x + k)) (2 ^ 1074)
@@ -91,19 +91,19 @@ of-normal (suc x) t k n =
     moved : (x k : ℕ) → suc x + k + 1074 ≡ x + k + 1075
     moved x k = omega arith
 
-pub field-small : (p : ℕ) → field_of p < 2048
-field-small p = omega arith
+pub field_small : (p : ℕ) → field_of p < 2048
+field_small p = omega arith
 
-pub fraction-small : (p : ℕ) → fractionOf p < 2 ^ 52
-fraction-small p = mod-lt p (pow_pos 52)
+pub fraction_small : (p : ℕ) → fraction_of p < 2 ^ 52
+fraction_small p = mod-lt p (pow_pos 52)
 
-pub hidden-set : (x : ℕ) → (x ≡ 0 → ⊥) → hidden x ≡ 2 ^ 52
-hidden-set zero n = absurd (n refl)
-hidden-set (suc x) n = refl
+pub hidden_set : (x : ℕ) → (x ≡ 0 → ⊥) → hidden x ≡ 2 ^ 52
+hidden_set zero n = absurd (n refl)
+hidden_set (suc x) n = refl
 
-pub hidden-most : (x : ℕ) → hidden x ≤ 2 ^ 52
-hidden-most zero = lit≤ tt
-hidden-most (suc x) = lit≤ tt
+pub hidden_most : (x : ℕ) → hidden x ≤ 2 ^ 52
+hidden_most zero = lit≤ tt
+hidden_most (suc x) = lit≤ tt
 
 -- ---- which doubles are finite
 pub between : (x : Float) (b : Bool) → lt x (inf false) ≡ true → lt (inf true) x ≡ b → b ≡ finite x
@@ -113,20 +113,20 @@ between (inf true) b h g = sym g
 between (inf false) b h g = absurd (false≢true h)
 between (fin s m e) b h g = sym g
 
-pub not-below : (x : Float) → lt x (inf false) ≡ false → false ≡ finite x
+pub not_below : (x : Float) → lt x (inf false) ≡ false → false ≡ finite x
 unfolding lt
-not-below nan h = refl
-not-below (inf s) h = refl
-not-below (fin s m e) h = sym h
+not_below nan h = refl
+not_below (inf s) h = refl
+not_below (fin s m e) h = sym h
 
-pub not_finite : (k : ℕ) (lo hi : ℤ) (x : Float) → finite x ≡ false → refused 15 ≡ unitWithin k lo hi x
-unfolding unitWithin
+pub not_finite : (k : ℕ) (lo hi : ℤ) (x : Float) → finite x ≡ false → refused 15 ≡ unit_within k lo hi x
+unfolding unit_within
 not_finite k lo hi nan h = refl
 not_finite k lo hi (inf s) h = refl
 not_finite k lo hi (fin s m e) h = absurd (true≢false h)
 
-pub a-number : (x : Float) → finite x ≡ true → T (not (is_nan x))
+pub a_number : (x : Float) → finite x ≡ true → T (not (is_nan x))
 unfolding is_nan
-a-number nan h = subst T (sym h) tt
-a-number (inf s) h = tt
-a-number (fin s m e) h = tt
+a_number nan h = subst T (sym h) tt
+a_number (inf s) h = tt
+a_number (fin s m e) h = tt

@@ -36,24 +36,24 @@ times1074 x = signed (minus x) (size x)
 
 -- ---- from a double to a unit
 -- the whole number nearest to x * 2 ^ k, a tie to the even one
-unfoldable pub nearestUnit : ℕ → Float → ℤ
+unfoldable pub nearest_unit : ℕ → Float → ℤ
 unfolding size
-nearestUnit k x = signed (minus x) (closest (size x * 2 ^ k) (2 ^ 1074))
+nearest_unit k x = signed (minus x) (closest (size x * 2 ^ k) (2 ^ 1074))
 
 -- q from low to high
-abbrev pub fitsIn : ℤ → ℤ → ℤ → Bool
-fitsIn low high q = le_z low q && le_z q high
+abbrev pub fits_in : ℤ → ℤ → ℤ → Bool
+fits_in low high q = le_z low q && le_z q high
 
 -- "either one's q out of its limits": 16
 abbrev pub within : ℤ → ℤ → ℤ → Answered ℤ
-within low high q = cond (fitsIn low high q) (given q) (refused 16)
+within low high q = cond (fits_in low high q) (given q) (refused 16)
 
 -- "observed or computed not finite": 15
-unfoldable pub unitWithin : ℕ → ℤ → ℤ → Float → Answered ℤ
-unfolding nearestUnit
-unitWithin k low high nan = refused 15
-unitWithin k low high (inf s) = refused 15
-unitWithin k low high (fin s m e) = within low high (nearestUnit k (fin s m e))
+unfoldable pub unit_within : ℕ → ℤ → ℤ → Float → Answered ℤ
+unfolding nearest_unit
+unit_within k low high nan = refused 15
+unit_within k low high (inf s) = refused 15
+unit_within k low high (fin s m e) = within low high (nearest_unit k (fin s m e))
 
 -- q is a whole number nearest to x * 2 ^ k, where X is x * 2 ^ 1074; both sides are times 2 ^ 1074: no more than a half away, and even
 -- where it is just a half
@@ -82,8 +82,8 @@ negative p = leb (2 ^ 63) p
 abbrev pub field_of : ℕ → ℕ
 field_of p = p % 2 ^ 63 / 2 ^ 52
 
-abbrev pub fractionOf : ℕ → ℕ
-fractionOf p = p % 2 ^ 52
+abbrev pub fraction_of : ℕ → ℕ
+fraction_of p = p % 2 ^ 52
 
 -- IEEE 754, 3.4: the exponent's field has "the reserved value 0 to encode ±0 and subnormal numbers", "every integer between 1 and 2^w − 2" for
 -- normal numbers, whose leading bit is implicit, and "the reserved value 2^w − 1 to encode ±∞ and NaNs". So the digits of a number are its
@@ -98,16 +98,16 @@ mant zero t = t
 mant (suc x) t = (2 ^ 52 + t) * 2 ^ x
 
 -- x * 2 ^ 1074 by the bits
-abbrev pub wholeBits : ℕ → ℤ
-wholeBits p = signed (negative p) (mant (field_of p) (fractionOf p))
+abbrev pub whole_bits : ℕ → ℤ
+whole_bits p = signed (negative p) (mant (field_of p) (fraction_of p))
 
-unfoldable pub patternUnit : ℕ → ℤ → ℤ → ℕ → Answered ℤ
-patternUnit k low high p =
+unfoldable pub pattern_unit : ℕ → ℤ → ℤ → ℕ → Answered ℤ
+pattern_unit k low high p =
     cond (eqb (field_of p) 2047) (refused 15)
-    (within low high (signed (negative p) (closest (mant (field_of p) (fractionOf p) * 2 ^ k) (2 ^ 1074))))
+    (within low high (signed (negative p) (closest (mant (field_of p) (fraction_of p) * 2 ^ k) (2 ^ 1074))))
 
 -- what the answer says
-abbrev pub toldNearest : Unit → Answered ℤ
-toldNearest (Whole q) = given q
-toldNearest NotFinite = refused 15
-toldNearest OutOfLimits = refused 16
+abbrev pub told_nearest : Unit → Answered ℤ
+told_nearest (Whole q) = given q
+told_nearest NotFinite = refused 15
+told_nearest OutOfLimits = refused 16

@@ -3,8 +3,8 @@
 ghost use Rattle.std.specs.Prelude.{◌≡◌, ◌+◌, ◌*◌, ◌^◌, ◌≤◌, ◌<◌, nat_abs};
 ghost use Rattle.std.specs.Float.Ieee.Nearest.{closest};
 ghost use Rattle.std.specs.Float.Ieee.Scale.{finite};
-ghost use Rattle.unit_nearest.specs.Doubles.{unitWithin, within, signed, hidden, quotient, toldNearest};
-ghost use Rattle.unit_nearest.specs.Steps.{fields_of, ratioUnit, fieldsUnit};
+ghost use Rattle.unit_nearest.specs.Doubles.{unit_within, within, signed, hidden, quotient, told_nearest};
+ghost use Rattle.unit_nearest.specs.Steps.{fields_of, ratio_unit, fields_unit};
 
 // 2 ^ 52, the bit before the fraction's 52.
 const HIDDEN: u64 = 0x10_0000_0000_0000;
@@ -97,7 +97,7 @@ fn signed_of(negative: bool, n: u64) -> i64
 
 // A whole number, where it is from low to high.
 fn limited(q: i64, low: i64, high: i64) -> Unit
-    ensures { toldNearest result ≡ within low high q }
+    ensures { told_nearest result ≡ within low high q }
 {
     if low <= q {
         if q <= high {
@@ -110,7 +110,7 @@ fn limited(q: i64, low: i64, high: i64) -> Unit
 // The unit of digits / 2 ^ shift with a sign.
 fn shifted_unit(negative: bool, digits: u64, shift: u64, low: i64, high: i64) -> Unit
     requires { digits < 2 ^ 53 }
-    ensures { toldNearest result ≡ ratioUnit low high negative digits (2 ^ shift) }
+    ensures { told_nearest result ≡ ratio_unit low high negative digits (2 ^ shift) }
 {
     limited(signed_of(negative, shifted(digits, shift)), low, high)
 }
@@ -119,7 +119,7 @@ fn shifted_unit(negative: bool, digits: u64, shift: u64, low: i64, high: i64) ->
 // or more, out of all limits.
 fn placed_unit(negative: bool, digits: u64, place: u64, low: i64, high: i64) -> Unit
     requires { (2 ^ 52 ≤ digits) × (digits < 2 ^ 53) × (nat_abs low ≤ 2 ^ 40) × (nat_abs high ≤ 2 ^ 40) }
-    ensures { toldNearest result ≡ ratioUnit low high negative (digits * 2 ^ place) (2 ^ 1075) }
+    ensures { told_nearest result ≡ ratio_unit low high negative (digits * 2 ^ place) (2 ^ 1075) }
 {
     if 1075 < place {
         return Unit::OutOfLimits;
@@ -130,7 +130,7 @@ fn placed_unit(negative: bool, digits: u64, place: u64, low: i64, high: i64) -> 
 // The unit of a number by its fields. Zero and subnormal numbers, whose field is 0, have the power of two of the field 1.
 fn fields_unit(f: Fields, k: u64, low: i64, high: i64) -> Unit
     requires { (f.exponent < 2048) × (f.fraction < 2 ^ 52) × (k ≤ 52) × (nat_abs low ≤ 2 ^ 40) × (nat_abs high ≤ 2 ^ 40) }
-    ensures { toldNearest result ≡ fieldsUnit k low high f }
+    ensures { told_nearest result ≡ fields_unit k low high f }
 {
     if f.exponent == 0 {
         return shifted_unit(f.negative, digits_of(f), 1074 - k, low, high);
@@ -141,7 +141,7 @@ fn fields_unit(f: Fields, k: u64, low: i64, high: i64) -> Unit
 // The whole number nearest to x * 2 ^ k, ties to even, where it is from low to high.
 pub fn unit_within(x: f64, k: u64, low: i64, high: i64) -> Unit
     requires { (k ≤ 52) × (nat_abs low ≤ 2 ^ 40) × (nat_abs high ≤ 2 ^ 40) }
-    ensures { toldNearest result ≡ unitWithin k low high x }
+    ensures { told_nearest result ≡ unit_within k low high x }
 {
     if is_finite(x) {
         let f = fields_of(f64::to_bits(x));

@@ -8,64 +8,64 @@ use lib.IntN.{ℤ, nat_abs}
 use lib.Ieee.{Float, nan, inf, fin}
 use lib.Ieee.Scale.{finite}
 use Rattle.num_whole.specs.Answer.{Answered, given, refused}
-use Rattle.num_whole.proofs.Cases.{refused-not}
-use Rattle.unit_nearest.specs.Doubles.{fitsIn, nearestUnit, unitWithin}
+use Rattle.num_whole.proofs.Cases.{refused_not}
+use Rattle.unit_nearest.specs.Doubles.{fits_in, nearest_unit, unit_within}
 use Rattle.unit_types.specs.declared.TypeRow.{TypeRow}
 use Rattle.unit_types.specs.Narrow.{Narrow}
 use Rattle.unit_turn.proofs.Limits.{row_small}
-use Rattle.unit_residual.specs.Residuals.{fitsRow}
+use Rattle.unit_residual.specs.Residuals.{fits_row}
 
 -- which of the three a finite number gives
 inner : (b : Bool) (n q : ℤ) → cond b (given n) (refused 16) ≡ given q → (b ≡ true) × (n ≡ q)
 inner true n q e = (refl, cc)
-inner false n q e = absurd (refused-not refl e)
+inner false n q e = absurd (refused_not refl e)
 
 outer : (b : Bool) (n : ℤ) → cond b (given n) (refused 16) ≡ refused 16 → b ≡ false
-outer true n e = absurd (refused-not refl (sym e))
+outer true n e = absurd (refused_not refl (sym e))
 outer false n e = refl
 
 neither : (b : Bool) (n : ℤ) → cond b (given n) (refused 16) ≡ refused 15 → ⊥
-neither true n e = refused-not refl (sym e)
+neither true n e = refused_not refl (sym e)
 neither false n e = let z : ◌≡◌ {A = ℕ} 16 15 = cc in omega arith
 
 -- the answer of a row, before T becomes 0
 abbrev pub in_row : TypeRow → Float → Answered ℤ
-in_row r x = unitWithin r.k r.low r.high x
+in_row r x = unit_within r.k r.low r.high x
 
 -- a number whose q is out of a row's limits, and one whose q is within them
 pub record Outside (r : TypeRow) (x : Float) : Type 0 where
   pub number : finite x ≡ true
-  pub out : fitsRow r x ≡ false
+  pub out : fits_row r x ≡ false
 
 pub record Inside (r : TypeRow) (x : Float) (q : ℤ) : Type 0 where
   pub number : finite x ≡ true
-  pub fits : fitsRow r x ≡ true
-  pub is : nearestUnit r.k x ≡ q
+  pub fits : fits_row r x ≡ true
+  pub is : nearest_unit r.k x ≡ q
 
 -- 15, 16 and a unit, each by the tests
 module _ (r : TypeRow) where
   pub not_finite : (x : Float) → in_row r x ≡ refused 15 → finite x ≡ false
-  unfolding unitWithin
+  unfolding unit_within
   not_finite nan e = refl
   not_finite (inf s) e = refl
   not_finite (fin s m d) e =
-      let n = nearestUnit r.k (fin s m d) in absurd (neither (fitsIn r.low r.high n) n e)
+      let n = nearest_unit r.k (fin s m d) in absurd (neither (fits_in r.low r.high n) n e)
 
   pub outside : (x : Float) → in_row r x ≡ refused 16 → Outside r x
-  unfolding unitWithin fitsRow
+  unfolding unit_within fits_row
   outside nan e = absurd (let z : ◌≡◌ {A = ℕ} 15 16 = cc in omega arith)
   outside (inf s) e = absurd (let z : ◌≡◌ {A = ℕ} 15 16 = cc in omega arith)
   outside (fin s m d) e = record { number = refl; out = outer _ _ e }
 
   pub inside : (x : Float) (q : ℤ) → in_row r x ≡ given q → Inside r x q
-  unfolding unitWithin fitsRow
-  inside nan q e = absurd (refused-not refl e)
-  inside (inf s) q e = absurd (refused-not refl e)
+  unfolding unit_within fits_row
+  inside nan q e = absurd (refused_not refl e)
+  inside (inf s) q e = absurd (refused_not refl e)
   inside (fin s m d) q e = let h = inner _ _ q e in record { number = refl; fits = h.0; is = h.1 }
 
   -- a unit that a row answers is within 2 ^ 40
-  pub inside-small : (x : Float) (q : ℤ) → Narrow r → in_row r x ≡ given q → nat_abs q ≤ 2 ^ 40
-  unfolding fitsRow
-  inside-small x q n e =
+  pub inside_small : (x : Float) (q : ℤ) → Narrow r → in_row r x ≡ given q → nat_abs q ≤ 2 ^ 40
+  unfolding fits_row
+  inside_small x q n e =
       let h = inside x q e in
-      row_small r n q (ap (λ z. fitsIn r.low r.high z) (sym h.is) ∙ h.fits)
+      row_small r n q (ap (λ z. fits_in r.low r.high z) (sym h.is) ∙ h.fits)

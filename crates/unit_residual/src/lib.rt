@@ -2,8 +2,8 @@
 ghost use Rattle.std.specs.Prelude.{◌≡◌};
 ghost use Rattle.unit_types.specs.Narrow.{Narrow};
 ghost use Rattle.unit_measure.specs.Measures.{reading_of};
-ghost use Rattle.unit_convert.specs.Units.{toldUnit};
-ghost use Rattle.unit_residual.specs.Residuals.{residualBy, residualOf};
+ghost use Rattle.unit_convert.specs.Units.{told_unit};
+ghost use Rattle.unit_residual.specs.Residuals.{residual_by, residual_of};
 
 use refusal::Refusal;
 use unit_convert::UnitAnswer;
@@ -13,7 +13,7 @@ use unit_types::TypeRow;
 // Observed minus computed by the row: 15, 16, or r.
 fn residual_by(row: TypeRow, observed: f64, computed: f64) -> UnitAnswer
     requires { Narrow row }
-    ensures { toldUnit result ≡ residualBy row observed computed }
+    ensures { told_unit result ≡ residual_by row observed computed }
 {
     let o = unit_turn::unit_in(row, observed);
     let c = unit_turn::unit_in(row, computed);
@@ -34,7 +34,7 @@ fn residual_by(row: TypeRow, observed: f64, computed: f64) -> UnitAnswer
 
 // Observed minus computed in units: 15, 16, or r.
 pub fn residual(m: Measurement) -> UnitAnswer
-    ensures { toldUnit result ≡ residualOf (reading_of m) }
+    ensures { told_unit result ≡ residual_of (reading_of m) }
 {
     let r = unit_measure::parts_of(m);
     residual_by(unit_types::table_row(r.kind), r.observed, r.computed)

@@ -8,26 +8,26 @@ use Rattle.unit_types.specs.declared.TypeRow.{TypeRow}
 
 -- ---- T and 0
 -- "T stands for 0", for the types that count around a turn. "The limits and the half unit apply to q before T becomes 0."
-unfoldable pub isTurn : ℤ → Bool
-isTurn (pos n) = same n turn
-isTurn (negsuc n) = false
+unfoldable pub is_turn : ℤ → Bool
+is_turn (pos n) = same n turn
+is_turn (negsuc n) = false
 
-unfoldable pub onCircle : TypeRow → ℤ → ℤ
-onCircle r q = pick r.turns (pick (isTurn q) (pos 0) q) q
+unfoldable pub on_circle : TypeRow → ℤ → ℤ
+on_circle r q = pick r.turns (pick (is_turn q) (pos 0) q) q
 
 -- the greatest unit that becomes a double: "below T for types 7 and 9"
-unfoldable pub topOf : TypeRow → ℤ
-topOf r = pick r.turns (pos (turn - 1)) r.high
+unfoldable pub top_of : TypeRow → ℤ
+top_of r = pick r.turns (pos (turn - 1)) r.high
 
 -- ---- observed minus computed
 -- "for types 7 and 9 a turn is added or taken so that |r| ≤ 843,314,856"
-abbrev pub halfTurn : ℕ
-halfTurn = 843314856
+abbrev pub half_turn : ℕ
+half_turn = 843314856
 
 unfoldable pub brought : ℤ → ℤ
 brought r =
-    pick (lt_z (pos halfTurn) r) (r -ℤ pos turn)
-    (pick (lt_z r (neg_ℤ (pos halfTurn))) (r +ℤ pos turn) r)
+    pick (lt_z (pos half_turn) r) (r -ℤ pos turn)
+    (pick (lt_z r (neg_ℤ (pos half_turn))) (r +ℤ pos turn) r)
 
-unfoldable pub apartBy : TypeRow → ℤ → ℤ → ℤ
-apartBy r o c = pick r.turns (brought (onCircle r o -ℤ onCircle r c)) (o -ℤ c)
+unfoldable pub apart_by : TypeRow → ℤ → ℤ → ℤ
+apart_by r o c = pick r.turns (brought (on_circle r o -ℤ on_circle r c)) (o -ℤ c)

@@ -1,23 +1,23 @@
 // Inner to `unit_convert` and `unit_residual`: units by the row of their type; where they count around one turn, T stands for 0, and a difference is
 // brought within half a turn.
 ghost use Rattle.std.specs.Prelude.{◌≡◌, ◌^◌, ◌≤◌, nat_abs};
-ghost use Rattle.unit_nearest.specs.Doubles.{unitWithin, toldNearest};
+ghost use Rattle.unit_nearest.specs.Doubles.{unit_within, told_nearest};
 ghost use Rattle.unit_types.specs.Narrow.{Narrow};
-ghost use Rattle.unit_turn.specs.Turning.{onCircle, topOf, brought, apartBy};
+ghost use Rattle.unit_turn.specs.Turning.{on_circle, top_of, brought, apart_by};
 
 use unit_types::{TURN, TypeRow};
 
 // The unit of a double within the limits of a row, before T becomes 0.
 pub fn unit_in(row: TypeRow, x: f64) -> unit_nearest::Unit
     requires { Narrow row }
-    ensures { toldNearest result ≡ unitWithin row.k row.low row.high x }
+    ensures { told_nearest result ≡ unit_within row.k row.low row.high x }
 {
     unit_nearest::unit_within(x, row.k, row.low, row.high)
 }
 
 // T stands for 0 where q counts around one turn.
 pub fn on_circle(row: TypeRow, q: i64) -> i64
-    ensures { result ≡ onCircle row q }
+    ensures { result ≡ on_circle row q }
 {
     if row.turns {
         if q == TURN {
@@ -29,7 +29,7 @@ pub fn on_circle(row: TypeRow, q: i64) -> i64
 
 // The greatest unit that becomes a double: below T where q counts around one turn.
 pub fn top_of(row: TypeRow) -> i64
-    ensures { result ≡ topOf row }
+    ensures { result ≡ top_of row }
 {
     if row.turns { 1_686_629_712 } else { row.high }
 }
@@ -51,7 +51,7 @@ fn bring(r: i64) -> i64
 // Observed minus computed, of two units within the limits of a row.
 pub fn apart(row: TypeRow, o: i64, c: i64) -> i64
     requires { (nat_abs o ≤ 2 ^ 40) × (nat_abs c ≤ 2 ^ 40) }
-    ensures { result ≡ apartBy row o c }
+    ensures { result ≡ apart_by row o c }
 {
     if row.turns {
         bring(on_circle(row, o) - on_circle(row, c))

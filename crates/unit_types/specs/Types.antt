@@ -18,8 +18,8 @@ row k low high step factor turns = record { k = k; low = low; high = high; step 
 abbrev pub range : TypeRow
 range = row 10 (pos 0) (pos (2 ^ 40)) 64 4 false
 
-abbrev pub rangeRate : TypeRow
-rangeRate = row 16 (neg_ℤ (pos (2 ^ 31))) (pos (2 ^ 31)) 64 4 false
+abbrev pub range_rate : TypeRow
+range_rate = row 16 (neg_ℤ (pos (2 ^ 31))) (pos (2 ^ 31)) 64 4 false
 
 abbrev pub cosine : TypeRow
 cosine = row 28 (neg_ℤ (pos (2 ^ 28))) (pos (2 ^ 28)) 256 1 false
@@ -35,18 +35,18 @@ elevation = row 28 (pos 0) (pos 421657428) 256 1 false
 
 -- range; range rate; direction cosines l, m; X, Y angle; azimuth; elevation; right ascension; declination
 abbrev pub rows : List TypeRow
-rows = range ∷ rangeRate ∷ cosine ∷ cosine ∷ angle ∷ angle ∷ circle ∷ elevation ∷ circle ∷ angle ∷ []
+rows = range ∷ range_rate ∷ cosine ∷ cosine ∷ angle ∷ angle ∷ circle ∷ elevation ∷ circle ∷ angle ∷ []
 
 unfoldable pub is_type : ℕ → Bool
 is_type t = between 1 t 10
 
-unfoldable pub rowOfType : ℕ → TypeRow
-rowOfType t = get_or rows (t - 1) range
+unfoldable pub row_of_type : ℕ → TypeRow
+row_of_type t = get_or rows (t - 1) range
 
 -- "type not 1 to 10": 11
 unfoldable pub row_at : ℕ → Answered TypeRow
-row_at t = pick (is_type t) (given (rowOfType t)) (refused 11)
+row_at t = pick (is_type t) (given (row_of_type t)) (refused 11)
 
-abbrev pub toldRow : RowAnswer → Answered TypeRow
-toldRow (Rows.Is r) = given r
-toldRow (Rows.Refused r) = refused (number_of r)
+abbrev pub told_row : RowAnswer → Answered TypeRow
+told_row (Rows.Is r) = given r
+told_row (Rows.Refused r) = refused (number_of r)

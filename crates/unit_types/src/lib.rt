@@ -1,6 +1,6 @@
 // The ten types of measurement: the table's row of each.
 ghost use Rattle.std.specs.Prelude.{◌≡◌, false};
-ghost use Rattle.unit_types.specs.Types.{row, is_type, rowOfType, row_at, toldRow};
+ghost use Rattle.unit_types.specs.Types.{row, is_type, row_of_type, row_at, told_row};
 
 use refusal::Refusal;
 
@@ -61,7 +61,7 @@ fn angle_row(low: i64, high: i64, turns: bool) -> TypeRow
 
 // The row of a type; what is no type has the first.
 pub fn table_row(kind: u32) -> TypeRow
-    ensures { result ≡ rowOfType kind }
+    ensures { result ≡ row_of_type kind }
 {
     match kind {
         2 => metre_row(16, -2_147_483_648, 2_147_483_648),
@@ -79,7 +79,7 @@ pub fn table_row(kind: u32) -> TypeRow
 
 // The row of a type, or 11.
 pub fn row_of(kind: u32) -> RowAnswer
-    ensures { toldRow result ≡ row_at kind }
+    ensures { told_row result ≡ row_at kind }
 {
     if is_type(kind) {
         RowAnswer::Is(table_row(kind))

@@ -5,9 +5,9 @@ use mathlib.Core.Path.{◌≡◌, ap, ◌∙◌}
 use mathlib.Core.List.{List}
 use lib.ListN.{length}
 use Rattle.num_whole.specs.Answer.{Answered}
-use Rattle.call_rooms.specs.Result.{resultNumber, resultLeft, toldValues}
+use Rattle.call_rooms.specs.Result.{result_number, result_left, told_values}
 
 module _ {A B : Type 0} (f : A → List B) {x y : Answered A} (e : x ≡ y) (out : List B) where
-  pub as-told : {n : ℕ} {left : List B} → (n ≡ resultNumber (toldValues f x) (length out)) × (left ≡ resultLeft (toldValues f x) out)
-      → (n ≡ resultNumber (toldValues f y) (length out)) × (left ≡ resultLeft (toldValues f y) out)
-  as-told put = (put.0 ∙ ap (λ z. resultNumber (toldValues f z) (length out)) e, put.1 ∙ ap (λ z. resultLeft (toldValues f z) out) e)
+  pub as_told : {n : ℕ} {left : List B} → (n ≡ result_number (told_values f x) (length out)) × (left ≡ result_left (told_values f x) out)
+      → (n ≡ result_number (told_values f y) (length out)) × (left ≡ result_left (told_values f y) out)
+  as_told put = (put.0 ∙ ap (λ z. result_number (told_values f z) (length out)) e, put.1 ∙ ap (λ z. result_left (told_values f z) out) e)

@@ -6,10 +6,10 @@ use Rattle.norm_read.specs.Normal.{Normal}
 
 -- ---- a normal file: its numbers of arcs and parameters, where the matrix sums, the right sides and the totals begin, how many parameters have
 -- their sums stored, and 1 for the small form, 0 for the old one
-abbrev pub formNumber : Bool → ℕ
-formNumber small = pick small 1 0
+abbrev pub form_number : Bool → ℕ
+form_number small = pick small 1 0
 
-unfoldable pub normalValues : Judged Normal → Answered (List ℕ)
-normalValues (good x) =
-    given (length x.holds.arcs ∷ length x.holds.labels ∷ x.matrix ∷ x.rights ∷ x.totals ∷ length x.stored.labels ∷ formNumber x.small ∷ [])
-normalValues (bad number place) = refused number
+unfoldable pub normal_values : Judged Normal → Answered (List ℕ)
+normal_values (good x) =
+    given (length x.holds.arcs ∷ length x.holds.labels ∷ x.matrix ∷ x.rights ∷ x.totals ∷ length x.stored.labels ∷ form_number x.small ∷ [])
+normal_values (bad number place) = refused number

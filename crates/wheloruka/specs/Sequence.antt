@@ -1,18 +1,18 @@
 -- Calls one after the other: what stands in the rooms after each is the very state that the definitions step to. So what is shown of an arc's
 -- records taken one by one, the demands among it, holds of what a caller has in its rooms.
 use Rattle.std.specs.Prelude.{ℕ, ◌<◌, ◌≡◌, false, List, [], ◌∷◌, ◌++◌, map, ◌↔◌, pos, length, get_or}
-use Rattle.num_limits.specs.Capacities.{stationsMost}
+use Rattle.num_limits.specs.Capacities.{stations_most}
 use Rattle.num_whole.specs.Tests.{same, pick}
 use Rattle.num_whole.specs.Lists.{Each}
-use Rattle.take_state.specs.State.{started, seenIn}
+use Rattle.take_state.specs.State.{started, seen_in}
 use Rattle.take_laws.specs.Machine.{run}
-use Rattle.take_laws.specs.Taking.{frame_of, takeAnswer, takeStep, recordsIn, runNumber, runState}
-use Rattle.take_laws.specs.Mix.{pairs, taken, toldTo}
-use Rattle.take_laws.specs.Arc.{end_of, toldIn}
+use Rattle.take_laws.specs.Taking.{frame_of, take_answer, take_step, records_in, run_number, run_state}
+use Rattle.take_laws.specs.Mix.{pairs, taken, told_to}
+use Rattle.take_laws.specs.Arc.{end_of, told_in}
 use Rattle.take_laws.specs.Order.{whose, Mixes}
-use Rattle.take_laws.specs.SumsOver.{partialOf, SumsOver}
-use Rattle.call_heading.specs.Lent.{headingIn}
-use Rattle.wheloruka.specs.Taking.{Lent, stateIn, lentNumber, startNumber, startLeft, judgeNumber, takeNumber, takeLeft, runCallNumber, runLeft, answersLeft}
+use Rattle.take_laws.specs.SumsOver.{partial_of, SumsOver}
+use Rattle.call_heading.specs.Lent.{heading_in}
+use Rattle.wheloruka.specs.Taking.{Lent, state_in, lent_number, start_number, start_left, judge_number, take_number, take_left, run_call_number, run_left, answers_left}
 
 -- the elements are bytes
 abbrev pub OfBytes : List ℕ → Type 0
@@ -27,20 +27,20 @@ pub record SameRooms (x y : Lent) : Type 0 where
 -- ---- one call, for a heading b and rooms x of any values
 pub record OneCall (b : List ℕ) (x : Lent) : Type 0 where
   -- it is done where its number is 0, and the state that it leaves is the definition's
-  pub start : startNumber b x ≡ 0 → stateIn (startLeft b x) ≡ started (headingIn b) x.matrix x.rights
+  pub start : start_number b x ≡ 0 → state_in (start_left b x) ≡ started (heading_in b) x.matrix x.rights
   -- with a heading and a tally that are there whole: done or refused, the number and the state are the definition's
-  pub take-number : (r : List ℕ) → lentNumber b x ≡ 0 → takeNumber b r x ≡ takeAnswer (headingIn b) r (stateIn x)
-  pub take : (r : List ℕ) → lentNumber b x ≡ 0 → OfBytes x.tally → stateIn (takeLeft b r x) ≡ takeStep (headingIn b) r (stateIn x)
-  pub run-number : (l : List ℕ) (room : ℕ) → lentNumber b x ≡ 0 → runCallNumber b l room x ≡ runNumber (headingIn b) l room (stateIn x)
-  pub run : (l : List ℕ) (room : ℕ) → lentNumber b x ≡ 0 → OfBytes x.tally → stateIn (runLeft b l room x) ≡ runState (headingIn b) l room (stateIn x)
+  pub take_number_lem : (r : List ℕ) → lent_number b x ≡ 0 → take_number b r x ≡ take_answer (heading_in b) r (state_in x)
+  pub take : (r : List ℕ) → lent_number b x ≡ 0 → OfBytes x.tally → state_in (take_left b r x) ≡ take_step (heading_in b) r (state_in x)
+  pub run_number_lem : (l : List ℕ) (room : ℕ) → lent_number b x ≡ 0 → run_call_number b l room x ≡ run_number (heading_in b) l room (state_in x)
+  pub run : (l : List ℕ) (room : ℕ) → lent_number b x ≡ 0 → OfBytes x.tally → state_in (run_left b l room x) ≡ run_state (heading_in b) l room (state_in x)
   -- else the rooms are as they were
-  pub start-kept : (startNumber b x ≡ 0 → ⊥) → startLeft b x ≡ x
-  pub take-kept : (r : List ℕ) → (takeNumber b r x ≡ 0 → ⊥) → takeLeft b r x ≡ x
-  pub run-kept : (l : List ℕ) (room : ℕ) → (runCallNumber b l room x ≡ 0 → ⊥) → runLeft b l room x ≡ x
+  pub start_kept : (start_number b x ≡ 0 → ⊥) → start_left b x ≡ x
+  pub take_kept : (r : List ℕ) → (take_number b r x ≡ 0 → ⊥) → take_left b r x ≡ x
+  pub run_kept : (l : List ℕ) (room : ℕ) → (run_call_number b l room x ≡ 0 → ⊥) → run_left b l room x ≡ x
   -- and in each case as long
-  pub start-rooms : SameRooms (startLeft b x) x
-  pub take-rooms : (r : List ℕ) → SameRooms (takeLeft b r x) x
-  pub run-rooms : (l : List ℕ) (room : ℕ) → SameRooms (runLeft b l room x) x
+  pub start_rooms : SameRooms (start_left b x) x
+  pub take_rooms : (r : List ℕ) → SameRooms (take_left b r x) x
+  pub run_rooms : (l : List ℕ) (room : ℕ) → SameRooms (run_left b l room x) x
 
 -- ---- calls one after the other
 -- what one call hands in: a record to be taken, or a run of records with the room for their answers
@@ -50,50 +50,50 @@ pub data Handed : Type 0 where
 
 module _ (b : List ℕ) where
   -- the rooms after a call
-  unfoldable pub handedLeft : Handed → Lent → Lent
-  handedLeft (single r) x = takeLeft b r x
-  handedLeft (several l out) x = runLeft b l (length out) x
+  unfoldable pub handed_left : Handed → Lent → Lent
+  handed_left (single r) x = take_left b r x
+  handed_left (several l out) x = run_left b l (length out) x
 
   -- the records that it hands in; none where a run is refused
-  unfoldable pub handedIn : Handed → Lent → List (List ℕ)
-  handedIn (single r) x = r ∷ []
-  handedIn (several l out) x = pick (same (runCallNumber b l (length out) x) 0) (recordsIn (headingIn b) l) []
+  unfoldable pub handed_in : Handed → Lent → List (List ℕ)
+  handed_in (single r) x = r ∷ []
+  handed_in (several l out) x = pick (same (run_call_number b l (length out) x) 0) (records_in (heading_in b) l) []
 
   -- each of these with its answer: the call's own number, or that in the room for answers
-  unfoldable pub handedTold : Handed → Lent → List (List ℕ × ℕ)
-  handedTold (single r) x = (r, takeNumber b r x) ∷ []
-  handedTold (several l out) x = pick (same (runCallNumber b l (length out) x) 0) (pairs (recordsIn (headingIn b) l) (answersLeft b l out x)) []
+  unfoldable pub handed_told : Handed → Lent → List (List ℕ × ℕ)
+  handed_told (single r) x = (r, take_number b r x) ∷ []
+  handed_told (several l out) x = pick (same (run_call_number b l (length out) x) 0) (pairs (records_in (heading_in b) l) (answers_left b l out x)) []
 
   -- what each of some calls has, in their order
-  unfoldable pub ofEach : {A : Type 0} → (Handed → Lent → List A) → Lent → List Handed → List A
-  ofEach f x [] = []
-  ofEach f x (c ∷ cs) = f c x ++ ofEach f (handedLeft c x) cs
+  unfoldable pub of_each : {A : Type 0} → (Handed → Lent → List A) → Lent → List Handed → List A
+  of_each f x [] = []
+  of_each f x (c ∷ cs) = f c x ++ of_each f (handed_left c x) cs
 
   -- a start in rooms x, and then the calls cs: the rooms after them, the records handed in, and each with its answer
   module _ (x : Lent) (cs : List Handed) where
-    abbrev pub callsEnd : Lent
-    callsEnd = run handedLeft (startLeft b x) cs
+    abbrev pub calls_end : Lent
+    calls_end = run handed_left (start_left b x) cs
 
-    abbrev pub callsIn : List (List ℕ)
-    callsIn = ofEach handedIn (startLeft b x) cs
+    abbrev pub calls_in : List (List ℕ)
+    calls_in = of_each handed_in (start_left b x) cs
 
-    abbrev pub callsTold : List (List ℕ × ℕ)
-    callsTold = ofEach handedTold (startLeft b x) cs
+    abbrev pub calls_told : List (List ℕ × ℕ)
+    calls_told = of_each handed_told (start_left b x) cs
 
 -- for rooms x in which the start is not refused
 pub record Sequence (b : List ℕ) (x : Lent) : Type 0 where
   -- the state in the rooms and the answers are those of the records handed in, taken one by one from the empty state
-  pub end : (cs : List Handed) → stateIn (callsEnd b x cs) ≡ end_of (headingIn b) x.matrix x.rights (callsIn b x cs)
-  pub told : (cs : List Handed) → callsTold b x cs ≡ toldIn (headingIn b) x.matrix x.rights (callsIn b x cs)
-  pub rooms : (cs : List Handed) → SameRooms (callsEnd b x cs) x
+  pub end : (cs : List Handed) → state_in (calls_end b x cs) ≡ end_of (heading_in b) x.matrix x.rights (calls_in b x cs)
+  pub told : (cs : List Handed) → calls_told b x cs ≡ told_in (heading_in b) x.matrix x.rights (calls_in b x cs)
+  pub rooms : (cs : List Handed) → SameRooms (calls_end b x cs) x
   -- where each call hands in a record, these are just the records
-  pub singles : (bs : List (List ℕ)) → callsIn b x (map single bs) ≡ bs
+  pub singles : (bs : List (List ℕ)) → calls_in b x (map single bs) ≡ bs
   -- the demands
-  pub sound : (cs : List Handed) → judgeNumber b (callsEnd b x cs) ≡ 0
-  pub sums : (cs : List Handed) → SumsOver (frame_of (headingIn b)) (stateIn (callsEnd b x cs)) (taken (callsTold b x cs))
-  pub unseen : (cs : List Handed) (i : ℕ) → i < (headingIn b).parameters
-      → (seenIn (callsEnd b x cs).matrix i ≡ false) ↔ Each (λ r. partialOf (frame_of (headingIn b)) r i ≡ pos 0) (taken (callsTold b x cs))
-  pub same-answers : (cs ds : List Handed) → Mixes (frame_of (headingIn b)) (callsIn b x cs) (callsIn b x ds) → (k : ℕ) → k < stationsMost
-      → toldTo (whose (frame_of (headingIn b))) k (callsTold b x cs) ≡ toldTo (whose (frame_of (headingIn b))) k (callsTold b x ds)
-  pub same_end : (cs ds : List Handed) → Mixes (frame_of (headingIn b)) (callsIn b x cs) (callsIn b x ds)
-      → stateIn (callsEnd b x cs) ≡ stateIn (callsEnd b x ds)
+  pub sound : (cs : List Handed) → judge_number b (calls_end b x cs) ≡ 0
+  pub sums : (cs : List Handed) → SumsOver (frame_of (heading_in b)) (state_in (calls_end b x cs)) (taken (calls_told b x cs))
+  pub unseen : (cs : List Handed) (i : ℕ) → i < (heading_in b).parameters
+      → (seen_in (calls_end b x cs).matrix i ≡ false) ↔ Each (λ r. partial_of (frame_of (heading_in b)) r i ≡ pos 0) (taken (calls_told b x cs))
+  pub same_answers : (cs ds : List Handed) → Mixes (frame_of (heading_in b)) (calls_in b x cs) (calls_in b x ds) → (k : ℕ) → k < stations_most
+      → told_to (whose (frame_of (heading_in b))) k (calls_told b x cs) ≡ told_to (whose (frame_of (heading_in b))) k (calls_told b x ds)
+  pub same_end : (cs ds : List Handed) → Mixes (frame_of (heading_in b)) (calls_in b x cs) (calls_in b x ds)
+      → state_in (calls_end b x cs) ≡ state_in (calls_end b x ds)

@@ -1,48 +1,48 @@
 // The library for callers in C and in Rust: numbers and slices only, no requirement on any of them. A call answers 0 where it is done, else the
 // paper's refusal number; results go into lent room, and a refusal changes nothing there. include/wheloruka.h declares the calls.
 ghost use Rattle.std.specs.Prelude.{◌≡◌, length, true, false};
-ghost use Rattle.call_rooms.specs.Result.{resultNumber, resultLeft, toldValues, one, room_for, bytesLeft};
-ghost use Rattle.arc_read.specs.Arc.{readArc};
-ghost use Rattle.norm_read.specs.Normal.{readNormal};
-ghost use Rattle.norm_room.specs.Room.{headsOf};
-ghost use Rattle.norm_unpack.specs.Unpack.{unpackNormal, filled, matrixOf, rightsOf};
-ghost use Rattle.norm_write.specs.Write.{writeNormal, normalLeftIn};
-ghost use Rattle.norm_move.specs.Move.{moveAnswer, moveLeft};
-ghost use Rattle.merge.specs.Files.{mergeAnswer, mergeLeft};
-ghost use Rattle.list.specs.Listing.{listAnswer, listLeft};
-ghost use Rattle.wheloruka.specs.Numbers.{dayValues, dateValues, cellValues, indexValues, unitValues, doubleValues, residualValues};
-ghost use Rattle.call_files.specs.Reading.{refusalPlace, readNumber, headingLeft, placesLeft, judgedNumber};
-ghost use Rattle.wheloruka.specs.Reading.{formNumber, normalValues};
+ghost use Rattle.call_rooms.specs.Result.{result_number, result_left, told_values, one, room_for, bytes_left};
+ghost use Rattle.arc_read.specs.Arc.{read_arc};
+ghost use Rattle.norm_read.specs.Normal.{read_normal};
+ghost use Rattle.norm_room.specs.Room.{heads_of};
+ghost use Rattle.norm_unpack.specs.Unpack.{unpack_normal, filled, matrix_of, rights_of};
+ghost use Rattle.norm_write.specs.Write.{write_normal, normal_left_in};
+ghost use Rattle.norm_move.specs.Move.{move_answer, move_left};
+ghost use Rattle.merge.specs.Files.{merge_answer, merge_left};
+ghost use Rattle.list.specs.Listing.{list_answer, list_left};
+ghost use Rattle.wheloruka.specs.Numbers.{day_values, date_values, cell_values, index_values, unit_values, double_values, residual_values};
+ghost use Rattle.call_files.specs.Reading.{refusal_place, read_number, heading_left, places_left, judged_number};
+ghost use Rattle.wheloruka.specs.Reading.{form_number, normal_values};
 ghost use Rattle.wheloruka.specs.Taking.{
   lent,
-  startNumber,
-  startLeft,
-  judgeNumber,
-  takeNumber,
-  takeLeft,
-  runCallNumber,
-  runLeft,
-  answersLeft,
-  seenValues,
-  carriersValues,
-  carriesValues,
+  start_number,
+  start_left,
+  judge_number,
+  take_number,
+  take_left,
+  run_call_number,
+  run_left,
+  answers_left,
+  seen_values,
+  carriers_values,
+  carries_values,
 };
-ghost use Rattle.call_told.specs.Told.{toldNumber, toldOut};
+ghost use Rattle.call_told.specs.Told.{told_number, told_out};
 ghost use Rattle.call_part.specs.Calls.{
   rooms,
-  beginCall,
-  beginLeft,
-  partCall,
-  partLeft,
-  partAnswersLeft,
-  finishCall,
-  finishLeft,
-  headCall,
-  headLeft,
+  begin_call,
+  begin_left,
+  part_call,
+  part_left,
+  part_answers_left,
+  finish_call,
+  finish_left,
+  head_call,
+  head_left,
 };
-ghost use Rattle.call_files.specs.Writing.{moveCallNumber, mergeCallNumber};
-ghost use Rattle.call_files.specs.Arcs.{arcFile, arcLeft};
-ghost use Rattle.wheloruka.specs.Writing.{headedNumber, stateFile, stateFileLeft};
+ghost use Rattle.call_files.specs.Writing.{move_call_number, merge_call_number};
+ghost use Rattle.call_files.specs.Arcs.{arc_file, arc_left};
+ghost use Rattle.wheloruka.specs.Writing.{headed_number, state_file, state_file_left};
 
 use byte_section::ReadAnswer;
 use days::Date;
@@ -53,8 +53,8 @@ use refusal::Verdict;
 // The number of a date.
 #[unsafe(no_mangle)]
 pub extern "C" fn whl_day_of_date(year: u32, month: u32, day: u32, out: &mut [u32]) -> u32
-    ensures value { result ≡ resultNumber (dayValues year month day) (length out.old) }
-    ensures left { out.new ≡ resultLeft (dayValues year month day) out.old }
+    ensures value { result ≡ result_number (day_values year month day) (length out.old) }
+    ensures left { out.new ≡ result_left (day_values year month day) out.old }
 {
     call_numbers::give_day(out, days::day_of_date(Date { year, month, day }))
 }
@@ -62,8 +62,8 @@ pub extern "C" fn whl_day_of_date(year: u32, month: u32, day: u32, out: &mut [u3
 // The year, the month and the day of a day number.
 #[unsafe(no_mangle)]
 pub extern "C" fn whl_date_of_day(day: u32, out: &mut [u32]) -> u32
-    ensures value { result ≡ resultNumber (dateValues day) (length out.old) }
-    ensures left { out.new ≡ resultLeft (dateValues day) out.old }
+    ensures value { result ≡ result_number (date_values day) (length out.old) }
+    ensures left { out.new ≡ result_left (date_values day) out.old }
 {
     call_numbers::give_date(out, days::date_of_day(day))
 }
@@ -73,8 +73,8 @@ pub extern "C" fn whl_date_of_day(day: u32, out: &mut [u32]) -> u32
 // The letter, the degree and the order of the cell at an index.
 #[unsafe(no_mangle)]
 pub extern "C" fn whl_cell_at(index: u32, out: &mut [u32]) -> u32
-    ensures value { result ≡ resultNumber (cellValues index) (length out.old) }
-    ensures left { out.new ≡ resultLeft (cellValues index) out.old }
+    ensures value { result ≡ result_number (cell_values index) (length out.old) }
+    ensures left { out.new ≡ result_left (cell_values index) out.old }
 {
     call_numbers::give_cell(out, cells::cell_at(index))
 }
@@ -82,8 +82,8 @@ pub extern "C" fn whl_cell_at(index: u32, out: &mut [u32]) -> u32
 // The index of a cell by its letter's number.
 #[unsafe(no_mangle)]
 pub extern "C" fn whl_index_of(letter: u32, degree: u32, order: u32, out: &mut [u32]) -> u32
-    ensures value { result ≡ resultNumber (indexValues letter degree order) (length out.old) }
-    ensures left { out.new ≡ resultLeft (indexValues letter degree order) out.old }
+    ensures value { result ≡ result_number (index_values letter degree order) (length out.old) }
+    ensures left { out.new ≡ result_left (index_values letter degree order) out.old }
 {
     call_numbers::give_index(out, call_numbers::index_by(letter, degree, order))
 }
@@ -93,8 +93,8 @@ pub extern "C" fn whl_index_of(letter: u32, degree: u32, order: u32, out: &mut [
 // The unit of a double of a type.
 #[unsafe(no_mangle)]
 pub extern "C" fn whl_unit_of(kind: u32, x: f64, out: &mut [i64]) -> u32
-    ensures value { result ≡ resultNumber (unitValues kind x) (length out.old) }
-    ensures left { out.new ≡ resultLeft (unitValues kind x) out.old }
+    ensures value { result ≡ result_number (unit_values kind x) (length out.old) }
+    ensures left { out.new ≡ result_left (unit_values kind x) out.old }
 {
     call_numbers::give_unit(out, unit_convert::unit_of(kind, x))
 }
@@ -102,8 +102,8 @@ pub extern "C" fn whl_unit_of(kind: u32, x: f64, out: &mut [i64]) -> u32
 // The double of a unit of a type.
 #[unsafe(no_mangle)]
 pub extern "C" fn whl_double_of(kind: u32, unit: i64, out: &mut [f64]) -> u32
-    ensures value { result ≡ resultNumber (doubleValues kind unit) (length out.old) }
-    ensures left { out.new ≡ resultLeft (doubleValues kind unit) out.old }
+    ensures value { result ≡ result_number (double_values kind unit) (length out.old) }
+    ensures left { out.new ≡ result_left (double_values kind unit) out.old }
 {
     call_numbers::give_double(out, unit_convert::double_of_unit(kind, unit))
 }
@@ -111,8 +111,8 @@ pub extern "C" fn whl_double_of(kind: u32, unit: i64, out: &mut [f64]) -> u32
 // The residual of a measurement: observed minus computed, in units.
 #[unsafe(no_mangle)]
 pub extern "C" fn whl_residual(kind: u32, observed: f64, computed: f64, out: &mut [i64]) -> u32
-    ensures value { result ≡ resultNumber (residualValues kind observed computed) (length out.old) }
-    ensures left { out.new ≡ resultLeft (residualValues kind observed computed) out.old }
+    ensures value { result ≡ result_number (residual_values kind observed computed) (length out.old) }
+    ensures left { out.new ≡ result_left (residual_values kind observed computed) out.old }
 {
     call_numbers::give_unit(out, call_numbers::residual_as(kind, observed, computed))
 }
@@ -122,9 +122,9 @@ pub extern "C" fn whl_residual(kind: u32, observed: f64, computed: f64, out: &mu
 // An arc file's heading in one room; the number of its records and the first one's place in another.
 #[unsafe(no_mangle)]
 pub extern "C" fn whl_read(file: &[u8], heading: &mut [u8], out: &mut [u64]) -> u32
-    ensures value { result ≡ readNumber (readArc file.now) (length heading.old) (length out.old) }
-    ensures heading { heading.new ≡ headingLeft (readArc file.now) heading.old (length out.old) }
-    ensures places { out.new ≡ placesLeft (readArc file.now) (length heading.old) out.old }
+    ensures value { result ≡ read_number (read_arc file.now) (length heading.old) (length out.old) }
+    ensures heading { heading.new ≡ heading_left (read_arc file.now) heading.old (length out.old) }
+    ensures places { out.new ≡ places_left (read_arc file.now) (length heading.old) out.old }
 {
     call_files::give_arc(arc_read::read(file), heading, out)
 }
@@ -132,7 +132,7 @@ pub extern "C" fn whl_read(file: &[u8], heading: &mut [u8], out: &mut [u64]) -> 
 // The place of an arc file's refusal; 0 where the file is accepted.
 #[unsafe(no_mangle)]
 pub extern "C" fn whl_read_place(file: &[u8]) -> u64
-    ensures { result ≡ refusalPlace (readArc file.now) }
+    ensures { result ≡ refusal_place (read_arc file.now) }
 {
     let r = arc_read::read(file);
     let answer = r.answer;
@@ -142,9 +142,9 @@ pub extern "C" fn whl_read_place(file: &[u8]) -> u64
 // An arc file of a heading and a run of records.
 #[unsafe(no_mangle)]
 pub extern "C" fn whl_write(heading: &[u8], run: &[u8], out: &mut [u8], size: &mut [u64]) -> u32
-    ensures value { result ≡ resultNumber (toldValues one (arcFile heading.now run.now (room_for (length size.old) (length out.old)))) (length size.old) }
-    ensures size { size.new ≡ resultLeft (toldValues one (arcFile heading.now run.now (room_for (length size.old) (length out.old)))) size.old }
-    ensures bytes { out.new ≡ bytesLeft (length size.old) (arcLeft heading.now run.now) out.old }
+    ensures value { result ≡ result_number (told_values one (arc_file heading.now run.now (room_for (length size.old) (length out.old)))) (length size.old) }
+    ensures size { size.new ≡ result_left (told_values one (arc_file heading.now run.now (room_for (length size.old) (length out.old)))) size.old }
+    ensures bytes { out.new ≡ bytes_left (length size.old) (arc_left heading.now run.now) out.old }
 {
     let room = call_rooms::room_for(size.len(), out.len());
     let w = call_files::write_arc(heading, run, &mut out[..room]);
@@ -152,7 +152,7 @@ pub extern "C" fn whl_write(heading: &[u8], run: &[u8], out: &mut [u8], size: &m
 }
 
 fn form_number(is_small: bool) -> u64
-    ensures { result ≡ formNumber is_small }
+    ensures { result ≡ form_number is_small }
 {
     if is_small { 1 } else { 0 }
 }
@@ -161,8 +161,8 @@ fn form_number(is_small: bool) -> u64
 // stored, and 1 for the small form, 0 for the old one.
 #[unsafe(no_mangle)]
 pub extern "C" fn whl_normal_read(file: &[u8], out: &mut [u64]) -> u32
-    ensures value { result ≡ resultNumber (normalValues (readNormal file.now)) (length out.old) }
-    ensures left { out.new ≡ resultLeft (normalValues (readNormal file.now)) out.old }
+    ensures value { result ≡ result_number (normal_values (read_normal file.now)) (length out.old) }
+    ensures left { out.new ≡ result_left (normal_values (read_normal file.now)) out.old }
 {
     let r = norm_read::read(file);
     let answer = r.answer;
@@ -184,7 +184,7 @@ pub extern "C" fn whl_normal_read(file: &[u8], out: &mut [u64]) -> u32
 // The place of a normal file's refusal; 0 where the file is accepted.
 #[unsafe(no_mangle)]
 pub extern "C" fn whl_normal_place(file: &[u8]) -> u64
-    ensures { result ≡ refusalPlace (readNormal file.now) }
+    ensures { result ≡ refusal_place (read_normal file.now) }
 {
     let r = norm_read::read(file);
     let answer = r.answer;
@@ -201,8 +201,8 @@ pub extern "C" fn whl_start(
     matrix: &mut [i64],
     rights: &mut [i64],
 ) -> u32
-    ensures value { result ≡ startNumber heading.now (lent tally.old matrix.old rights.old) }
-    ensures left { lent tally.new matrix.new rights.new ≡ startLeft heading.now (lent tally.old matrix.old rights.old) }
+    ensures value { result ≡ start_number heading.now (lent tally.old matrix.old rights.old) }
+    ensures left { lent tally.new matrix.new rights.new ≡ start_left heading.now (lent tally.old matrix.old rights.old) }
 {
     if call_heading::has_both(heading, tally) {
         let started = take_state::start(call_heading::heading_in(heading), matrix, rights);
@@ -223,7 +223,7 @@ pub extern "C" fn whl_start(
 // A heading and a state judged.
 #[unsafe(no_mangle)]
 pub extern "C" fn whl_judge(heading: &[u8], tally: &[u8], matrix: &[i64], rights: &[i64]) -> u32
-    ensures { result ≡ judgeNumber heading.now (lent tally.now matrix.now rights.now) }
+    ensures { result ≡ judge_number heading.now (lent tally.now matrix.now rights.now) }
 {
     if call_heading::has_both(heading, tally) {
         let h = call_heading::heading_in(heading);
@@ -246,8 +246,8 @@ pub extern "C" fn whl_take(
     rights: &mut [i64],
     bytes: &[u8],
 ) -> u32
-    ensures value { result ≡ takeNumber heading.now bytes.now (lent tally.old matrix.old rights.old) }
-    ensures left { lent tally.new matrix.new rights.new ≡ takeLeft heading.now bytes.now (lent tally.old matrix.old rights.old) }
+    ensures value { result ≡ take_number heading.now bytes.now (lent tally.old matrix.old rights.old) }
+    ensures left { lent tally.new matrix.new rights.new ≡ take_left heading.now bytes.now (lent tally.old matrix.old rights.old) }
 {
     if call_heading::has_both(heading, tally) {
         let h = call_heading::heading_in(heading);
@@ -268,9 +268,9 @@ pub extern "C" fn whl_take_run(
     run: &[u8],
     answers: &mut [u8],
 ) -> u32
-    ensures value { result ≡ runCallNumber heading.now run.now (length answers.old) (lent tally.old matrix.old rights.old) }
-    ensures left { lent tally.new matrix.new rights.new ≡ runLeft heading.now run.now (length answers.old) (lent tally.old matrix.old rights.old) }
-    ensures told { answers.new ≡ answersLeft heading.now run.now answers.old (lent tally.old matrix.old rights.old) }
+    ensures value { result ≡ run_call_number heading.now run.now (length answers.old) (lent tally.old matrix.old rights.old) }
+    ensures left { lent tally.new matrix.new rights.new ≡ run_left heading.now run.now (length answers.old) (lent tally.old matrix.old rights.old) }
+    ensures told { answers.new ≡ answers_left heading.now run.now answers.old (lent tally.old matrix.old rights.old) }
 {
     if call_heading::has_both(heading, tally) {
         let h = call_heading::heading_in(heading);
@@ -292,8 +292,8 @@ pub extern "C" fn whl_seen(
     parameter: usize,
     out: &mut [u32],
 ) -> u32
-    ensures value { result ≡ resultNumber (seenValues heading.now (lent tally.now matrix.now rights.now) parameter) (length out.old) }
-    ensures left { out.new ≡ resultLeft (seenValues heading.now (lent tally.now matrix.now rights.now) parameter) out.old }
+    ensures value { result ≡ result_number (seen_values heading.now (lent tally.now matrix.now rights.now) parameter) (length out.old) }
+    ensures left { out.new ≡ result_left (seen_values heading.now (lent tally.now matrix.now rights.now) parameter) out.old }
 {
     if call_heading::has_both(heading, tally) {
         let h = call_heading::heading_in(heading);
@@ -314,8 +314,8 @@ pub extern "C" fn whl_carriers(
     parameter: usize,
     out: &mut [u32],
 ) -> u32
-    ensures value { result ≡ resultNumber (carriersValues heading.now (lent tally.now matrix.now rights.now) parameter) (length out.old) }
-    ensures left { out.new ≡ resultLeft (carriersValues heading.now (lent tally.now matrix.now rights.now) parameter) out.old }
+    ensures value { result ≡ result_number (carriers_values heading.now (lent tally.now matrix.now rights.now) parameter) (length out.old) }
+    ensures left { out.new ≡ result_left (carriers_values heading.now (lent tally.now matrix.now rights.now) parameter) out.old }
 {
     if call_heading::has_both(heading, tally) {
         let h = call_heading::heading_in(heading);
@@ -337,8 +337,8 @@ pub extern "C" fn whl_carries(
     station: usize,
     out: &mut [u32],
 ) -> u32
-    ensures value { result ≡ resultNumber (carriesValues heading.now (lent tally.now matrix.now rights.now) parameter station) (length out.old) }
-    ensures left { out.new ≡ resultLeft (carriesValues heading.now (lent tally.now matrix.now rights.now) parameter station) out.old }
+    ensures value { result ≡ result_number (carries_values heading.now (lent tally.now matrix.now rights.now) parameter station) (length out.old) }
+    ensures left { out.new ≡ result_left (carries_values heading.now (lent tally.now matrix.now rights.now) parameter station) out.old }
 {
     if call_heading::has_both(heading, tally) {
         let h = call_heading::heading_in(heading);
@@ -362,8 +362,8 @@ pub extern "C" fn whl_begin(
     matrix: &mut [i64],
     rights: &mut [i64],
 ) -> u32
-    ensures value { result ≡ beginCall (rooms position.old tally.old matrix.old rights.old) }
-    ensures left { rooms position.new tally.new matrix.new rights.new ≡ beginLeft (rooms position.old tally.old matrix.old rights.old) }
+    ensures value { result ≡ begin_call (rooms position.old tally.old matrix.old rights.old) }
+    ensures left { rooms position.new tally.new matrix.new rights.new ≡ begin_left (rooms position.old tally.old matrix.old rights.old) }
 {
     call_part::begin(position, tally, matrix, rights)
 }
@@ -379,10 +379,10 @@ pub extern "C" fn whl_part(
     answers: &mut [u8],
     out: &mut [u64],
 ) -> u32
-    ensures value { result ≡ toldNumber (partCall (rooms position.old tally.old matrix.old rights.old) bytes.now (length answers.old) (length out.old)) }
-    ensures left { rooms position.new tally.new matrix.new rights.new ≡ partLeft (rooms position.old tally.old matrix.old rights.old) bytes.now (length answers.old) (length out.old) }
-    ensures answers { answers.new ≡ partAnswersLeft (rooms position.old tally.old matrix.old rights.old) bytes.now answers.old (length out.old) }
-    ensures told { out.new ≡ toldOut (partCall (rooms position.old tally.old matrix.old rights.old) bytes.now (length answers.old) (length out.old)) out.old }
+    ensures value { result ≡ told_number (part_call (rooms position.old tally.old matrix.old rights.old) bytes.now (length answers.old) (length out.old)) }
+    ensures left { rooms position.new tally.new matrix.new rights.new ≡ part_left (rooms position.old tally.old matrix.old rights.old) bytes.now (length answers.old) (length out.old) }
+    ensures answers { answers.new ≡ part_answers_left (rooms position.old tally.old matrix.old rights.old) bytes.now answers.old (length out.old) }
+    ensures told { out.new ≡ told_out (part_call (rooms position.old tally.old matrix.old rights.old) bytes.now (length answers.old) (length out.old)) out.old }
 {
     call_part::part(position, tally, matrix, rights, bytes, answers, out)
 }
@@ -390,9 +390,9 @@ pub extern "C" fn whl_part(
 // The file is over.
 #[unsafe(no_mangle)]
 pub extern "C" fn whl_finish(position: &mut [u8], out: &mut [u64]) -> u32
-    ensures value { result ≡ toldNumber (finishCall position.old (length out.old)) }
-    ensures left { position.new ≡ finishLeft position.old (length out.old) }
-    ensures told { out.new ≡ toldOut (finishCall position.old (length out.old)) out.old }
+    ensures value { result ≡ told_number (finish_call position.old (length out.old)) }
+    ensures left { position.new ≡ finish_left position.old (length out.old) }
+    ensures told { out.new ≡ told_out (finish_call position.old (length out.old)) out.old }
 {
     call_part::finish(position, out)
 }
@@ -400,9 +400,9 @@ pub extern "C" fn whl_finish(position: &mut [u8], out: &mut [u64]) -> u32
 // The heading of what was handed over.
 #[unsafe(no_mangle)]
 pub extern "C" fn whl_position_heading(position: &[u8], heading: &mut [u8], out: &mut [u64]) -> u32
-    ensures value { result ≡ toldNumber (headCall position.now (length heading.old) (length out.old)) }
-    ensures heading { heading.new ≡ headLeft position.now heading.old (length out.old) }
-    ensures told { out.new ≡ toldOut (headCall position.now (length heading.old) (length out.old)) out.old }
+    ensures value { result ≡ told_number (head_call position.now (length heading.old) (length out.old)) }
+    ensures heading { heading.new ≡ head_left position.now heading.old (length out.old) }
+    ensures told { out.new ≡ told_out (head_call position.now (length heading.old) (length out.old)) out.old }
 {
     call_part::heading(position, heading, out)
 }
@@ -417,10 +417,10 @@ pub extern "C" fn whl_normal_unpack(
     matrix: &mut [i64],
     rights: &mut [i64],
 ) -> u32
-    ensures value { result ≡ judgedNumber (unpackNormal file.now (length heads.old) (length matrix.old) (length rights.old)) }
-    ensures heads { heads.new ≡ filled headsOf (unpackNormal file.now (length heads.old) (length matrix.old) (length rights.old)) heads.old }
-    ensures matrix { matrix.new ≡ filled matrixOf (unpackNormal file.now (length heads.old) (length matrix.old) (length rights.old)) matrix.old }
-    ensures rights { rights.new ≡ filled rightsOf (unpackNormal file.now (length heads.old) (length matrix.old) (length rights.old)) rights.old }
+    ensures value { result ≡ judged_number (unpack_normal file.now (length heads.old) (length matrix.old) (length rights.old)) }
+    ensures heads { heads.new ≡ filled heads_of (unpack_normal file.now (length heads.old) (length matrix.old) (length rights.old)) heads.old }
+    ensures matrix { matrix.new ≡ filled matrix_of (unpack_normal file.now (length heads.old) (length matrix.old) (length rights.old)) matrix.old }
+    ensures rights { rights.new ≡ filled rights_of (unpack_normal file.now (length heads.old) (length matrix.old) (length rights.old)) rights.old }
 {
     let r = norm_unpack::unpack(file, heads, matrix, rights);
     let answer = r.answer;
@@ -438,9 +438,9 @@ pub extern "C" fn whl_normal_write(
     out: &mut [u8],
     size: &mut [u64],
 ) -> u32
-    ensures value { result ≡ resultNumber (toldValues one (writeNormal arcs parameters heads.now matrix.now rights.now (room_for (length size.old) (length out.old)))) (length size.old) }
-    ensures size { size.new ≡ resultLeft (toldValues one (writeNormal arcs parameters heads.now matrix.now rights.now (room_for (length size.old) (length out.old)))) size.old }
-    ensures bytes { out.new ≡ bytesLeft (length size.old) (normalLeftIn arcs parameters heads.now matrix.now rights.now) out.old }
+    ensures value { result ≡ result_number (told_values one (write_normal arcs parameters heads.now matrix.now rights.now (room_for (length size.old) (length out.old)))) (length size.old) }
+    ensures size { size.new ≡ result_left (told_values one (write_normal arcs parameters heads.now matrix.now rights.now (room_for (length size.old) (length out.old)))) size.old }
+    ensures bytes { out.new ≡ bytes_left (length size.old) (normal_left_in arcs parameters heads.now matrix.now rights.now) out.old }
 {
     let room = call_rooms::room_for(size.len(), out.len());
     let w = norm_write::write(arcs, parameters, heads, matrix, rights, &mut out[..room]);
@@ -449,7 +449,7 @@ pub extern "C" fn whl_normal_write(
 
 // What is wrong with a heading and a tally in lent bytes that are to be written from, before any sum is looked at; 0 where nothing is.
 fn judge_headed(heading: &[u8], tally: &[u8]) -> u32
-    ensures { result ≡ headedNumber heading.now tally.now }
+    ensures { result ≡ headed_number heading.now tally.now }
 {
     let k = call_heading::judge_head(heading);
     if k == 0 {
@@ -472,9 +472,9 @@ pub extern "C" fn whl_of_state(
     out: &mut [u8],
     size: &mut [u64],
 ) -> u32
-    ensures value { result ≡ resultNumber (toldValues one (stateFile heading.now (lent tally.now matrix.now rights.now) (room_for (length size.old) (length out.old)))) (length size.old) }
-    ensures size { size.new ≡ resultLeft (toldValues one (stateFile heading.now (lent tally.now matrix.now rights.now) (room_for (length size.old) (length out.old)))) size.old }
-    ensures bytes { out.new ≡ bytesLeft (length size.old) (stateFileLeft heading.now (lent tally.now matrix.now rights.now)) out.old }
+    ensures value { result ≡ result_number (told_values one (state_file heading.now (lent tally.now matrix.now rights.now) (room_for (length size.old) (length out.old)))) (length size.old) }
+    ensures size { size.new ≡ result_left (told_values one (state_file heading.now (lent tally.now matrix.now rights.now) (room_for (length size.old) (length out.old)))) size.old }
+    ensures bytes { out.new ≡ bytes_left (length size.old) (state_file_left heading.now (lent tally.now matrix.now rights.now)) out.old }
 {
     let k = judge_headed(heading, tally);
     if k == 0 {
@@ -491,9 +491,9 @@ pub extern "C" fn whl_of_state(
 // A normal file moved to the small form.
 #[unsafe(no_mangle)]
 pub extern "C" fn whl_normal_small(file: &[u8], out: &mut [u8], size: &mut [u64]) -> u32
-    ensures value { result ≡ resultNumber (toldValues one (moveCallNumber (moveAnswer true file.now (room_for (length size.old) (length out.old))))) (length size.old) }
-    ensures size { size.new ≡ resultLeft (toldValues one (moveCallNumber (moveAnswer true file.now (room_for (length size.old) (length out.old))))) size.old }
-    ensures bytes { out.new ≡ bytesLeft (length size.old) (moveLeft true file.now) out.old }
+    ensures value { result ≡ result_number (told_values one (move_call_number (move_answer true file.now (room_for (length size.old) (length out.old))))) (length size.old) }
+    ensures size { size.new ≡ result_left (told_values one (move_call_number (move_answer true file.now (room_for (length size.old) (length out.old))))) size.old }
+    ensures bytes { out.new ≡ bytes_left (length size.old) (move_left true file.now) out.old }
 {
     let room = call_rooms::room_for(size.len(), out.len());
     let w = norm_move::small(file, &mut out[..room]);
@@ -503,9 +503,9 @@ pub extern "C" fn whl_normal_small(file: &[u8], out: &mut [u8], size: &mut [u64]
 // A normal file moved to the old form.
 #[unsafe(no_mangle)]
 pub extern "C" fn whl_normal_old(file: &[u8], out: &mut [u8], size: &mut [u64]) -> u32
-    ensures value { result ≡ resultNumber (toldValues one (moveCallNumber (moveAnswer false file.now (room_for (length size.old) (length out.old))))) (length size.old) }
-    ensures size { size.new ≡ resultLeft (toldValues one (moveCallNumber (moveAnswer false file.now (room_for (length size.old) (length out.old))))) size.old }
-    ensures bytes { out.new ≡ bytesLeft (length size.old) (moveLeft false file.now) out.old }
+    ensures value { result ≡ result_number (told_values one (move_call_number (move_answer false file.now (room_for (length size.old) (length out.old))))) (length size.old) }
+    ensures size { size.new ≡ result_left (told_values one (move_call_number (move_answer false file.now (room_for (length size.old) (length out.old))))) size.old }
+    ensures bytes { out.new ≡ bytes_left (length size.old) (move_left false file.now) out.old }
 {
     let room = call_rooms::room_for(size.len(), out.len());
     let w = norm_move::old(file, &mut out[..room]);
@@ -515,9 +515,9 @@ pub extern "C" fn whl_normal_old(file: &[u8], out: &mut [u8], size: &mut [u64]) 
 // Two normal files merged: a file's own refusal plus 100 for the first, plus 200 for the second.
 #[unsafe(no_mangle)]
 pub extern "C" fn whl_merge(first: &[u8], second: &[u8], out: &mut [u8], size: &mut [u64]) -> u32
-    ensures value { result ≡ resultNumber (toldValues one (mergeCallNumber (mergeAnswer first.now second.now (room_for (length size.old) (length out.old))))) (length size.old) }
-    ensures size { size.new ≡ resultLeft (toldValues one (mergeCallNumber (mergeAnswer first.now second.now (room_for (length size.old) (length out.old))))) size.old }
-    ensures bytes { out.new ≡ bytesLeft (length size.old) (mergeLeft first.now second.now) out.old }
+    ensures value { result ≡ result_number (told_values one (merge_call_number (merge_answer first.now second.now (room_for (length size.old) (length out.old))))) (length size.old) }
+    ensures size { size.new ≡ result_left (told_values one (merge_call_number (merge_answer first.now second.now (room_for (length size.old) (length out.old))))) size.old }
+    ensures bytes { out.new ≡ bytes_left (length size.old) (merge_left first.now second.now) out.old }
 {
     let room = call_rooms::room_for(size.len(), out.len());
     let w = merge::merge(first, second, &mut out[..room]);
@@ -529,9 +529,9 @@ pub extern "C" fn whl_merge(first: &[u8], second: &[u8], out: &mut [u8], size: &
 // The text that the arc program prints of a file.
 #[unsafe(no_mangle)]
 pub extern "C" fn whl_list(file: &[u8], out: &mut [u8], size: &mut [u64]) -> u32
-    ensures value { result ≡ resultNumber (toldValues one (listAnswer file.now (room_for (length size.old) (length out.old)))) (length size.old) }
-    ensures size { size.new ≡ resultLeft (toldValues one (listAnswer file.now (room_for (length size.old) (length out.old)))) size.old }
-    ensures bytes { out.new ≡ bytesLeft (length size.old) (listLeft file.now) out.old }
+    ensures value { result ≡ result_number (told_values one (list_answer file.now (room_for (length size.old) (length out.old)))) (length size.old) }
+    ensures size { size.new ≡ result_left (told_values one (list_answer file.now (room_for (length size.old) (length out.old)))) size.old }
+    ensures bytes { out.new ≡ bytes_left (length size.old) (list_left file.now) out.old }
 {
     let room = call_rooms::room_for(size.len(), out.len());
     let w = list::list(file, &mut out[..room]);

@@ -4,8 +4,8 @@ use native.Mathlib.Omega.{arith}
 use mathlib.Core.Path.{◌∙◌}
 use mir.Syntax.{w64}
 use mir.ValLaws.{to_z-of_z}
-use Rattle.byte_words.proofs.Words.{lay-append, length-bytesOf}
-use Rattle.arc_kinds.specs.Kinds.{labelBytes}
+use Rattle.byte_words.proofs.Words.{lay_append, length_bytes_of}
+use Rattle.arc_kinds.specs.Kinds.{label_bytes}
 use borrow.Author.Rules.{rules}
 use Rattle.arc_fields.proofs.put_label.Statement.{statement}
 use Rattle.arc_fields.proofs.put_label.Tie as tie
@@ -35,7 +35,7 @@ same_length : tie.Need-same-length
 same_length c = search rules
 
 returns : tie.Need-returns
-unfolding labelBytes
+unfolding label_bytes
 returns c =
     let fourth = c.before.before in
     let third = fourth.before.before.before.before.before in
@@ -44,9 +44,9 @@ returns c =
     let l = first.before.before.before.args.l in
     let back = to_z-of_z w64 l.estimate (record { sfits = fourth.before.struct_told.given.1.1.1.0.1 }) in
     rw (fourth.write-i64.ensures, third.write-u32.ensures, second.write-u162.ensures, first.write-u16.ensures, back)
-    (lay-append _ _ _ _ _ (simp length-bytesOf (omega arith))
-    ∙ lay-append _ _ _ _ _ (simp length-bytesOf (omega arith))
-    ∙ lay-append _ _ _ _ _ (simp length-bytesOf))
+    (lay_append _ _ _ _ _ (simp length_bytes_of (omega arith))
+    ∙ lay_append _ _ _ _ _ (simp length_bytes_of (omega arith))
+    ∙ lay_append _ _ _ _ _ (simp length_bytes_of))
 
 pub put-label-spec : {M : Type 1} → statement M
 put-label-spec =

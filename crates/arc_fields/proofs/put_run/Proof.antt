@@ -7,7 +7,7 @@ use mathlib.Core.Path.{◌≡◌, refl, sym, ◌∙◌}
 use lib.ListN.{length, drop, length-set}
 use native.Mathlib.Nat.{add-zero}
 use Rattle.byte_words.specs.Words.{lay}
-use Rattle.arc_fields.proofs.Run.{run_end, run-turn}
+use Rattle.arc_fields.proofs.Run.{run_end_lem, run_turn}
 use Rattle.arc_fields.proofs.put_run.Statement.{statement}
 use Rattle.arc_fields.proofs.put_run.Tie as tie
 
@@ -40,13 +40,13 @@ loop-less c = search rules
 
 loop-again : tie.Need-loop-preserved invariant-loop decreases-loop
 loop-again c =
-    let inv = c.before.before.loop.invariant in (omega arith, simp length-set inv.1, inv.2 ∙ run-turn _ _ _ _ (omega arith))
+    let inv = c.before.before.loop.invariant in (omega arith, simp length-set inv.1, inv.2 ∙ run_turn _ _ _ _ (omega arith))
 
 same_length : tie.Need-same-length invariant-loop decreases-loop
 same_length c = search rules
 
 returns : tie.Need-returns invariant-loop decreases-loop
-returns c = sym (c.before.loop.invariant.2 ∙ run_end _ _ _ _ (omega arith))
+returns c = sym (c.before.loop.invariant.2 ∙ run_end_lem _ _ _ _ (omega arith))
 
 pub put-run-spec : {M : Type 1} → statement M
 put-run-spec =

@@ -2,8 +2,8 @@
 -- Assumes nothing.
 use native.Mathlib.Omega.{arith}
 use mathlib.Core.Path.{◌∙◌}
-use Rattle.byte_words.proofs.Words.{lay-append, length-bytesOf}
-use Rattle.arc_kinds.specs.Kinds.{settingsBytes}
+use Rattle.byte_words.proofs.Words.{lay_append, length_bytes_of}
+use Rattle.arc_kinds.specs.Kinds.{settings_bytes}
 use borrow.Author.Rules.{rules}
 use Rattle.arc_fields.proofs.put_settings.Statement.{statement}
 use Rattle.arc_fields.proofs.put_settings.Tie as tie
@@ -33,16 +33,16 @@ same_length : tie.Need-same-length
 same_length c = search rules
 
 returns : tie.Need-returns
-unfolding settingsBytes
+unfolding settings_bytes
 returns c =
     let fourth = c.before.before in
     let third = fourth.before.before.before.before in
     let second = third.before.before.before.before in
     let first = second.before.before.before.before in
     rw (fourth.write-u162.ensures, third.write-u16.ensures, second.write-u322.ensures, first.write-u32.ensures)
-    (lay-append _ _ _ _ _ (simp length-bytesOf (omega arith))
-    ∙ lay-append _ _ _ _ _ (simp length-bytesOf (omega arith))
-    ∙ lay-append _ _ _ _ _ (simp length-bytesOf))
+    (lay_append _ _ _ _ _ (simp length_bytes_of (omega arith))
+    ∙ lay_append _ _ _ _ _ (simp length_bytes_of (omega arith))
+    ∙ lay_append _ _ _ _ _ (simp length_bytes_of))
 
 pub put-settings-spec : {M : Type 1} → statement M
 put-settings-spec =

@@ -4,8 +4,8 @@ use native.Mathlib.Omega.{arith}
 use mathlib.Core.Path.{◌∙◌}
 use mir.Syntax.{w32}
 use mir.ValLaws.{to_z-of_z}
-use Rattle.byte_words.proofs.Words.{lay-append, length-bytesOf}
-use Rattle.arc_kinds.specs.Kinds.{stationBytes}
+use Rattle.byte_words.proofs.Words.{lay_append, length_bytes_of}
+use Rattle.arc_kinds.specs.Kinds.{station_bytes}
 use borrow.Author.Rules.{rules}
 use Rattle.arc_fields.proofs.put_station.Statement.{statement}
 use Rattle.arc_fields.proofs.put_station.Tie as tie
@@ -29,7 +29,7 @@ same_length : tie.Need-same-length
 same_length c = search rules
 
 returns : tie.Need-returns
-unfolding stationBytes
+unfolding station_bytes
 returns c =
     let third = c.before.before in
     let second = third.before.before.before.before.before in
@@ -37,8 +37,8 @@ returns c =
     let t = first.before.before.before.args.t in
     let back = to_z-of_z w32 t.correction (record { sfits = third.before.struct_told.given.1.0.1 }) in
     rw (third.write-i32.ensures, second.write-u162.ensures, first.write-u16.ensures, back)
-    (lay-append _ _ _ _ _ (simp length-bytesOf (omega arith))
-    ∙ lay-append _ _ _ _ _ (simp length-bytesOf))
+    (lay_append _ _ _ _ _ (simp length_bytes_of (omega arith))
+    ∙ lay_append _ _ _ _ _ (simp length_bytes_of))
 
 pub put-station-spec : {M : Type 1} → statement M
 put-station-spec =

@@ -2,11 +2,11 @@
 -- Assumes nothing.
 use borrow.Author.Rules.{rules}
 use mathlib.Core.Path.{refl, sym, ap, ◌∙◌}
-use Rattle.byte_section.proofs.Walk.{then-good, then-bad}
-use Rattle.arc_kinds.specs.Told.{toldSettings}
-use Rattle.arc_front.specs.Parts.{headingPart}
-use Rattle.arc_sections.proofs.Slots.{slots_read, slots-refused}
-use Rattle.arc_front.proofs.Front.{heading-read, few-labels}
+use Rattle.byte_section.proofs.Walk.{then_good, then_bad}
+use Rattle.arc_kinds.specs.Told.{told_settings}
+use Rattle.arc_front.specs.Parts.{heading_part}
+use Rattle.arc_sections.proofs.Slots.{slots_read, slots_refused}
+use Rattle.arc_front.proofs.Front.{heading_read, few_labels}
 use Rattle.arc_front.proofs.read_heading.Statement.{statement}
 use Rattle.arc_front.proofs.read_heading.Tie as tie
 
@@ -54,35 +54,35 @@ heading-refused-requires-3 : tie.Need-heading-refused-requires-3
 heading-refused-requires-3 c κs = search rules
 
 returns : tie.Need-returns
-unfolding headingPart
+unfolding heading_part
 returns c =
     let stations = c.before.before.before.before in let labels = labels-of-stations stations in let settings = settings-of-labels labels in
-    let a = (sym settings.before.before.read-settings.ensures ∙ ap toldSettings settings.settings.given.1) in
+    let a = (sym settings.before.before.read-settings.ensures ∙ ap told_settings settings.settings.given.1) in
     let b = (sym labels.read-labels.ensures ∙ slots_read _ _ stations.before.before.answer.given.1) in
     let d = sym stations.read-stations.ensures ∙ slots_read _ _ c.before.last.given.1 in
-    (heading-read _ refl ∙ sym (then-good _ _ a ∙ then-good _ _ b ∙ then-good _ _ d), few-labels _ _ _ b)
+    (heading_read _ refl ∙ sym (then_good _ _ a ∙ then_good _ _ b ∙ then_good _ _ d), few_labels _ _ _ b)
 
 returns-2 : tie.Need-returns-2
-unfolding headingPart
+unfolding heading_part
 returns-2 c =
     let stations = c.before.before.before.before.before in let labels = labels-of-stations stations in let settings = settings-of-labels labels in
-    let a = (sym settings.before.before.read-settings.ensures ∙ ap toldSettings settings.settings.given.1) in
+    let a = (sym settings.before.before.read-settings.ensures ∙ ap told_settings settings.settings.given.1) in
     let b = (sym labels.read-labels.ensures ∙ slots_read _ _ stations.before.before.answer.given.1) in
-    let d = sym stations.read-stations.ensures ∙ slots-refused _ _ c.before.before.last2.given.1 in
-    (c.heading-refused.ensures.0 ∙ sym (then-good _ _ a ∙ then-good _ _ b ∙ then-bad _ _ d), c.heading-refused.ensures.1)
+    let d = sym stations.read-stations.ensures ∙ slots_refused _ _ c.before.before.last2.given.1 in
+    (c.heading_refused.ensures.0 ∙ sym (then_good _ _ a ∙ then_good _ _ b ∙ then_bad _ _ d), c.heading_refused.ensures.1)
 
 returns-3 : tie.Need-returns-3
-unfolding headingPart
+unfolding heading_part
 returns-3 c =
-    let a = (sym (settings-of-labels c.before.before.before.before.before).before.before.read-settings.ensures ∙ ap toldSettings c.before.before.before.before.before.before.before.settings.given.1) in
-    let b = sym c.before.before.before.before.before.read-labels.ensures ∙ slots-refused _ _ c.before.before.answer2.given.1 in
-    (c.heading-refused2.ensures.0 ∙ sym (then-good _ _ a ∙ then-bad _ _ b), c.heading-refused2.ensures.1)
+    let a = (sym (settings-of-labels c.before.before.before.before.before).before.before.read-settings.ensures ∙ ap told_settings c.before.before.before.before.before.before.before.settings.given.1) in
+    let b = sym c.before.before.before.before.before.read-labels.ensures ∙ slots_refused _ _ c.before.before.answer2.given.1 in
+    (c.heading-refused2.ensures.0 ∙ sym (then_good _ _ a ∙ then_bad _ _ b), c.heading-refused2.ensures.1)
 
 returns-4 : tie.Need-returns-4
-unfolding headingPart
+unfolding heading_part
 returns-4 c =
-    let a = sym c.before.before.before.before.read-settings.ensures ∙ ap toldSettings c.before.before.r.given.1 in
-    (c.heading-refused3.ensures.0 ∙ sym (then-bad _ _ a), c.heading-refused3.ensures.1)
+    let a = sym c.before.before.before.before.read-settings.ensures ∙ ap told_settings c.before.before.r.given.1 in
+    (c.heading-refused3.ensures.0 ∙ sym (then_bad _ _ a), c.heading-refused3.ensures.1)
 
 pub read-heading-spec : {M : Type 1} → statement M
 read-heading-spec =

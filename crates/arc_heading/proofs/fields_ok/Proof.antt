@@ -3,7 +3,7 @@
 use borrow.Author.Rules.{rules}
 use mathlib.Core.Path.{sym, ◌∙◌}
 use Rattle.num_whole.proofs.Cases.{holds, fails}
-use Rattle.arc_heading.specs.Judge.{fieldsOk}
+use Rattle.arc_heading.specs.Judge.{fields_ok}
 use Rattle.arc_heading.proofs.fields_ok.Statement.{statement}
 use Rattle.arc_heading.proofs.fields_ok.Tie as tie
 
@@ -17,15 +17,15 @@ stations-ok-requires : tie.Need-stations-ok-requires
 stations-ok-requires c κs = search rules
 
 returns : tie.Need-returns
-unfolding fieldsOk
-returns c = holds _ _ (sym c.before.before.before.before.settings-ok.ensures ∙ c.before.before.before.if1.true) (holds _ _ (sym c.before.before.labels-ok.ensures ∙ c.before.if2.true) c.stations-ok.ensures)
+unfolding fields_ok
+returns c = holds _ _ (sym c.before.before.before.before.settings-ok.ensures ∙ c.before.before.before.if1.true) (holds _ _ (sym c.before.before.labels_ok.ensures ∙ c.before.if2.true) c.stations-ok.ensures)
 
 returns-2 : tie.Need-returns-2
-unfolding fieldsOk
-returns-2 c = holds _ _ (sym c.before.before.before.settings-ok.ensures ∙ c.before.before.if1.true) (fails _ _ (sym c.before.labels-ok.ensures ∙ c.if2.false))
+unfolding fields_ok
+returns-2 c = holds _ _ (sym c.before.before.before.settings-ok.ensures ∙ c.before.before.if1.true) (fails _ _ (sym c.before.labels_ok.ensures ∙ c.if2.false))
 
 returns-3 : tie.Need-returns-3
-unfolding fieldsOk
+unfolding fields_ok
 returns-3 c = fails _ _ (sym c.before.settings-ok.ensures ∙ c.if1.false)
 
 pub fields-ok-spec : {M : Type 1} → statement M

@@ -6,20 +6,20 @@ use Prim.Native.Nat.{◌≤◌, ◌-◌}
 use lib.ListN.{length, length-map}
 use borrow.Author.Rules.{rules}
 use Rattle.num_whole.specs.Lists.{all, rest}
-use Rattle.num_whole.proofs.Walks.{all_end, all_pass, all-fail}
-use Rattle.arc_limits.specs.Limits.{labelOk, no_label}
-use Rattle.arc_heading.specs.Judge.{labelsOf}
+use Rattle.num_whole.proofs.Walks.{all_end, all_pass, all_fail}
+use Rattle.arc_limits.specs.Limits.{label_ok, no_label}
+use Rattle.arc_heading.specs.Judge.{labels_of}
 use Rattle.arc_heading.proofs.labels_ok.Statement.{statement}
 use Rattle.arc_heading.proofs.labels_ok.Tie as tie
 
 abbrev invariant-loop : tie.invariant-loop
-invariant-loop h n i₀ i = (i ≤ n) × (length h.labels ≡ 50) × (all labelOk (labelsOf h) ≡ all labelOk (rest h.labels n i))
+invariant-loop h n i₀ i = (i ≤ n) × (length h.labels ≡ 50) × (all label_ok (labels_of h) ≡ all label_ok (rest h.labels n i))
 
 abbrev decreases-loop : tie.decreases-loop
 decreases-loop h n i₀ i = n - i
 
 loop-holds : tie.Need-loop-init invariant-loop decreases-loop
-unfolding labelsOf rest
+unfolding labels_of rest
 loop-holds c = (search rules, simp length-map at c.well-formed.0.1.1.1.1.1.0.1.0.1, refl)
 
 mul-l : tie.Need-overflow-mul-l invariant-loop decreases-loop
@@ -38,10 +38,10 @@ loop-less : tie.Need-loop-smaller invariant-loop decreases-loop
 loop-less c = search rules
 
 loop-again : tie.Need-loop-preserved invariant-loop decreases-loop
-loop-again c = (search rules, search rules, c.before.before.before.before.loop.invariant.2 ∙ all_pass _ _ _ _ no_label (omega arith) (omega arith) (sym c.before.label-ok.ensures ∙ c.if1.true))
+loop-again c = (search rules, search rules, c.before.before.before.before.loop.invariant.2 ∙ all_pass _ _ _ _ no_label (omega arith) (omega arith) (sym c.before.label_ok_lem.ensures ∙ c.if1.true))
 
 returns : tie.Need-returns invariant-loop decreases-loop
-returns c = sym (c.before.before.before.before.loop.invariant.2 ∙ all-fail _ _ _ _ no_label (omega arith) (omega arith) (sym c.before.label-ok.ensures ∙ c.if1.false))
+returns c = sym (c.before.before.before.before.loop.invariant.2 ∙ all_fail _ _ _ _ no_label (omega arith) (omega arith) (sym c.before.label_ok_lem.ensures ∙ c.if1.false))
 
 returns-2 : tie.Need-returns-2 invariant-loop decreases-loop
 returns-2 c = sym (c.before.loop.invariant.2 ∙ all_end _ _ _ _ (omega arith))

@@ -6,20 +6,20 @@ use Prim.Native.Nat.{◌≤◌, ◌-◌}
 use lib.ListN.{length, length-map}
 use borrow.Author.Rules.{rules}
 use Rattle.num_whole.specs.Lists.{all, rest}
-use Rattle.num_whole.proofs.Walks.{all_end, all_pass, all-fail}
-use Rattle.arc_limits.specs.Limits.{stationOk, noStation}
-use Rattle.arc_heading.specs.Judge.{stationsOf}
+use Rattle.num_whole.proofs.Walks.{all_end, all_pass, all_fail}
+use Rattle.arc_limits.specs.Limits.{station_ok, no_station}
+use Rattle.arc_heading.specs.Judge.{stations_of}
 use Rattle.arc_heading.proofs.stations_ok.Statement.{statement}
 use Rattle.arc_heading.proofs.stations_ok.Tie as tie
 
 abbrev invariant-loop : tie.invariant-loop
-invariant-loop h n i₀ i = (i ≤ n) × (length h.listed ≡ 16) × (all stationOk (stationsOf h) ≡ all stationOk (rest h.listed n i))
+invariant-loop h n i₀ i = (i ≤ n) × (length h.listed ≡ 16) × (all station_ok (stations_of h) ≡ all station_ok (rest h.listed n i))
 
 abbrev decreases-loop : tie.decreases-loop
 decreases-loop h n i₀ i = n - i
 
 loop-holds : tie.Need-loop-init invariant-loop decreases-loop
-unfolding stationsOf rest
+unfolding stations_of rest
 loop-holds c = (search rules, simp length-map at c.well-formed.0.1.1.1.1.1.1.0.1.0.1, refl)
 
 mul-t : tie.Need-overflow-mul-t invariant-loop decreases-loop
@@ -38,10 +38,10 @@ loop-less : tie.Need-loop-smaller invariant-loop decreases-loop
 loop-less c = search rules
 
 loop-again : tie.Need-loop-preserved invariant-loop decreases-loop
-loop-again c = (search rules, search rules, c.before.before.before.before.loop.invariant.2 ∙ all_pass _ _ _ _ noStation (omega arith) (omega arith) (sym c.before.station-ok.ensures ∙ c.if1.true))
+loop-again c = (search rules, search rules, c.before.before.before.before.loop.invariant.2 ∙ all_pass _ _ _ _ no_station (omega arith) (omega arith) (sym c.before.station-ok.ensures ∙ c.if1.true))
 
 returns : tie.Need-returns invariant-loop decreases-loop
-returns c = sym (c.before.before.before.before.loop.invariant.2 ∙ all-fail _ _ _ _ noStation (omega arith) (omega arith) (sym c.before.station-ok.ensures ∙ c.if1.false))
+returns c = sym (c.before.before.before.before.loop.invariant.2 ∙ all_fail _ _ _ _ no_station (omega arith) (omega arith) (sym c.before.station-ok.ensures ∙ c.if1.false))
 
 returns-2 : tie.Need-returns-2 invariant-loop decreases-loop
 returns-2 c = sym (c.before.loop.invariant.2 ∙ all_end _ _ _ _ (omega arith))

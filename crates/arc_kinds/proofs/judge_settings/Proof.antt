@@ -4,8 +4,8 @@ use borrow.Author.Rules.{rules}
 use native.Mathlib.Omega.{arith}
 use Prim.Native.Nat.{zero-le}
 use mathlib.Core.Path.{refl, sym, ◌∙◌}
-use Rattle.num_whole.proofs.Cases.{yes, no, is-less, not-less, is-upTo}
-use Rattle.byte_section.specs.Section.{judgedAt}
+use Rattle.num_whole.proofs.Cases.{yes, no, is_less, not_less, is_up_to}
+use Rattle.byte_section.specs.Section.{judged_at}
 use Rattle.arc_kinds.proofs.judge_settings.Statement.{statement}
 use Rattle.arc_kinds.proofs.judge_settings.Tie as tie
 
@@ -13,8 +13,8 @@ left-requires : tie.Need-left-requires
 left-requires c κs = search rules
 
 returns : tie.Need-returns
-unfolding judgedAt
-returns c = yes _ _ _ (is-less _ _ (omega arith)) refl
+unfolding judged_at
+returns c = yes _ _ _ (is_less _ _ (omega arith)) refl
 
 load-settings-requires : tie.Need-load-settings-requires
 load-settings-requires c κs = search rules
@@ -23,12 +23,12 @@ settings-ok-requires : tie.Need-settings-ok-requires
 settings-ok-requires c κs = search rules
 
 returns-2 : tie.Need-returns-2
-unfolding judgedAt
-returns-2 c = rw (← c.before.before.load-settings.ensures) (no _ _ _ (not-less _ _ (omega arith)) (yes _ _ _ (sym c.before.settings-ok.ensures ∙ c.if2.true) (yes _ _ _ (is-upTo _ _ zero-le) refl)))
+unfolding judged_at
+returns-2 c = rw (← c.before.before.load-settings.ensures) (no _ _ _ (not_less _ _ (omega arith)) (yes _ _ _ (sym c.before.settings-ok.ensures ∙ c.if2.true) (yes _ _ _ (is_up_to _ _ zero-le) refl)))
 
 returns-3 : tie.Need-returns-3
-unfolding judgedAt
-returns-3 c = rw (← c.before.before.load-settings.ensures) (no _ _ _ (not-less _ _ (omega arith)) (no _ _ _ (sym c.before.settings-ok.ensures ∙ c.if2.false) refl))
+unfolding judged_at
+returns-3 c = rw (← c.before.before.load-settings.ensures) (no _ _ _ (not_less _ _ (omega arith)) (no _ _ _ (sym c.before.settings-ok.ensures ∙ c.if2.false) refl))
 
 pub judge-settings-spec : {M : Type 1} → statement M
 judge-settings-spec =

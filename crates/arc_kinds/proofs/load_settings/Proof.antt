@@ -1,7 +1,7 @@
 -- `arc_kinds::load_settings` meets its contract: each field is the word at its place.
 -- Assumes nothing.
 use borrow.Author.Rules.{rules}
-use Rattle.arc_kinds.specs.Kinds.{settingsAt}
+use Rattle.arc_kinds.specs.Kinds.{settings_at}
 use Rattle.arc_kinds.proofs.load_settings.Statement.{statement}
 use Rattle.arc_kinds.proofs.load_settings.Tie as tie
 
@@ -27,7 +27,7 @@ read-u16-requires-2 : tie.Need-read-u16-requires-2
 read-u16-requires-2 c κs = search rules
 
 returns : tie.Need-returns
-unfolding settingsAt
+unfolding settings_at
 returns c = rw (c.before.before.before.read_u32.ensures, c.before.before.read-u322.ensures, c.before.read-u16.ensures, c.read-u162.ensures)
 
 pub load-settings-spec : {M : Type 1} → statement M

@@ -3,7 +3,7 @@
 use borrow.Author.Rules.{rules}
 use native.Mathlib.Omega.{arith}
 use mathlib.Core.Path.{refl}
-use Rattle.arc_limits.specs.Limits.{labelKey}
+use Rattle.arc_limits.specs.Limits.{label_key}
 use Rattle.arc_limits.proofs.label_key.Statement.{statement}
 use Rattle.arc_limits.proofs.label_key.Tie as tie
 
@@ -20,7 +20,7 @@ add-result : tie.Need-overflow-add-result
 add-result c = search rules
 
 returns : tie.Need-returns
-unfolding labelKey
+unfolding label_key
 returns c = (refl, omega arith)
 
 pub label-key-spec : {M : Type 1} → statement M

@@ -2,7 +2,7 @@
 -- Assumes nothing.
 use native.Mathlib.Omega.{arith}
 use lib.ListN.{length-map}
-use Rattle.arc_put.proofs.Laws.{arc-laid}
+use Rattle.arc_put.proofs.Laws.{arc_laid}
 use borrow.Author.Rules.{rules}
 use Rattle.arc_put.proofs.put_arc.Statement.{statement}
 use Rattle.arc_put.proofs.put_arc.Tie as tie
@@ -74,8 +74,8 @@ returns c =
     let stations = records.before.before.before.before.before in
     let stations-count = stations.before.before.before.before in
     let labels = stations-count.before.before.before.before in
-    let labels-count = labels.before.before.before.before in
-    let settings = labels-count.before.before.before.before in
+    let labels_count = labels.before.before.before.before in
+    let settings = labels_count.before.before.before.before in
     let one = settings.before.before.before.before in
     let start = one.before.before.before.before.before in
     let long = simp length-map at start.well-formed.0.1.1.1.1.1.0.1.0.1 in
@@ -87,11 +87,11 @@ returns c =
       stations.put-stations.ensures,
       stations-count.write-u323.ensures,
       labels.put-labels.ensures,
-      labels-count.write-u322.ensures,
+      labels_count.write-u322.ensures,
       settings.put-settings.ensures,
       one.write-u32.ensures,
     )
-    (arc-laid start.args.h (omega (arith, start.requires)) (omega (arith, start.requires)) start.args.run.now start.args.out.now)
+    (arc_laid start.args.h (omega (arith, start.requires)) (omega (arith, start.requires)) start.args.run.now start.args.out.now)
 
 pub put-arc-spec : {M : Type 1} → statement M
 put-arc-spec =

@@ -5,16 +5,16 @@ use borrow.Author.Rules.{rules}
 use Prim.Native.Nat.{◌≤◌, ◌+◌, ◌*◌, ◌-◌}
 use mathlib.Core.Path.{◌≡◌, refl, sym, ◌∙◌}
 use lib.ListN.{length, length-map}
-use Rattle.arc_limits.specs.Limits.{noStation}
+use Rattle.arc_limits.specs.Limits.{no_station}
 use Rattle.num_whole.specs.Lists.{rest}
 use Rattle.num_whole.proofs.Walks.{rest_end, rest_more}
 use Rattle.byte_words.specs.Words.{lay}
-use Rattle.byte_words.proofs.Words.{length-lay}
+use Rattle.byte_words.proofs.Words.{length_lay}
 use Rattle.byte_section.specs.Section.{encoded}
 use Rattle.byte_section.proofs.Laid.{laid_none, laid_one}
-use Rattle.arc_heading.specs.Judge.{stationsOf}
-use Rattle.arc_kinds.specs.Kinds.{stationBytes}
-use Rattle.arc_kinds.proofs.Records.{length-station}
+use Rattle.arc_heading.specs.Judge.{stations_of}
+use Rattle.arc_kinds.specs.Kinds.{station_bytes}
+use Rattle.arc_kinds.proofs.Records.{length_station}
 use Rattle.arc_put.proofs.put_stations.Statement.{statement}
 use Rattle.arc_put.proofs.put_stations.Tie as tie
 
@@ -24,13 +24,13 @@ invariant-loop out₀ start h n at₀ i₀ out at i =
     × (length h.listed ≡ 16)
     × (length out ≡ length out₀)
     × (at ≡ start + 8 * i)
-    × (lay out₀ start (encoded stationBytes (stationsOf h)) ≡ lay out at (encoded stationBytes (rest h.listed n i)))
+    × (lay out₀ start (encoded station_bytes (stations_of h)) ≡ lay out at (encoded station_bytes (rest h.listed n i)))
 
 abbrev decreases-loop : tie.decreases-loop
 decreases-loop out₀ start h n at₀ i₀ out at i = n - i
 
 loop-holds : tie.Need-loop-init invariant-loop decreases-loop
-unfolding stationsOf rest
+unfolding stations_of rest
 loop-holds c = (search rules, simp length-map at c.before.well-formed.0.1.1.1.1.1.1.0.1.0.1, refl, omega arith, refl)
 
 mul-t : tie.Need-overflow-mul-t invariant-loop decreases-loop
@@ -57,16 +57,16 @@ loop-again c =
     let inv = c.before.before.before.before.before.before.loop.invariant in (
       search rules,
       search rules,
-      rw e (length-lay _ _ _ ∙ inv.2),
+      rw e (length_lay _ _ _ ∙ inv.2),
       search rules,
-      rw e (inv.4 ∙ laid_one stationBytes _ length-station _ _ (rest_more _ _ _ noStation (omega arith) (omega arith))),
+      rw e (inv.4 ∙ laid_one station_bytes _ length_station _ _ (rest_more _ _ _ no_station (omega arith) (omega arith))),
     )
 
 same_length : tie.Need-same-length invariant-loop decreases-loop
 same_length c = search rules
 
 returns : tie.Need-returns invariant-loop decreases-loop
-returns c = sym (c.before.loop.invariant.4 ∙ laid_none stationBytes _ length-station _ _ (rest_end _ _ _ (omega arith)))
+returns c = sym (c.before.loop.invariant.4 ∙ laid_none station_bytes _ length_station _ _ (rest_end _ _ _ (omega arith)))
 
 pub put-stations-spec : {M : Type 1} → statement M
 put-stations-spec =

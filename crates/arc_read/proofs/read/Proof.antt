@@ -2,10 +2,10 @@
 -- Assumes nothing.
 use borrow.Author.Rules.{rules}
 use mathlib.Core.Path.{sym, ap, ◌∙◌}
-use Rattle.byte_section.proofs.Walk.{then-good, then-bad}
-use Rattle.arc_read.specs.Arc.{shownArc}
-use Rattle.arc_front.proofs.Front.{heading-read, heading-refused}
-use Rattle.arc_read.proofs.Parts.{read-parts}
+use Rattle.byte_section.proofs.Walk.{then_good, then_bad}
+use Rattle.arc_read.specs.Arc.{shown_arc}
+use Rattle.arc_front.proofs.Front.{heading_read, heading_refused}
+use Rattle.arc_read.proofs.Parts.{read_parts}
 use Rattle.arc_read.proofs.read.Statement.{statement}
 use Rattle.arc_read.proofs.read.Tie as tie
 
@@ -25,10 +25,10 @@ refused-requires : tie.Need-refused-requires
 refused-requires c κs = search rules
 
 returns : tie.Need-returns
-returns c = c.read-rest.ensures ∙ ap shownArc (sym (read-parts _ ∙ then-good _ _ (sym c.before.before.before.before.read-heading.ensures.0 ∙ heading-read _ c.before.enum_told.given.1)))
+returns c = c.read_rest.ensures ∙ ap shown_arc (sym (read_parts _ ∙ then_good _ _ (sym c.before.before.before.before.read-heading.ensures.0 ∙ heading_read _ c.before.enum_told.given.1)))
 
 returns-2 : tie.Need-returns-2
-returns-2 c = c.refused.ensures ∙ ap shownArc (sym (read-parts _ ∙ then-bad _ _ (sym c.before.before.before.before.before.read-heading.ensures.0 ∙ heading-refused _ c.before.before.answer.given.1)))
+returns-2 c = c.refused.ensures ∙ ap shown_arc (sym (read_parts _ ∙ then_bad _ _ (sym c.before.before.before.before.before.read-heading.ensures.0 ∙ heading_refused _ c.before.before.answer.given.1)))
 
 pub read_spec : {M : Type 1} → statement M
 read_spec =

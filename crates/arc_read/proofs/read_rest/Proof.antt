@@ -3,9 +3,9 @@
 use borrow.Author.Rules.{rules}
 use native.Mathlib.Omega.{arith}
 use mathlib.Core.Path.{sym, ap, ◌∙◌}
-use Rattle.arc_read.specs.Arc.{shownArc}
-use Rattle.byte_section.specs.Told.{toldSection}
-use Rattle.arc_read.proofs.Parts.{rest-surplus, rest_read, rest-start, rest-refused}
+use Rattle.arc_read.specs.Arc.{shown_arc}
+use Rattle.byte_section.specs.Told.{told_section}
+use Rattle.arc_read.proofs.Parts.{rest_surplus, rest_read, rest_start, rest_refused}
 use Rattle.arc_read.proofs.read_rest.Statement.{statement}
 use Rattle.arc_read.proofs.read_rest.Tie as tie
 
@@ -19,7 +19,7 @@ refused-requires : tie.Need-refused-requires
 refused-requires c κs = search rules
 
 add-t15 : tie.Need-overflow-add-t15
-add-t15 c = omega (arith, rest-start _ _ _ _ (sym c.before.before.before.before.read-records.ensures ∙ ap toldSection c.before.before.count.given.1))
+add-t15 c = omega (arith, rest_start _ _ _ _ (sym c.before.before.before.before.read-records.ensures ∙ ap told_section c.before.before.count.given.1))
 
 enum-known-r : tie.Need-enum-known-r
 enum-known-r c = search rules
@@ -28,13 +28,13 @@ refused-requires-2 : tie.Need-refused-requires-2
 refused-requires-2 c κs = search rules
 
 returns : tie.Need-returns
-returns c = c.refused.ensures ∙ ap shownArc (rest-surplus _ _ _ _ (sym c.before.before.before.before.before.read-records.ensures ∙ ap toldSection c.before.before.before.count.given.1) (omega arith))
+returns c = c.refused.ensures ∙ ap shown_arc (rest_surplus _ _ _ _ (sym c.before.before.before.before.before.read-records.ensures ∙ ap told_section c.before.before.before.count.given.1) (omega arith))
 
 returns-2 : tie.Need-returns-2
-returns-2 c = ap shownArc (rest_read _ _ _ _ (sym c.before.before.before.before.read-records.ensures ∙ ap toldSection c.before.before.count.given.1) (omega arith))
+returns-2 c = ap shown_arc (rest_read _ _ _ _ (sym c.before.before.before.before.read-records.ensures ∙ ap told_section c.before.before.count.given.1) (omega arith))
 
 returns-3 : tie.Need-returns-3
-returns-3 c = c.refused2.ensures ∙ ap shownArc (rest-refused _ _ _ (sym c.before.before.before.before.read-records.ensures ∙ ap toldSection c.before.before.r.given.1))
+returns-3 c = c.refused2.ensures ∙ ap shown_arc (rest_refused _ _ _ (sym c.before.before.before.before.read-records.ensures ∙ ap told_section c.before.before.r.given.1))
 
 pub read-rest-spec : {M : Type 1} → statement M
 read-rest-spec =

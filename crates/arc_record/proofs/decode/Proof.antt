@@ -3,7 +3,7 @@
 use borrow.Author.Rules.{rules}
 use mathlib.Core.Path.{ap, ◌∙◌}
 use lib.Ieee.{binary64, of_bits}
-use Rattle.arc_record.specs.Record.{recordIn}
+use Rattle.arc_record.specs.Record.{record_in}
 use Rattle.arc_record.proofs.decode.Statement.{statement}
 use Rattle.arc_record.proofs.decode.Tie as tie
 
@@ -35,7 +35,7 @@ double-of-bits-requires-2 : tie.Need-double-of-bits-requires-2
 double-of-bits-requires-2 c κs = search rules
 
 returns : tie.Need-returns
-unfolding recordIn
+unfolding record_in
 returns c =
     let a = c.before.before.before in
     λ i. record {

@@ -8,13 +8,13 @@ use Prim.Native.Nat.{◌+◌, ◌-◌, ◌*◌, ◌≤◌}
 use lib.ListN.{length, set, length-set}
 use lib.Seq.{sets}
 use borrow.Author.Rules.{rules}
-use Rattle.arc_record.specs.Record.{partialsFrom, partialsIn}
-use Rattle.arc_record.proofs.Fills.{fill_start, fill-turn, fill_end}
+use Rattle.arc_record.specs.Record.{partials_from, partials_in}
+use Rattle.arc_record.proofs.Fills.{fill_start, fill_turn, fill_end}
 use Rattle.arc_record.proofs.read_partials.Statement.{statement}
 use Rattle.arc_record.proofs.read_partials.Tie as tie
 
 abbrev invariant-loop : tie.invariant-loop
-invariant-loop bytes out₀ n i₀ at₀ out i at = (i ≤ n) × (length out ≡ n) × (at ≡ 32 + 2 * i) × (sets out i (partialsFrom (n - i) bytes at) ≡ partialsIn n bytes)
+invariant-loop bytes out₀ n i₀ at₀ out i at = (i ≤ n) × (length out ≡ n) × (at ≡ 32 + 2 * i) × (sets out i (partials_from (n - i) bytes at) ≡ partials_in n bytes)
 
 abbrev decreases-loop : tie.decreases-loop
 decreases-loop bytes out₀ n i₀ at₀ out i at = n - i
@@ -45,7 +45,7 @@ loop-again c =
     let l = c.before.before.loop in
     let s = c.before.before.before.before in
     let x = to_z-of_z w16 c.read-i16.result (search rules) ∙ c.read-i16.ensures in
-    (omega arith, rw length-set l.invariant.1, omega arith, ap (λ v. sets (set l.out l.i v) (l.i + 1) (partialsFrom (length s.args.out.now - (l.i + 1)) s.args.bytes.now (l.at + 2))) x ∙ sym (fill-turn s.args.bytes.now (length s.args.out.now) l.i l.at l.out (omega arith)) ∙ l.invariant.3)
+    (omega arith, rw length-set l.invariant.1, omega arith, ap (λ v. sets (set l.out l.i v) (l.i + 1) (partials_from (length s.args.out.now - (l.i + 1)) s.args.bytes.now (l.at + 2))) x ∙ sym (fill_turn s.args.bytes.now (length s.args.out.now) l.i l.at l.out (omega arith)) ∙ l.invariant.3)
 
 same_length : tie.Need-same-length invariant-loop decreases-loop
 same_length c = c.before.loop.invariant.1

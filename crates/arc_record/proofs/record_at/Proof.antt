@@ -2,7 +2,7 @@
 -- Assumes nothing.
 use borrow.Author.Rules.{rules}
 use native.Mathlib.Omega.{arith}
-use Rattle.arc_record.proofs.Places.{is_whole, not-whole, part-here, part-past, part_none}
+use Rattle.arc_record.proofs.Places.{is_whole, not_whole, part_here, part_past, part_none}
 use Rattle.arc_record.proofs.record_at.Statement.{statement}
 use Rattle.arc_record.proofs.record_at.Tie as tie
 
@@ -58,10 +58,10 @@ part-result-end-3 : tie.Need-slice-bounds-result-end-3
 part-result-end-3 c = search rules
 
 returns-2 : tie.Need-returns-2
-returns-2 c = part-here _ _ _ _ c.before.before.before.if1.false (is_whole _ _ _ _ _ (omega arith) c.before.before.left.ensures c.before.if2.true)
+returns-2 c = part_here _ _ _ _ c.before.before.before.if1.false (is_whole _ _ _ _ _ (omega arith) c.before.before.left.ensures c.before.if2.true)
 
 returns-3 : tie.Need-returns-3
-returns-3 c = part-past _ _ _ _ c.before.before.before.if1.false (not-whole _ _ _ _ _ (omega arith) c.before.before.left.ensures c.before.if2.false)
+returns-3 c = part_past _ _ _ _ c.before.before.before.if1.false (not_whole _ _ _ _ _ (omega arith) c.before.before.left.ensures c.before.if2.false)
 
 pub record-at-spec : {M : Type 1} → statement M
 record-at-spec =

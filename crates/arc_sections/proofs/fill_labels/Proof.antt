@@ -6,11 +6,11 @@ use Prim.Native.Nat.{◌+◌, ◌-◌, ◌*◌, ◌≤◌}
 use mathlib.Core.Path.{◌≡◌, refl, sym, ap, ◌∙◌}
 use Rattle.arc_limits.specs.Limits.{no_label}
 use Rattle.byte_section.specs.Section.{records}
-use Rattle.arc_kinds.specs.Kinds.{labelKind}
-use Rattle.arc_kinds.specs.Told.{toldLabel}
+use Rattle.arc_kinds.specs.Kinds.{label_kind}
+use Rattle.arc_kinds.specs.Told.{told_label}
 use Rattle.arc_sections.specs.Sections.{labels_from}
-use Rattle.arc_sections.proofs.Fill.{filling, fill_start, fill_end, fill-good, fill-bad}
-use Rattle.arc_sections.proofs.Slots.{slots_read, slots-refused}
+use Rattle.arc_sections.proofs.Fill.{filling, fill_start, fill_end, fill_good, fill_bad}
+use Rattle.arc_sections.proofs.Slots.{slots_read, slots_refused}
 use Rattle.arc_sections.proofs.fill_labels.Statement.{statement}
 use Rattle.arc_sections.proofs.fill_labels.Tie as tie
 
@@ -18,7 +18,7 @@ abbrev invariant-loop : tie.invariant-loop
 invariant-loop s start count labels₀ at₀ floor₀ i₀ labels at floor i =
     (i ≤ count)
     × (at ≡ start + 16 * i)
-    × (labels_from s start count ≡ filling count labels i (records labelKind s (count - i) at floor))
+    × (labels_from s start count ≡ filling count labels i (records label_kind s (count - i) at floor))
 
 abbrev decreases-loop : tie.decreases-loop
 decreases-loop s start count labels₀ at₀ floor₀ i₀ labels at floor i = count - i
@@ -28,7 +28,7 @@ no-labels-requires c κs = search rules
 
 loop-holds : tie.Need-loop-init invariant-loop decreases-loop
 unfolding labels_from
-loop-holds c = (search rules, search rules, rw c.no-labels.ensures (fill_start labelKind _ _ 50 _ no_label c.before.before.requires.1))
+loop-holds c = (search rules, search rules, rw c.no-labels.ensures (fill_start label_kind _ _ 50 _ no_label c.before.before.requires.1))
 
 read-label-requires : tie.Need-read-label-requires invariant-loop decreases-loop
 read-label-requires c κs = search rules
@@ -59,17 +59,17 @@ loop-again c = (
   search rules,
   search rules,
   c.before.before.before.before.before.before.loop.invariant.2
-      ∙ rw c.after-label.ensures (fill-good labelKind _ _ _ _ _ _ (omega arith) _ (sym c.before.before.before.before.read-label.ensures ∙ ap toldLabel c.before.before.l.given.1)),
+      ∙ rw c.after-label.ensures (fill_good label_kind _ _ _ _ _ _ (omega arith) _ (sym c.before.before.before.before.read-label.ensures ∙ ap told_label c.before.before.l.given.1)),
 )
 
 enum-known-r : tie.Need-enum-known-r invariant-loop decreases-loop
 enum-known-r c = search rules
 
 returns : tie.Need-returns invariant-loop decreases-loop
-returns c = slots-refused _ _ refl ∙ sym (c.before.before.before.before.before.loop.invariant.2 ∙ fill-bad labelKind _ _ _ _ _ _ (omega arith) _ _ (sym c.before.before.before.read-label.ensures ∙ ap toldLabel c.before.r.given.1))
+returns c = slots_refused _ _ refl ∙ sym (c.before.before.before.before.before.loop.invariant.2 ∙ fill_bad label_kind _ _ _ _ _ _ (omega arith) _ _ (sym c.before.before.before.read-label.ensures ∙ ap told_label c.before.r.given.1))
 
 returns-2 : tie.Need-returns-2 invariant-loop decreases-loop
-returns-2 c = slots_read _ _ refl ∙ sym (c.before.loop.invariant.2 ∙ fill_end labelKind _ _ _ _ _ _ (omega arith))
+returns-2 c = slots_read _ _ refl ∙ sym (c.before.loop.invariant.2 ∙ fill_end label_kind _ _ _ _ _ _ (omega arith))
 
 pub fill-labels-spec : {M : Type 1} → statement M
 fill-labels-spec =

@@ -4,13 +4,13 @@ use borrow.Author.Rules.{rules}
 use native.Mathlib.Omega.{arith}
 use Prim.Native.Nat.{◌+◌, ◌-◌, ◌*◌, ◌≤◌}
 use mathlib.Core.Path.{◌≡◌, refl, sym, ap, ◌∙◌}
-use Rattle.arc_limits.specs.Limits.{noStation}
+use Rattle.arc_limits.specs.Limits.{no_station}
 use Rattle.byte_section.specs.Section.{records}
-use Rattle.arc_kinds.specs.Kinds.{stationKind}
-use Rattle.arc_kinds.specs.Told.{toldStation}
-use Rattle.arc_sections.specs.Sections.{stationsFrom}
-use Rattle.arc_sections.proofs.Fill.{filling, fill_start, fill_end, fill-good, fill-bad}
-use Rattle.arc_sections.proofs.Slots.{slots_read, slots-refused}
+use Rattle.arc_kinds.specs.Kinds.{station_kind}
+use Rattle.arc_kinds.specs.Told.{told_station}
+use Rattle.arc_sections.specs.Sections.{stations_from}
+use Rattle.arc_sections.proofs.Fill.{filling, fill_start, fill_end, fill_good, fill_bad}
+use Rattle.arc_sections.proofs.Slots.{slots_read, slots_refused}
 use Rattle.arc_sections.proofs.fill_stations.Statement.{statement}
 use Rattle.arc_sections.proofs.fill_stations.Tie as tie
 
@@ -18,7 +18,7 @@ abbrev invariant-loop : tie.invariant-loop
 invariant-loop s start count listed₀ at₀ floor₀ i₀ listed at floor i =
     (i ≤ count)
     × (at ≡ start + 8 * i)
-    × (stationsFrom s start count ≡ filling count listed i (records stationKind s (count - i) at floor))
+    × (stations_from s start count ≡ filling count listed i (records station_kind s (count - i) at floor))
 
 abbrev decreases-loop : tie.decreases-loop
 decreases-loop s start count listed₀ at₀ floor₀ i₀ listed at floor i = count - i
@@ -27,8 +27,8 @@ no-stations-requires : tie.Need-no-stations-requires invariant-loop decreases-lo
 no-stations-requires c κs = search rules
 
 loop-holds : tie.Need-loop-init invariant-loop decreases-loop
-unfolding stationsFrom
-loop-holds c = (search rules, search rules, rw c.no-stations.ensures (fill_start stationKind _ _ 16 _ noStation c.before.before.requires.1))
+unfolding stations_from
+loop-holds c = (search rules, search rules, rw c.no-stations.ensures (fill_start station_kind _ _ 16 _ no_station c.before.before.requires.1))
 
 read-station-requires : tie.Need-read-station-requires invariant-loop decreases-loop
 read-station-requires c κs = search rules
@@ -59,17 +59,17 @@ loop-again c = (
   search rules,
   search rules,
   c.before.before.before.before.before.before.loop.invariant.2
-      ∙ rw c.after-station.ensures (fill-good stationKind _ _ _ _ _ _ (omega arith) _ (sym c.before.before.before.before.read-station.ensures ∙ ap toldStation c.before.before.t.given.1)),
+      ∙ rw c.after-station.ensures (fill_good station_kind _ _ _ _ _ _ (omega arith) _ (sym c.before.before.before.before.read-station.ensures ∙ ap told_station c.before.before.t.given.1)),
 )
 
 enum-known-r : tie.Need-enum-known-r invariant-loop decreases-loop
 enum-known-r c = search rules
 
 returns : tie.Need-returns invariant-loop decreases-loop
-returns c = slots-refused _ _ refl ∙ sym (c.before.before.before.before.before.loop.invariant.2 ∙ fill-bad stationKind _ _ _ _ _ _ (omega arith) _ _ (sym c.before.before.before.read-station.ensures ∙ ap toldStation c.before.r.given.1))
+returns c = slots_refused _ _ refl ∙ sym (c.before.before.before.before.before.loop.invariant.2 ∙ fill_bad station_kind _ _ _ _ _ _ (omega arith) _ _ (sym c.before.before.before.read-station.ensures ∙ ap told_station c.before.r.given.1))
 
 returns-2 : tie.Need-returns-2 invariant-loop decreases-loop
-returns-2 c = slots_read _ _ refl ∙ sym (c.before.loop.invariant.2 ∙ fill_end stationKind _ _ _ _ _ _ (omega arith))
+returns-2 c = slots_read _ _ refl ∙ sym (c.before.loop.invariant.2 ∙ fill_end station_kind _ _ _ _ _ _ (omega arith))
 
 pub fill-stations-spec : {M : Type 1} → statement M
 fill-stations-spec =

@@ -2,8 +2,8 @@
 -- Assumes nothing.
 use mathlib.Core.Path.{sym, ◌∙◌, ap}
 use lib.ListN.{length-map}
-use Rattle.byte_section.specs.Told.{toldWrite}
-use Rattle.arc_write.proofs.Answers.{writable, left-kept, left-written}
+use Rattle.byte_section.specs.Told.{told_write}
+use Rattle.arc_write.proofs.Answers.{writable, left_kept, left_written}
 use borrow.Author.Rules.{rules}
 use Rattle.arc_write.proofs.write.Statement.{statement}
 use Rattle.arc_write.proofs.write.Tie as tie
@@ -22,19 +22,19 @@ put-arc-requires c κs =
     let start = c.before.before.before.before.before.before.before in
     let labels = simp length-map at start.well-formed.0.1.1.1.1.1.0.1.0.1 in
     let listed = simp length-map at start.well-formed.0.1.1.1.1.1.1.0.1.0.1 in
-    writable _ _ _ labels listed (sym c.before.before.before.before.judge.ensures ∙ ap toldWrite c.before.before.n.given.1)
+    writable _ _ _ labels listed (sym c.before.before.before.before.judge.ensures ∙ ap told_write c.before.before.n.given.1)
 
 returns : tie.Need-returns
 returns c =
-    let e = sym c.before.before.before.judge.ensures ∙ ap toldWrite c.before.refusal.given.1 in (sym e, left-kept _ _ _ e)
+    let e = sym c.before.before.before.judge.ensures ∙ ap told_write c.before.refusal.given.1 in (sym e, left_kept _ _ _ e)
 
 same_length : tie.Need-same-length
 same_length c = search rules
 
 returns-2 : tie.Need-returns-2
 returns-2 c =
-    let e = sym c.before.before.before.before.before.before.before.judge.ensures ∙ ap toldWrite c.before.before.before.before.before.n.given.1 in
-    (sym e, c.before.before.put-arc.ensures ∙ left-written _ _ _ e)
+    let e = sym c.before.before.before.before.before.before.before.judge.ensures ∙ ap told_write c.before.before.before.before.before.n.given.1 in
+    (sym e, c.before.before.put-arc.ensures ∙ left_written _ _ _ e)
 
 pub write_spec : {M : Type 1} → statement M
 write_spec =

@@ -4,7 +4,7 @@ use native.Mathlib.Omega.{arith}
 use mathlib.Core.Path.{◌≡◌}
 use Prim.Native.Nat.{◌≤◌, ◌<◌, ◌+◌, ◌-◌, ◌^◌}
 use Rattle.byte_words.specs.Words.{word}
-use Rattle.byte_words.proofs.Words.{read_none, read-turn, read_all, pow-256}
+use Rattle.byte_words.proofs.Words.{read_none, read_turn, read_all, pow_256}
 use Rattle.byte_read.proofs.number.Statement.{statement}
 use Rattle.byte_read.proofs.number.Tie as tie
 
@@ -17,7 +17,7 @@ decreases-loop s at k v₀ i₀ v i = i
 room : (c : tie.In-loop invariant-loop decreases-loop) → c.before.loop.v < 256 ^ 7
 room c =
     let a = c.before.before.before.args in
-    omega (arith, pow-256 (a.k - c.before.loop.i) 7 (omega arith))
+    omega (arith, pow_256 (a.k - c.before.loop.i) 7 (omega arith))
 
 loop-holds : tie.Need-loop-init invariant-loop decreases-loop
 loop-holds c = read_none c.before.args.s.now c.before.args.at c.before.args.k
@@ -41,7 +41,7 @@ loop-again : tie.Need-loop-preserved invariant-loop decreases-loop
 loop-again c =
     let l = c.before.before.loop in
     let a = c.before.before.before.before.args in
-    read-turn a.s.now a.at a.k l.v l.i c.byte.result (omega arith) (omega arith) l.invariant.1.0 l.invariant.1.1 c.byte.ensures.0 c.byte.ensures.1
+    read_turn a.s.now a.at a.k l.v l.i c.byte.result (omega arith) (omega arith) l.invariant.1.0 l.invariant.1.1 c.byte.ensures.0 c.byte.ensures.1
 
 returns : tie.Need-returns invariant-loop decreases-loop
 returns c =

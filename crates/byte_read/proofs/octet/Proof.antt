@@ -5,7 +5,7 @@ use native.Mathlib.Omega.{arith}
 use mathlib.Core.Path.{◌≡◌}
 use Prim.Native.Nat.{◌+◌, ◌*◌}
 use Rattle.byte_words.specs.Words.{word}
-use Rattle.byte_words.proofs.Words.{word-join}
+use Rattle.byte_words.proofs.Words.{word_join}
 use Rattle.byte_read.proofs.octet.Statement.{statement}
 use Rattle.byte_read.proofs.octet.Tie as tie
 
@@ -27,7 +27,7 @@ add-result c = search rules
 returns : tie.Need-returns
 returns c =
     let a = c.before.before.before.args in
-    let halves : word 8 a.s.now a.at ≡ word 4 a.s.now a.at + 4294967296 * word 4 a.s.now (a.at + 4) = word-join 4 4 a.s.now a.at in
+    let halves : word 8 a.s.now a.at ≡ word 4 a.s.now a.at + 4294967296 * word 4 a.s.now (a.at + 4) = word_join 4 4 a.s.now a.at in
     omega arith
 
 pub octet-spec : {M : Type 1} → statement M

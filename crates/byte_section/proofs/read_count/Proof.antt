@@ -6,8 +6,8 @@ use mathlib.Core.Path.{refl, ap, sym, ◌∙◌}
 use Prim.Native.Nat.{ℕ}
 use Rattle.num_whole.specs.Answer.{good}
 use Rattle.num_whole.specs.Tests.{between}
-use Rattle.num_whole.proofs.Cases.{yes, no, is-less, not-less}
-use Rattle.byte_section.specs.Section.{countAt}
+use Rattle.num_whole.proofs.Cases.{yes, no, is_less, not_less}
+use Rattle.byte_section.specs.Section.{count_at}
 use Rattle.byte_section.proofs.read_count.Statement.{statement}
 use Rattle.byte_section.proofs.read_count.Tie as tie
 
@@ -15,8 +15,8 @@ left-requires : tie.Need-left-requires
 left-requires c κs = search rules
 
 returns : tie.Need-returns
-unfolding countAt
-returns c = yes _ _ _ (is-less _ _ (omega arith)) refl
+unfolding count_at
+returns c = yes _ _ _ (is_less _ _ (omega arith)) refl
 
 read-u32-requires : tie.Need-read-u32-requires
 read-u32-requires c κs = search rules
@@ -31,18 +31,18 @@ cast-t16 : tie.Need-overflow-cast-t16
 cast-t16 c = search rules
 
 returns-2 : tie.Need-returns-2
-unfolding countAt
+unfolding count_at
 returns-2 c =
     let low = c.before.before.before.before.before.before.args.low in
     let high = c.before.before.before.before.before.before.args.high in
-    no _ _ _ (not-less _ _ (omega arith)) (yes _ _ _ (sym (c.before.within.ensures ∙ ap (λ (n : ℕ). between low n high) c.before.before.read_u32.ensures) ∙ c.if2.true) (ap good c.before.before.read_u32.ensures))
+    no _ _ _ (not_less _ _ (omega arith)) (yes _ _ _ (sym (c.before.within.ensures ∙ ap (λ (n : ℕ). between low n high) c.before.before.read_u32.ensures) ∙ c.if2.true) (ap good c.before.before.read_u32.ensures))
 
 returns-3 : tie.Need-returns-3
-unfolding countAt
+unfolding count_at
 returns-3 c =
     let low = c.before.before.before.before.before.before.args.low in
     let high = c.before.before.before.before.before.before.args.high in
-    no _ _ _ (not-less _ _ (omega arith)) (no _ _ _ (sym (c.before.within.ensures ∙ ap (λ (n : ℕ). between low n high) c.before.before.read_u32.ensures) ∙ c.if2.false) refl)
+    no _ _ _ (not_less _ _ (omega arith)) (no _ _ _ (sym (c.before.within.ensures ∙ ap (λ (n : ℕ). between low n high) c.before.before.read_u32.ensures) ∙ c.if2.false) refl)
 
 pub read-count-spec : {M : Type 1} → statement M
 read-count-spec =

@@ -5,7 +5,7 @@ use mathlib.Core.Path.{ap, ◌∙◌}
 use mir.Syntax.{w16}
 use mir.Val.{to_z}
 use mir.ValLaws.{to_z-of_z}
-use Rattle.byte_words.specs.Words.{signedWord}
+use Rattle.byte_words.specs.Words.{signed_word}
 use Rattle.byte_signed.proofs.read_i16.Statement.{statement}
 use Rattle.byte_signed.proofs.read_i16.Tie as tie
 
@@ -16,7 +16,7 @@ signed16-requires : tie.Need-signed16-requires
 signed16-requires c κs = search rules
 
 returns : tie.Need-returns
-unfolding signedWord
+unfolding signed_word
 returns c = to_z-of_z w16 c.signed16.result (search rules) ∙ c.signed16.ensures ∙ ap (to_z w16) c.before.read-u16.ensures
 
 pub read-i16-spec : {M : Type 1} → statement M

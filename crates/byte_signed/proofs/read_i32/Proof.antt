@@ -5,7 +5,7 @@ use mathlib.Core.Path.{ap, ◌∙◌}
 use mir.Syntax.{w32}
 use mir.Val.{to_z}
 use mir.ValLaws.{to_z-of_z}
-use Rattle.byte_words.specs.Words.{signedWord}
+use Rattle.byte_words.specs.Words.{signed_word}
 use Rattle.byte_signed.proofs.read_i32.Statement.{statement}
 use Rattle.byte_signed.proofs.read_i32.Tie as tie
 
@@ -16,7 +16,7 @@ signed32-requires : tie.Need-signed32-requires
 signed32-requires c κs = search rules
 
 returns : tie.Need-returns
-unfolding signedWord
+unfolding signed_word
 returns c = to_z-of_z w32 c.signed32.result (search rules) ∙ c.signed32.ensures ∙ ap (to_z w32) c.before.read_u32.ensures
 
 pub read-i32-spec : {M : Type 1} → statement M

@@ -5,7 +5,7 @@ use mathlib.Core.Path.{ap, ◌∙◌}
 use mir.Syntax.{w64}
 use mir.Val.{to_z}
 use mir.ValLaws.{to_z-of_z}
-use Rattle.byte_words.specs.Words.{signedWord}
+use Rattle.byte_words.specs.Words.{signed_word}
 use Rattle.byte_signed.proofs.read_i64.Statement.{statement}
 use Rattle.byte_signed.proofs.read_i64.Tie as tie
 
@@ -16,7 +16,7 @@ signed64-requires : tie.Need-signed64-requires
 signed64-requires c κs = search rules
 
 returns : tie.Need-returns
-unfolding signedWord
+unfolding signed_word
 returns c = to_z-of_z w64 c.signed64.result (search rules) ∙ c.signed64.ensures ∙ ap (to_z w64) c.before.read_u64.ensures
 
 pub read-i64-spec : {M : Type 1} → statement M

@@ -5,7 +5,7 @@ use mathlib.Core.Path.{ap, ◌∙◌}
 use mir.Syntax.{w32}
 use mir.Val.{of_z}
 use mir.ValLaws.{to_z-of_z}
-use Rattle.byte_words.specs.Words.{lay, bytes_of, signedBytes}
+use Rattle.byte_words.specs.Words.{lay, bytes_of, signed_bytes}
 use Rattle.byte_signed.proofs.write_i32.Statement.{statement}
 use Rattle.byte_signed.proofs.write_i32.Tie as tie
 
@@ -19,7 +19,7 @@ same_length : tie.Need-same-length
 same_length c = search rules
 
 returns : tie.Need-returns
-unfolding signedBytes
+unfolding signed_bytes
 returns c =
     let a = c.before.before.before.before.before.before in
     c.before.before.write-u32.ensures

@@ -6,7 +6,7 @@ use Prim.Native.Nat.{◌≤◌, ◌+◌, ◌-◌, ◌%◌}
 use native.Mathlib.Nat.{add-zero, sub-zero}
 use lib.ListN.{length, length-set}
 use Rattle.byte_words.specs.Words.{lay, bytes_of}
-use Rattle.byte_words.proofs.Words.{write-turn, write-end}
+use Rattle.byte_words.proofs.Words.{write_turn, write_end}
 use Rattle.byte_write.proofs.put.Statement.{statement}
 use Rattle.byte_write.proofs.put.Tie as tie
 
@@ -44,7 +44,7 @@ loop-again : tie.Need-loop-preserved invariant-loop decreases-loop
 loop-again c =
     let l = c.before.loop in
     let a = c.before.before.before.before.before.args in
-    (omega arith, (length-set l.s (a.at + l.i) (l.x % 256) ∙ l.invariant.1.0, sym (write-turn l.s a.at a.k l.x l.i (omega arith)) ∙ l.invariant.1.1))
+    (omega arith, (length-set l.s (a.at + l.i) (l.x % 256) ∙ l.invariant.1.0, sym (write_turn l.s a.at a.k l.x l.i (omega arith)) ∙ l.invariant.1.1))
 
 same_length : tie.Need-same-length invariant-loop decreases-loop
 same_length c = c.before.loop.invariant.1.0
@@ -53,7 +53,7 @@ returns : tie.Need-returns invariant-loop decreases-loop
 returns c =
     let l = c.before.loop in
     let a = c.before.before.before.before.before.args in
-    sym (write-end l.s a.at a.k l.x l.i (omega arith)) ∙ l.invariant.1.1
+    sym (write_end l.s a.at a.k l.x l.i (omega arith)) ∙ l.invariant.1.1
 
 pub put_spec : {M : Type 1} → statement M
 put_spec =

@@ -4,7 +4,7 @@ use borrow.Author.Rules.{rules}
 use mathlib.Core.Path.{ap, ◌∙◌}
 use Prim.Native.Nat.{◌+◌, ◌/◌}
 use Rattle.byte_words.specs.Words.{lay, bytes_of}
-use Rattle.byte_words.proofs.Words.{lay-two}
+use Rattle.byte_words.proofs.Words.{lay_two}
 use Rattle.byte_write.proofs.put_octet.Statement.{statement}
 use Rattle.byte_write.proofs.put_octet.Tie as tie
 
@@ -29,7 +29,7 @@ returns c =
     let a = (start-of-low c.before.before.before.before.before.before).args in
     c.before.before.put-quad2.ensures
     ∙ ap (λ m. lay m (a.at + 4) (bytes_of 4 (a.v / 4294967296))) c.before.before.before.before.before.before.put-quad.ensures
-    ∙ lay-two 4 4 a.s.now a.at a.v
+    ∙ lay_two 4 4 a.s.now a.at a.v
 
 pub put-octet-spec : {M : Type 1} → statement M
 put-octet-spec =

@@ -4,7 +4,7 @@ use borrow.Author.Rules.{rules}
 use mathlib.Core.Path.{ap, ◌∙◌}
 use Prim.Native.Nat.{◌+◌, ◌/◌}
 use Rattle.byte_words.specs.Words.{lay, bytes_of}
-use Rattle.byte_words.proofs.Words.{lay-two}
+use Rattle.byte_words.proofs.Words.{lay_two}
 use Rattle.byte_write.proofs.put_quad.Statement.{statement}
 use Rattle.byte_write.proofs.put_quad.Tie as tie
 
@@ -29,7 +29,7 @@ returns c =
     let a = (start-of-low c.before.before.before.before.before.before).args in
     c.before.before.put-pair2.ensures
     ∙ ap (λ m. lay m (a.at + 2) (bytes_of 2 (a.v / 65536))) c.before.before.before.before.before.before.put-pair.ensures
-    ∙ lay-two 2 2 a.s.now a.at a.v
+    ∙ lay_two 2 2 a.s.now a.at a.v
 
 pub put-quad-spec : {M : Type 1} → statement M
 put-quad-spec =

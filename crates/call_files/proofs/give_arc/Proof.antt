@@ -1,8 +1,8 @@
 -- `call_files::give_arc` meets its contract: the file's refusal, too little room, or the heading and the two numbers in their rooms.
 -- Assumes nothing.
 use mathlib.Core.Path.{sym, ap, ◌∙◌}
-use Rattle.byte_section.specs.Told.{toldAnswer}
-use Rattle.call_files.proofs.Rooms.{shown-good, shown-bad, read-refused, read_short, read_done}
+use Rattle.byte_section.specs.Told.{told_answer}
+use Rattle.call_files.proofs.Rooms.{shown_good, shown_bad_lem, read_refused, read_short, read_done}
 use borrow.Author.Rules.{rules}
 use Rattle.call_files.proofs.give_arc.Statement.{statement}
 use Rattle.call_files.proofs.give_arc.Tie as tie
@@ -30,7 +30,7 @@ give-two-requires : tie.Need-give-two-requires
 give-two-requires c κs = search rules
 
 returns : tie.Need-returns
-returns c = read-refused _ _ _ _ (shown-bad _ (ap toldAnswer c.before.before.answer.given.1)) c.number.ensures
+returns c = read_refused _ _ _ _ (shown_bad_lem _ (ap told_answer c.before.before.answer.given.1)) c.number.ensures
 
 same_length : tie.Need-same-length
 same_length c = search rules
@@ -41,10 +41,10 @@ same-length-2 c = search rules
 returns-2 : tie.Need-returns-2
 returns-2 c =
     let heading = c.before.before.before.before.before.before in let roomy = roomy-of-heading heading in
-    read_done _ _ _ _ (shown-good _ (ap toldAnswer roomy.before.before.enum_told.given.1)) (sym roomy.before.is-roomy.ensures ∙ roomy.if1.taken) heading.put-heading.ensures c.before.before.give-two.ensures
+    read_done _ _ _ _ (shown_good _ (ap told_answer roomy.before.before.enum_told.given.1)) (sym roomy.before.is-roomy.ensures ∙ roomy.if1.taken) heading.put-heading.ensures c.before.before.give-two.ensures
 
 returns-3 : tie.Need-returns-3
-returns-3 c = read_short _ _ _ _ (shown-good _ (ap toldAnswer c.before.before.enum_told.given.1)) (sym c.before.is-roomy.ensures ∙ c.if1.false)
+returns-3 c = read_short _ _ _ _ (shown_good _ (ap told_answer c.before.before.enum_told.given.1)) (sym c.before.is-roomy.ensures ∙ c.if1.false)
 
 pub give-arc-spec : {M : Type 1} → statement M
 give-arc-spec =

@@ -2,8 +2,8 @@
 -- Assumes nothing.
 use mathlib.Core.Path.{ap}
 use Rattle.call_rooms.specs.Result.{one}
-use Rattle.call_rooms.proofs.Rooms.{on-given, on-refused}
-use Rattle.take_state.specs.State.{toldCarriers}
+use Rattle.call_rooms.proofs.Rooms.{on_given, on_refused}
+use Rattle.take_state.specs.State.{told_carriers}
 use borrow.Author.Rules.{rules}
 use Rattle.call_files.proofs.give_carriers.Statement.{statement}
 use Rattle.call_files.proofs.give_carriers.Tie as tie
@@ -25,10 +25,10 @@ same_length c = search rules
 
 returns : tie.Need-returns
 unfolding one
-returns c = on-given one _ _ _ (ap toldCarriers c.before.before.before.before.before.answer.given.1) c.before.before.give-one.ensures
+returns c = on_given one _ _ _ (ap told_carriers c.before.before.before.before.before.answer.given.1) c.before.before.give-one.ensures
 
 returns-2 : tie.Need-returns-2
-returns-2 c = on-refused one _ _ _ (ap toldCarriers c.before.before.answer2.given.1) c.number.ensures
+returns-2 c = on_refused one _ _ _ (ap told_carriers c.before.before.answer2.given.1) c.number.ensures
 
 pub give-carriers-spec : {M : Type 1} → statement M
 give-carriers-spec =

@@ -5,9 +5,9 @@ use mathlib.Core.Path.{ap}
 use native.Mathlib.Omega.{arith}
 use Rattle.refusal.proofs.Apart.{few}
 use Rattle.call_rooms.specs.Result.{one}
-use Rattle.call_rooms.proofs.Rooms.{on-given, on-refused}
-use Rattle.merge.specs.Files.{toldMerge}
-use Rattle.call_files.specs.Writing.{mergeCallNumber}
+use Rattle.call_rooms.proofs.Rooms.{on_given, on_refused}
+use Rattle.merge.specs.Files.{told_merge}
+use Rattle.call_files.specs.Writing.{merge_call_number}
 use borrow.Author.Rules.{rules}
 use Rattle.call_files.proofs.give_merged.Statement.{statement}
 use Rattle.call_files.proofs.give_merged.Tie as tie
@@ -46,20 +46,20 @@ same_length : tie.Need-same-length
 same_length c = search rules
 
 returns : tie.Need-returns
-unfolding one mergeCallNumber
-returns c = on-given one _ _ _ (ap (λ a. mergeCallNumber (toldMerge a)) c.before.before.before.before.before.answer.given.1) c.before.before.give-place.ensures
+unfolding one merge_call_number
+returns c = on_given one _ _ _ (ap (λ a. merge_call_number (told_merge a)) c.before.before.before.before.before.answer.given.1) c.before.before.give-place.ensures
 
 returns-2 : tie.Need-returns-2
-unfolding mergeCallNumber
-returns-2 c = on-refused one _ _ _ (ap (λ a. mergeCallNumber (toldMerge a)) c.before.before.answer2.given.1) (ap (λ k. 100 + k) c.number.ensures)
+unfolding merge_call_number
+returns-2 c = on_refused one _ _ _ (ap (λ a. merge_call_number (told_merge a)) c.before.before.answer2.given.1) (ap (λ k. 100 + k) c.number.ensures)
 
 returns-3 : tie.Need-returns-3
-unfolding mergeCallNumber
-returns-3 c = on-refused one _ _ _ (ap (λ a. mergeCallNumber (toldMerge a)) c.before.before.answer3.given.1) (ap (λ k. 200 + k) c.number2.ensures)
+unfolding merge_call_number
+returns-3 c = on_refused one _ _ _ (ap (λ a. merge_call_number (told_merge a)) c.before.before.answer3.given.1) (ap (λ k. 200 + k) c.number2.ensures)
 
 returns-4 : tie.Need-returns-4
-unfolding mergeCallNumber
-returns-4 c = on-refused one _ _ _ (ap (λ a. mergeCallNumber (toldMerge a)) c.before.before.answer4.given.1) c.number3.ensures
+unfolding merge_call_number
+returns-4 c = on_refused one _ _ _ (ap (λ a. merge_call_number (told_merge a)) c.before.before.answer4.given.1) c.number3.ensures
 
 pub give-merged-spec : {M : Type 1} → statement M
 give-merged-spec =

@@ -2,9 +2,9 @@
 -- Assumes nothing.
 use mathlib.Core.Path.{ap}
 use Rattle.call_rooms.specs.Result.{one}
-use Rattle.call_rooms.proofs.Rooms.{on-given, on-refused}
-use Rattle.norm_move.specs.Move.{toldMove}
-use Rattle.call_files.specs.Writing.{moveCallNumber}
+use Rattle.call_rooms.proofs.Rooms.{on_given, on_refused}
+use Rattle.norm_move.specs.Move.{told_move}
+use Rattle.call_files.specs.Writing.{move_call_number}
 use borrow.Author.Rules.{rules}
 use Rattle.call_files.proofs.give_moved.Statement.{statement}
 use Rattle.call_files.proofs.give_moved.Tie as tie
@@ -25,12 +25,12 @@ same_length : tie.Need-same-length
 same_length c = search rules
 
 returns : tie.Need-returns
-unfolding one moveCallNumber
-returns c = on-given one _ _ _ (ap (λ a. moveCallNumber (toldMove a)) c.before.before.before.before.before.answer.given.1) c.before.before.give-place.ensures
+unfolding one move_call_number
+returns c = on_given one _ _ _ (ap (λ a. move_call_number (told_move a)) c.before.before.before.before.before.answer.given.1) c.before.before.give-place.ensures
 
 returns-2 : tie.Need-returns-2
-unfolding moveCallNumber
-returns-2 c = on-refused one _ _ _ (ap (λ a. moveCallNumber (toldMove a)) c.before.before.answer2.given.1) c.number.ensures
+unfolding move_call_number
+returns-2 c = on_refused one _ _ _ (ap (λ a. move_call_number (told_move a)) c.before.before.answer2.given.1) c.number.ensures
 
 pub give-moved-spec : {M : Type 1} → statement M
 give-moved-spec =

@@ -3,9 +3,9 @@
 use mathlib.Core.Path.{ap}
 use Rattle.num_whole.specs.Tests.{pick}
 use Rattle.call_rooms.specs.Result.{one}
-use Rattle.call_rooms.proofs.Rooms.{on-given, on-refused}
-use Rattle.take_state.specs.State.{toldSight}
-use Rattle.call_files.specs.Taking.{seenNumbers}
+use Rattle.call_rooms.proofs.Rooms.{on_given, on_refused}
+use Rattle.take_state.specs.State.{told_sight}
+use Rattle.call_files.specs.Taking.{seen_numbers}
 use borrow.Author.Rules.{rules}
 use Rattle.call_files.proofs.give_sight.Statement.{statement}
 use Rattle.call_files.proofs.give_sight.Tie as tie
@@ -32,18 +32,18 @@ same_length : tie.Need-same-length
 same_length c = search rules
 
 returns : tie.Need-returns
-unfolding seenNumbers one pick
-returns c = on-given seenNumbers _ _ _ (ap toldSight c.before.before.before.before.enum_told.given.1) c.before.before.give-one.ensures
+unfolding seen_numbers one pick
+returns c = on_given seen_numbers _ _ _ (ap told_sight c.before.before.before.before.enum_told.given.1) c.before.before.give-one.ensures
 
 same-length-2 : tie.Need-same-length-2
 same-length-2 c = search rules
 
 returns-2 : tie.Need-returns-2
-unfolding seenNumbers one pick
-returns-2 c = on-given seenNumbers _ _ _ (ap toldSight c.before.before.before.before.enum-told2.given.1) c.before.before.give-one2.ensures
+unfolding seen_numbers one pick
+returns-2 c = on_given seen_numbers _ _ _ (ap told_sight c.before.before.before.before.enum-told2.given.1) c.before.before.give-one2.ensures
 
 returns-3 : tie.Need-returns-3
-returns-3 c = on-refused seenNumbers _ _ _ (ap toldSight c.before.before.answer.given.1) c.number.ensures
+returns-3 c = on_refused seen_numbers _ _ _ (ap told_sight c.before.before.answer.given.1) c.number.ensures
 
 pub give-sight-spec : {M : Type 1} → statement M
 give-sight-spec =

@@ -1,8 +1,8 @@
 -- `call_files::give_taken` meets its contract: the tally in its room, or the refusal.
 -- Assumes nothing.
 use mathlib.Core.Path.{ap}
-use Rattle.take_one.specs.Told.{toldTake}
-use Rattle.call_files.proofs.Rooms.{is-done, is-kept}
+use Rattle.take_one.specs.Told.{told_take}
+use Rattle.call_files.proofs.Rooms.{is_done, is_kept}
 use borrow.Author.Rules.{rules}
 use Rattle.call_files.proofs.give_taken.Statement.{statement}
 use Rattle.call_files.proofs.give_taken.Tie as tie
@@ -23,10 +23,10 @@ same_length : tie.Need-same-length
 same_length c = search rules
 
 returns : tie.Need-returns
-returns c = is-done _ _ _ (ap toldTake c.before.before.before.before.enum_told.given.1) c.before.before.put-tally.ensures
+returns c = is_done _ _ _ (ap told_take c.before.before.before.before.enum_told.given.1) c.before.before.put-tally.ensures
 
 returns-2 : tie.Need-returns-2
-returns-2 c = is-kept _ _ _ (ap toldTake c.before.before.answer.given.1) c.number.ensures
+returns-2 c = is_kept _ _ _ (ap told_take c.before.before.answer.given.1) c.number.ensures
 
 pub give-taken-spec : {M : Type 1} → statement M
 give-taken-spec =

@@ -1,8 +1,8 @@
 -- `call_files::read_number` meets its contract.
 -- Assumes nothing.
 use mathlib.Core.Path.{sym, ap, ◌∙◌}
-use Rattle.byte_section.specs.Told.{toldAnswer}
-use Rattle.call_files.specs.Reading.{judgedNumber}
+use Rattle.byte_section.specs.Told.{told_answer}
+use Rattle.call_files.specs.Reading.{judged_number}
 use borrow.Author.Rules.{rules}
 use Rattle.call_files.proofs.read_number.Statement.{statement}
 use Rattle.call_files.proofs.read_number.Tie as tie
@@ -17,12 +17,12 @@ enum_told : tie.Need-enum-told
 enum_told c = search rules
 
 returns : tie.Need-returns
-unfolding judgedNumber
-returns c = c.number.ensures ∙ sym (ap (λ a. judgedNumber (toldAnswer a)) c.before.before.answer.given.1)
+unfolding judged_number
+returns c = c.number.ensures ∙ sym (ap (λ a. judged_number (told_answer a)) c.before.before.answer.given.1)
 
 returns-2 : tie.Need-returns-2
-unfolding judgedNumber
-returns-2 c = sym (ap (λ a. judgedNumber (toldAnswer a)) c.enum_told.given.1)
+unfolding judged_number
+returns-2 c = sym (ap (λ a. judged_number (told_answer a)) c.enum_told.given.1)
 
 pub read-number-spec : {M : Type 1} → statement M
 read-number-spec =

@@ -4,8 +4,8 @@ use mathlib.Core.Path.{sym, ap, ◌∙◌}
 use native.Mathlib.Omega.{arith}
 use lib.ListN.{length}
 use Rattle.arc_put.specs.Bytes.{allowed}
-use Rattle.arc_write.specs.Write.{writeArc, arcLeftIn}
-use Rattle.call_files.proofs.Arcs.{arc-short, arc-many, arc-cut, arc-whole}
+use Rattle.arc_write.specs.Write.{write_arc, arc_left_in}
+use Rattle.call_files.proofs.Arcs.{arc_short, arc_many, arc_cut, arc_whole}
 use borrow.Author.Rules.{rules}
 use Rattle.call_files.proofs.write_arc.Statement.{statement}
 use Rattle.call_files.proofs.write_arc.Tie as tie
@@ -18,7 +18,7 @@ abbrev heading-of-has-heading : tie.After-has-heading → tie.After-heading-in
 heading-of-has-heading c = c.before.before.before
 
 returns : tie.Need-returns
-returns c = arc-short _ _ _ (omega arith)
+returns c = arc_short _ _ _ (omega arith)
 
 heading-in-requires : tie.Need-heading-in-requires
 heading-in-requires c κs = search rules
@@ -41,9 +41,9 @@ returns-2 c =
     let h = heading.heading-in.ensures in
     let counted = ap (λ k. allowed k a.run.now) (sym h) ∙ sym has-heading.before.before.is-allowed.ensures ∙ has-heading.before.if2.true in
     let there = sym has-heading.has-heading.ensures ∙ c.before.before.before.before.if3.true in
-    let put = arc-whole _ _ a.out.now (omega arith) counted there in (
-      c.before.before.write.ensures.0 ∙ ap (λ k. writeArc k a.run.now (length a.out.now)) h ∙ put.0,
-      c.before.before.write.ensures.1 ∙ ap (λ k. arcLeftIn k a.run.now a.out.now) h ∙ put.1,
+    let put = arc_whole _ _ a.out.now (omega arith) counted there in (
+      c.before.before.write.ensures.0 ∙ ap (λ k. write_arc k a.run.now (length a.out.now)) h ∙ put.0,
+      c.before.before.write.ensures.1 ∙ ap (λ k. arc_left_in k a.run.now a.out.now) h ∙ put.1,
     )
 
 returns-3 : tie.Need-returns-3
@@ -51,13 +51,13 @@ returns-3 c =
     let a = (start-of-heading (heading-of-has-heading c.before)).args in
     let h = c.before.before.before.before.heading-in.ensures in
     let counted = ap (λ k. allowed k a.run.now) (sym h) ∙ sym c.before.before.before.is-allowed.ensures ∙ c.before.before.if2.true in
-    arc-cut _ _ _ (omega arith) counted (sym c.before.has-heading.ensures ∙ c.if3.false)
+    arc_cut _ _ _ (omega arith) counted (sym c.before.has-heading.ensures ∙ c.if3.false)
 
 returns-4 : tie.Need-returns-4
 returns-4 c =
     let a = (start-of-heading c.before.before).args in
     let h = c.before.before.heading-in.ensures in
-    arc-many _ _ _ (omega arith) (ap (λ k. allowed k a.run.now) (sym h) ∙ sym c.before.is-allowed.ensures ∙ c.if2.false)
+    arc_many _ _ _ (omega arith) (ap (λ k. allowed k a.run.now) (sym h) ∙ sym c.before.is-allowed.ensures ∙ c.if2.false)
 
 pub write-arc-spec : {M : Type 1} → statement M
 write-arc-spec =

@@ -1,7 +1,7 @@
 -- `call_heading::has_heading` meets its contract.
 -- Assumes nothing.
-use Rattle.num_whole.proofs.Cases.{by-upTo}
-use Rattle.call_heading.specs.Lent.{hasHeading}
+use Rattle.num_whole.proofs.Cases.{by_up_to}
+use Rattle.call_heading.specs.Lent.{has_heading}
 use borrow.Author.Rules.{rules}
 use Rattle.call_heading.proofs.has_heading.Statement.{statement}
 use Rattle.call_heading.proofs.has_heading.Tie as tie
@@ -25,8 +25,8 @@ add-result-2 : tie.Need-overflow-add-result-2
 add-result-2 c = search rules
 
 returns : tie.Need-returns
-unfolding hasHeading
-returns c = rw (c.held2.ensures, c.before.held.ensures) (by-upTo _ _)
+unfolding has_heading
+returns c = rw (c.held2.ensures, c.before.held.ensures) (by_up_to _ _)
 
 pub has-heading-spec : {M : Type 1} → statement M
 has-heading-spec =

@@ -1,6 +1,6 @@
 -- `call_heading::heading_in` meets its contract: each part is what stands at its place.
 -- Assumes nothing.
-use Rattle.call_heading.specs.Lent.{headingIn}
+use Rattle.call_heading.specs.Lent.{heading_in}
 use borrow.Author.Rules.{rules}
 use Rattle.call_heading.proofs.heading_in.Statement.{statement}
 use Rattle.call_heading.proofs.heading_in.Tie as tie
@@ -39,14 +39,14 @@ cast-t7 : tie.Need-overflow-cast-t7
 cast-t7 c = search rules
 
 returns : tie.Need-returns
-unfolding headingIn
+unfolding heading_in
 returns c =
     rw (
       c.read-u162.ensures,
       c.before.read-u16.ensures,
       c.before.before.load-settings.ensures,
       c.before.before.before.stations-in.ensures,
-      c.before.before.before.before.labels_in.ensures,
+      c.before.before.before.before.labels_in_lem.ensures,
       c.before.before.before.before.before.held2.ensures,
       c.before.before.before.before.before.before.held.ensures,
     )

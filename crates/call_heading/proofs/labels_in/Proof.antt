@@ -8,11 +8,11 @@ use Rattle.arc_kinds.specs.Kinds.{label_at}
 use Rattle.arc_limits.specs.Limits.{no_label}
 use Rattle.num_whole.specs.Lists.{padded}
 use Rattle.byte_words.specs.Stands.{stands}
-use Rattle.byte_words.proofs.Stands.{put-end, put-turn}
+use Rattle.byte_words.proofs.Stands.{put_end, put_turn}
 use Rattle.call_tally.proofs.Loops.{fill_start}
 use borrow.Author.Rules.{rules}
-use Rattle.call_heading.proofs.labels_in.Statement.{statement}
-use Rattle.call_heading.proofs.labels_in.Tie as tie
+use Rattle.call_heading.proofs.labels_in_lem.Statement.{statement}
+use Rattle.call_heading.proofs.labels_in_lem.Tie as tie
 
 abbrev invariant-loop : tie.invariant-loop
 invariant-loop b n labels₀ at₀ i₀ labels at i =
@@ -43,10 +43,10 @@ loop-less : tie.Need-loop-smaller invariant-loop decreases-loop
 loop-less c = search rules
 
 loop-again : tie.Need-loop-preserved invariant-loop decreases-loop
-loop-again c = (search rules, search rules, rw c.load-label.ensures (sym (put-turn _ _ _ _ _ _ (omega arith)) ∙ c.before.before.loop.invariant.2))
+loop-again c = (search rules, search rules, rw c.load-label.ensures (sym (put_turn _ _ _ _ _ _ (omega arith)) ∙ c.before.before.loop.invariant.2))
 
 returns : tie.Need-returns invariant-loop decreases-loop
-returns c = sym (put-end _ _ _ _ _ _ (omega arith)) ∙ c.before.loop.invariant.2
+returns c = sym (put_end _ _ _ _ _ _ (omega arith)) ∙ c.before.loop.invariant.2
 
 pub labels-in-spec : {M : Type 1} → statement M
 labels-in-spec =

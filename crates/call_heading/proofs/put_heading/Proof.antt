@@ -2,7 +2,7 @@
 -- Assumes nothing.
 use native.Mathlib.Omega.{arith}
 use lib.ListN.{length-map}
-use Rattle.call_heading.proofs.Bytes.{heading-laid}
+use Rattle.call_heading.proofs.Bytes.{heading_laid}
 use borrow.Author.Rules.{rules}
 use Rattle.call_heading.proofs.put_heading.Statement.{statement}
 use Rattle.call_heading.proofs.put_heading.Tie as tie
@@ -42,8 +42,8 @@ returns c =
     let stations = c.before.before in
     let labels = stations.before.before.before.before in
     let stations-count = labels.before.before.before.before in
-    let labels-count = stations-count.before.before.before.before in
-    let settings = labels-count.before.before.before.before in
+    let labels_count = stations-count.before.before.before.before in
+    let settings = labels_count.before.before.before.before in
     let start = settings.before.before.before.before in
     let long = simp length-map at start.well-formed.0.1.1.1.1.1.0.1.0.1 in
     let listed = simp length-map at start.well-formed.0.1.1.1.1.1.1.0.1.0.1 in
@@ -51,10 +51,10 @@ returns c =
       stations.put-stations.ensures,
       labels.put-labels.ensures,
       stations-count.write-u162.ensures,
-      labels-count.write-u16.ensures,
+      labels_count.write-u16.ensures,
       settings.put-settings.ensures,
     )
-    (heading-laid start.args.h (omega (arith, start.requires)) (omega (arith, start.requires)) start.args.out.now)
+    (heading_laid start.args.h (omega (arith, start.requires)) (omega (arith, start.requires)) start.args.out.now)
 
 pub put-heading-spec : {M : Type 1} → statement M
 put-heading-spec =

@@ -4,11 +4,11 @@ use Prim.Native.Nat.{◌+◌, ◌-◌, ◌*◌, ◌≤◌}
 use native.Mathlib.Omega.{arith}
 use mathlib.Core.Path.{◌≡◌, sym, ◌∙◌}
 use lib.Seq.{sets}
-use Rattle.arc_kinds.specs.Kinds.{stationAt}
-use Rattle.arc_limits.specs.Limits.{noStation}
+use Rattle.arc_kinds.specs.Kinds.{station_at}
+use Rattle.arc_limits.specs.Limits.{no_station}
 use Rattle.num_whole.specs.Lists.{padded}
 use Rattle.byte_words.specs.Stands.{stands}
-use Rattle.byte_words.proofs.Stands.{put-end, put-turn}
+use Rattle.byte_words.proofs.Stands.{put_end, put_turn}
 use Rattle.call_tally.proofs.Loops.{fill_start}
 use borrow.Author.Rules.{rules}
 use Rattle.call_heading.proofs.stations_in.Statement.{statement}
@@ -16,13 +16,13 @@ use Rattle.call_heading.proofs.stations_in.Tie as tie
 
 abbrev invariant-loop : tie.invariant-loop
 invariant-loop b start n listed₀ at₀ i₀ listed at i =
-    (i ≤ n) × (at ≡ start + 8 * i) × (sets listed i (stands (stationAt b) 8 (n - i) at) ≡ padded 16 noStation (stands (stationAt b) 8 n start))
+    (i ≤ n) × (at ≡ start + 8 * i) × (sets listed i (stands (station_at b) 8 (n - i) at) ≡ padded 16 no_station (stands (station_at b) 8 n start))
 
 abbrev decreases-loop : tie.decreases-loop
 decreases-loop b start n listed₀ at₀ i₀ listed at i = n - i
 
 loop-holds : tie.Need-loop-init invariant-loop decreases-loop
-loop-holds c = (search rules, search rules, fill_start _ _ _ _ noStation 16 c.before.requires.1)
+loop-holds c = (search rules, search rules, fill_start _ _ _ _ no_station 16 c.before.requires.1)
 
 load-station-requires : tie.Need-load-station-requires invariant-loop decreases-loop
 load-station-requires c κs = search rules
@@ -43,10 +43,10 @@ loop-less : tie.Need-loop-smaller invariant-loop decreases-loop
 loop-less c = search rules
 
 loop-again : tie.Need-loop-preserved invariant-loop decreases-loop
-loop-again c = (search rules, search rules, rw c.load-station.ensures (sym (put-turn _ _ _ _ _ _ (omega arith)) ∙ c.before.before.loop.invariant.2))
+loop-again c = (search rules, search rules, rw c.load-station.ensures (sym (put_turn _ _ _ _ _ _ (omega arith)) ∙ c.before.before.loop.invariant.2))
 
 returns : tie.Need-returns invariant-loop decreases-loop
-returns c = sym (put-end _ _ _ _ _ _ (omega arith)) ∙ c.before.loop.invariant.2
+returns c = sym (put_end _ _ _ _ _ _ (omega arith)) ∙ c.before.loop.invariant.2
 
 pub stations-in-spec : {M : Type 1} → statement M
 stations-in-spec =

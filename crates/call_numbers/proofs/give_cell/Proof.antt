@@ -1,9 +1,9 @@
 -- `call_numbers::give_cell` meets its contract: the cell, or the refusal.
 -- Assumes nothing.
 use mathlib.Core.Path.{ap}
-use Rattle.call_rooms.proofs.Rooms.{on-given, on-refused}
-use Rattle.cells.specs.Cells.{toldCell}
-use Rattle.call_numbers.specs.Given.{cellNumbers}
+use Rattle.call_rooms.proofs.Rooms.{on_given, on_refused}
+use Rattle.cells.specs.Cells.{told_cell}
+use Rattle.call_numbers.specs.Given.{cell_numbers}
 use borrow.Author.Rules.{rules}
 use Rattle.call_numbers.proofs.give_cell.Statement.{statement}
 use Rattle.call_numbers.proofs.give_cell.Tie as tie
@@ -27,11 +27,11 @@ same_length : tie.Need-same-length
 same_length c = search rules
 
 returns : tie.Need-returns
-unfolding cellNumbers
-returns c = on-given cellNumbers _ _ _ (ap toldCell c.before.before.before.before.before.before.answer.given.1) (rw c.before.before.before.letter-number.ensures at c.before.before.give-three.ensures)
+unfolding cell_numbers
+returns c = on_given cell_numbers _ _ _ (ap told_cell c.before.before.before.before.before.before.answer.given.1) (rw c.before.before.before.letter-number.ensures at c.before.before.give-three.ensures)
 
 returns-2 : tie.Need-returns-2
-returns-2 c = on-refused cellNumbers _ _ _ (ap toldCell c.before.before.answer2.given.1) c.number.ensures
+returns-2 c = on_refused cell_numbers _ _ _ (ap told_cell c.before.before.answer2.given.1) c.number.ensures
 
 pub give-cell-spec : {M : Type 1} → statement M
 give-cell-spec =

@@ -1,9 +1,9 @@
 -- `call_numbers::give_date` meets its contract: the date, or the refusal.
 -- Assumes nothing.
 use mathlib.Core.Path.{ap}
-use Rattle.call_rooms.proofs.Rooms.{on-given, on-refused}
-use Rattle.days.specs.Calendar.{toldDate}
-use Rattle.call_numbers.specs.Given.{dateNumbers}
+use Rattle.call_rooms.proofs.Rooms.{on_given, on_refused}
+use Rattle.days.specs.Calendar.{told_date}
+use Rattle.call_numbers.specs.Given.{date_numbers}
 use borrow.Author.Rules.{rules}
 use Rattle.call_numbers.proofs.give_date.Statement.{statement}
 use Rattle.call_numbers.proofs.give_date.Tie as tie
@@ -24,11 +24,11 @@ same_length : tie.Need-same-length
 same_length c = search rules
 
 returns : tie.Need-returns
-unfolding dateNumbers
-returns c = on-given dateNumbers _ _ _ (ap toldDate c.before.before.before.before.before.answer.given.1) c.before.before.give-three.ensures
+unfolding date_numbers
+returns c = on_given date_numbers _ _ _ (ap told_date c.before.before.before.before.before.answer.given.1) c.before.before.give-three.ensures
 
 returns-2 : tie.Need-returns-2
-returns-2 c = on-refused dateNumbers _ _ _ (ap toldDate c.before.before.answer2.given.1) c.number.ensures
+returns-2 c = on_refused date_numbers _ _ _ (ap told_date c.before.before.answer2.given.1) c.number.ensures
 
 pub give-date-spec : {M : Type 1} → statement M
 give-date-spec =

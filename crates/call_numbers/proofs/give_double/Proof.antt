@@ -2,8 +2,8 @@
 -- Assumes nothing.
 use mathlib.Core.Path.{ap}
 use Rattle.call_rooms.specs.Result.{one}
-use Rattle.call_rooms.proofs.Rooms.{on-given, on-refused}
-use Rattle.unit_convert.specs.Units.{toldDouble}
+use Rattle.call_rooms.proofs.Rooms.{on_given, on_refused}
+use Rattle.unit_convert.specs.Units.{told_double}
 use borrow.Author.Rules.{rules}
 use Rattle.call_numbers.proofs.give_double.Statement.{statement}
 use Rattle.call_numbers.proofs.give_double.Tie as tie
@@ -25,10 +25,10 @@ same_length c = search rules
 
 returns : tie.Need-returns
 unfolding one
-returns c = on-given one _ _ _ (ap toldDouble c.before.before.before.before.before.answer.given.1) c.before.before.give-double.ensures
+returns c = on_given one _ _ _ (ap told_double c.before.before.before.before.before.answer.given.1) c.before.before.give-double.ensures
 
 returns-2 : tie.Need-returns-2
-returns-2 c = on-refused one _ _ _ (ap toldDouble c.before.before.answer2.given.1) c.number.ensures
+returns-2 c = on_refused one _ _ _ (ap told_double c.before.before.answer2.given.1) c.number.ensures
 
 pub give-double-spec : {M : Type 1} → statement M
 give-double-spec =

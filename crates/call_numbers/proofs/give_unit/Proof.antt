@@ -4,8 +4,8 @@ use mathlib.Core.Path.{ap}
 use mir.Syntax.{w64}
 use mir.ValLaws.{to_z-of_z}
 use Rattle.call_rooms.specs.Result.{one}
-use Rattle.call_rooms.proofs.Rooms.{on-given, on-refused}
-use Rattle.unit_convert.specs.Units.{toldUnit}
+use Rattle.call_rooms.proofs.Rooms.{on_given, on_refused}
+use Rattle.unit_convert.specs.Units.{told_unit}
 use borrow.Author.Rules.{rules}
 use Rattle.call_numbers.proofs.give_unit.Statement.{statement}
 use Rattle.call_numbers.proofs.give_unit.Tie as tie
@@ -29,10 +29,10 @@ returns : tie.Need-returns
 unfolding one
 returns c =
     let q = c.before.before.before.before.answer.given.0.0 in
-    on-given one _ _ q (ap toldUnit c.before.before.before.before.answer.given.1) (rw (to_z-of_z w64 q (search rules)) at c.before.give-unit.ensures)
+    on_given one _ _ q (ap told_unit c.before.before.before.before.answer.given.1) (rw (to_z-of_z w64 q (search rules)) at c.before.give-unit.ensures)
 
 returns-2 : tie.Need-returns-2
-returns-2 c = on-refused one _ _ _ (ap toldUnit c.before.before.answer2.given.1) c.number.ensures
+returns-2 c = on_refused one _ _ _ (ap told_unit c.before.before.answer2.given.1) c.number.ensures
 
 pub give-unit-spec : {M : Type 1} → statement M
 give-unit-spec =

@@ -1,8 +1,8 @@
 -- `call_numbers::residual_as` meets its contract: the residual of the reading, or the refusal of its type.
 -- Assumes nothing.
 use mathlib.Core.Path.{sym, ap, ◌∙◌}
-use Rattle.unit_measure.specs.Measures.{toldMeasurement}
-use Rattle.call_numbers.specs.Given.{residualAt, residualAs}
+use Rattle.unit_measure.specs.Measures.{told_measurement}
+use Rattle.call_numbers.specs.Given.{residual_at, residual_as}
 use borrow.Author.Rules.{rules}
 use Rattle.call_numbers.proofs.residual_as.Statement.{statement}
 use Rattle.call_numbers.proofs.residual_as.Tie as tie
@@ -20,14 +20,14 @@ enum-known-e : tie.Need-enum-known-e
 enum-known-e c = search rules
 
 returns : tie.Need-returns
-unfolding residualAs residualAt
+unfolding residual_as residual_at
 returns c =
-    let made = sym (ap toldMeasurement c.before.before.m.given.1) ∙ c.before.before.before.before.measured.ensures in
-    c.residual.ensures ∙ ap residualAt made
+    let made = sym (ap told_measurement c.before.before.m.given.1) ∙ c.before.before.before.before.measured.ensures in
+    c.residual.ensures ∙ ap residual_at made
 
 returns-2 : tie.Need-returns-2
-unfolding residualAs residualAt
-returns-2 c = ap residualAt (sym (ap toldMeasurement c.before.e.given.1) ∙ c.before.before.before.measured.ensures)
+unfolding residual_as residual_at
+returns-2 c = ap residual_at (sym (ap told_measurement c.before.e.given.1) ∙ c.before.before.before.measured.ensures)
 
 pub residual-as-spec : {M : Type 1} → statement M
 residual-as-spec =

@@ -2,8 +2,8 @@
 -- Assumes nothing.
 use mathlib.Core.Path.{sym, ap, ◌∙◌}
 use Rattle.num_whole.proofs.Cases.{both_first}
-use Rattle.refusal.specs.Told.{toldVerdict}
-use Rattle.call_part.proofs.Calls.{position-long, begin-short, begin-done, begin-kept}
+use Rattle.refusal.specs.Told.{told_verdict}
+use Rattle.call_part.proofs.Calls.{position_long_lem, begin_short, begin_done, begin_kept}
 use borrow.Author.Rules.{rules}
 use Rattle.call_part.proofs.begin.Statement.{statement}
 use Rattle.call_part.proofs.begin.Tie as tie
@@ -38,7 +38,7 @@ enum_told c = search rules
 
 put-position-requires : tie.Need-put-position-requires
 put-position-requires c κs = let begun = begun-of-sound c.before in
-    position-long _ (both_first _ _ (sym (state-of-begun begun).has-state.ensures ∙ begun.before.before.before.if1.taken))
+    position_long_lem _ (both_first _ _ (sym (state-of-begun begun).has-state.ensures ∙ begun.before.before.before.if1.taken))
 
 put-tally-requires : tie.Need-put-tally-requires
 put-tally-requires c κs = search rules
@@ -64,8 +64,8 @@ same-length-4 c = search rules
 returns : tie.Need-returns
 returns c = let tallied = c.before.before in let placed = placed-of-tallied tallied in let sound = sound-of-placed placed in let begun = begun-of-sound sound in
     let whole = sym (state-of-begun begun).has-state.ensures ∙ begun.before.before.before.if1.taken in
-    let told = sym (ap toldVerdict sound.enum_told.given.1) ∙ begun.begin.ensures.0 in
-    begin-done _ whole _ _ _ begun.begin.ensures.1.1 _ begun.begin.ensures.1.0 told placed.put-position.ensures tallied.put-tally.ensures
+    let told = sym (ap told_verdict sound.enum_told.given.1) ∙ begun.begin.ensures.0 in
+    begin_done _ whole _ _ _ begun.begin.ensures.1.1 _ begun.begin.ensures.1.0 told placed.put-position.ensures tallied.put-tally.ensures
 
 same-length-5 : tie.Need-same-length-5
 same-length-5 c = search rules
@@ -82,8 +82,8 @@ same-length-8 c = search rules
 returns-2 : tie.Need-returns-2
 returns-2 c = let refused = c.before.before in let begun = begun-of-refused refused in
     let whole = sym (state-of-begun begun).has-state.ensures ∙ begun.before.before.before.if1.taken in
-    let told = sym (ap toldVerdict refused.answer.given.1) ∙ begun.begin.ensures.0 in
-    begin-kept _ whole _ _ _ begun.begin.ensures.1.1 refused.answer.given.0.0 _ told c.number.ensures
+    let told = sym (ap told_verdict refused.answer.given.1) ∙ begun.begin.ensures.0 in
+    begin_kept _ whole _ _ _ begun.begin.ensures.1.1 refused.answer.given.0.0 _ told c.number.ensures
 
 same-length-9 : tie.Need-same-length-9
 same-length-9 c = search rules
@@ -92,7 +92,7 @@ same-length-10 : tie.Need-same-length-10
 same-length-10 c = search rules
 
 returns-3 : tie.Need-returns-3
-returns-3 c = begin-short _ (sym c.before.has-state.ensures ∙ c.if1.false)
+returns-3 c = begin_short _ (sym c.before.has-state.ensures ∙ c.if1.false)
 
 pub begin-spec : {M : Type 1} → statement M
 begin-spec =

@@ -1,9 +1,9 @@
 -- `call_part::finish` meets its contract: 20, or what the entry says, with the position put back.
 -- Assumes nothing.
 use mathlib.Core.Path.{sym, ap, ◌∙◌}
-use Rattle.part_laws.specs.Entries.{finishTold, finishPosition}
-use Rattle.call_told.specs.Told.{withAll}
-use Rattle.call_part.proofs.Calls.{place-long, finish-short, finish-done}
+use Rattle.part_laws.specs.Entries.{finish_told, finish_position}
+use Rattle.call_told.specs.Told.{with_all}
+use Rattle.call_part.proofs.Calls.{place_long, finish_short, finish_done}
 use borrow.Author.Rules.{rules}
 use Rattle.call_part.proofs.finish.Statement.{statement}
 use Rattle.call_part.proofs.finish.Tie as tie
@@ -35,11 +35,11 @@ with-all-requires c κs = search rules
 
 put-back-requires : tie.Need-put-back-requires
 put-back-requires c κs = let lent = lent-of-place (place-of-all c.before) in
-    (place-long _ _ (sym lent.before.is-lent.ensures ∙ lent.if1.taken)).0
+    (place_long _ _ (sym lent.before.is-lent.ensures ∙ lent.if1.taken)).0
 
 give-told-requires : tie.Need-give-told-requires
 give-told-requires c κs = let lent = lent-of-place (place-of-all (all-of-put c.before.before.before)) in
-    (place-long _ _ (sym lent.before.is-lent.ensures ∙ lent.if1.taken)).1
+    (place_long _ _ (sym lent.before.is-lent.ensures ∙ lent.if1.taken)).1
 
 same_length : tie.Need-same-length
 same_length c = search rules
@@ -51,16 +51,16 @@ returns : tie.Need-returns
 returns c = let told = c.before.before in let put = put-of-told told in let all = all-of-put put in let place = place-of-all all in let lent = lent-of-place place in
     let finish = all.before.before.finish in
     let p = place.position_in.ensures in
-    finish-done _ _ (sym lent.before.is-lent.ensures ∙ lent.if1.taken) _ _
-    (all.with_all.ensures ∙ ap (withAll place.position_in.result.taken) finish.ensures.0 ∙ ap (λ p. withAll p.taken (finishTold p)) p)
-    (finish.ensures.1 ∙ ap finishPosition p)
+    finish_done _ _ (sym lent.before.is-lent.ensures ∙ lent.if1.taken) _ _
+    (all.with_all.ensures ∙ ap (with_all place.position_in.result.taken) finish.ensures.0 ∙ ap (λ p. with_all p.taken (finish_told p)) p)
+    (finish.ensures.1 ∙ ap finish_position p)
     told.give-told.ensures.0 put.put_back.ensures told.give-told.ensures.1
 
 same-length-3 : tie.Need-same-length-3
 same-length-3 c = search rules
 
 returns-2 : tie.Need-returns-2
-returns-2 c = finish-short _ _ (sym c.before.is-lent.ensures ∙ c.if1.false)
+returns-2 c = finish_short _ _ (sym c.before.is-lent.ensures ∙ c.if1.false)
 
 pub finish_spec : {M : Type 1} → statement M
 finish_spec =

@@ -1,7 +1,7 @@
 -- `call_part::head_of` meets its contract: 6, or what the entry says.
 -- Assumes nothing.
 use mathlib.Core.Path.{refl, sym, ◌∙◌}
-use Rattle.call_part.proofs.Heads.{looked, looked-not}
+use Rattle.call_part.proofs.Heads.{looked, looked_not}
 use borrow.Author.Rules.{rules}
 use Rattle.call_part.proofs.head_of.Statement.{statement}
 use Rattle.call_part.proofs.head_of.Tie as tie
@@ -25,7 +25,7 @@ returns c =
 
 returns-2 : tie.Need-returns-2
 returns-2 c =
-    looked-not _ _ _ (sym c.before.before.is-marked.ensures ∙ c.before.if1.false) refl c.blank.ensures
+    looked_not _ _ _ (sym c.before.before.is-marked.ensures ∙ c.before.if1.false) refl c.blank.ensures
 
 pub head-of-spec : {M : Type 1} → statement M
 head-of-spec =

@@ -1,9 +1,9 @@
 -- `call_part::heading` meets its contract: 20, 6, 1, 20, or the heading in its room.
 -- Assumes nothing.
 use mathlib.Core.Path.{sym, ap, ◌∙◌}
-use Rattle.part_laws.specs.Entries.{toldPart}
-use Rattle.call_part.proofs.Calls.{place-long}
-use Rattle.call_part.proofs.Heads.{head-lacks, head-stopped, head-broken, head-given}
+use Rattle.part_laws.specs.Entries.{told_part}
+use Rattle.call_part.proofs.Calls.{place_long}
+use Rattle.call_part.proofs.Heads.{head_lacks, head_stopped, head_broken, head_given_lem}
 use borrow.Author.Rules.{rules}
 use Rattle.call_part.proofs.heading.Statement.{statement}
 use Rattle.call_part.proofs.heading.Tie as tie
@@ -42,7 +42,7 @@ enum_told c = search rules
 give-head-requires : tie.Need-give-head-requires
 give-head-requires c κs = let head = head-of-took c.before.before in let lent = lent-of-head head in
     let fits = head.head_of.ensures.1.1 in
-    (fits.0, fits.1, (place-long _ _ (sym lent.before.is-lent.ensures ∙ lent.if1.taken)).1)
+    (fits.0, fits.1, (place_long _ _ (sym lent.before.is-lent.ensures ∙ lent.if1.taken)).1)
 
 enum-known-answer : tie.Need-enum-known-answer
 enum-known-answer c = search rules
@@ -55,7 +55,7 @@ enum-known-answer-2 c = search rules
 
 give-told-requires : tie.Need-give-told-requires
 give-told-requires c κs = let lent = lent-of-head (head-of-broken c.before.before) in
-    (place-long _ _ (sym lent.before.is-lent.ensures ∙ lent.if1.taken)).1
+    (place_long _ _ (sym lent.before.is-lent.ensures ∙ lent.if1.taken)).1
 
 same_length : tie.Need-same-length
 same_length c = search rules
@@ -65,13 +65,13 @@ same-length-2 c = search rules
 
 returns : tie.Need-returns
 returns c = let given = c.before.before.before.before in let took = took-of-given given in let head = head-of-took took in let lent = lent-of-head head in
-    head-given _ _ _ (sym lent.before.is-lent.ensures ∙ lent.if1.taken) _ _ _
-    (sym (ap toldPart took.enum_told.given.1) ∙ head.head_of.ensures.0) head.head_of.ensures.1.0
+    head_given_lem _ _ _ (sym lent.before.is-lent.ensures ∙ lent.if1.taken) _ _ _
+    (sym (ap told_part took.enum_told.given.1) ∙ head.head_of.ensures.0) head.head_of.ensures.1.0
     (ap (λ p. p.taken) head.before.position_in.ensures) given.give-head.ensures
 
 returns-2 : tie.Need-returns-2
 returns-2 c = let stopped = c.before.before in let head = head-of-stopped stopped in let lent = lent-of-head head in
-    head-stopped _ _ _ (sym lent.before.is-lent.ensures ∙ lent.if1.taken) _ (sym (ap toldPart stopped.answer.given.1) ∙ head.head_of.ensures.0)
+    head_stopped _ _ _ (sym lent.before.is-lent.ensures ∙ lent.if1.taken) _ (sym (ap told_part stopped.answer.given.1) ∙ head.head_of.ensures.0)
     c.number.ensures
 
 same-length-3 : tie.Need-same-length-3
@@ -79,11 +79,11 @@ same-length-3 c = search rules
 
 returns-3 : tie.Need-returns-3
 returns-3 c = let told = c.before.before in let broken = broken-of-told told in let head = head-of-broken broken in let lent = lent-of-head head in
-    head-broken _ _ _ (sym lent.before.is-lent.ensures ∙ lent.if1.taken) _ _ _ (sym (ap toldPart broken.answer2.given.1) ∙ head.head_of.ensures.0)
+    head_broken _ _ _ (sym lent.before.is-lent.ensures ∙ lent.if1.taken) _ _ _ (sym (ap told_part broken.answer2.given.1) ∙ head.head_of.ensures.0)
     told.give-told.ensures
 
 returns-4 : tie.Need-returns-4
-returns-4 c = head-lacks _ _ _ (sym c.before.is-lent.ensures ∙ c.if1.false)
+returns-4 c = head_lacks _ _ _ (sym c.before.is-lent.ensures ∙ c.if1.false)
 
 pub heading-spec : {M : Type 1} → statement M
 heading-spec =

@@ -3,8 +3,8 @@
 use mathlib.Core.Path.{sym, ap₂, ◌∙◌}
 use lib.ListN.{length}
 use Rattle.take_state.specs.State.{state_of}
-use Rattle.part_laws.specs.Entries.{partTold, partPosition, partState, partAnswers}
-use Rattle.call_part.proofs.Calls.{state-long, part-short, part-done}
+use Rattle.part_laws.specs.Entries.{part_told, part_position, part_state, part_answers}
+use Rattle.call_part.proofs.Calls.{state_long, part_short, part_done}
 use borrow.Author.Rules.{rules}
 use Rattle.call_part.proofs.part.Statement.{statement}
 use Rattle.call_part.proofs.part.Tie as tie
@@ -45,7 +45,7 @@ part-requires c κs = search rules
 
 give-parted-requires : tie.Need-give-parted-requires
 give-parted-requires c κs = let place = place-of-tally (tally-of-part (part-of-lent c.before.before)) in
-    state-long _ _ _ (sym (rooms-of-place place).has-rooms.ensures ∙ place.before.before.if1.taken)
+    state_long _ _ _ (sym (rooms-of-place place).has-rooms.ensures ∙ place.before.before.if1.taken)
 
 same_length : tie.Need-same-length
 same_length c = search rules
@@ -72,11 +72,11 @@ returns c = let given = c.before.before.before.before.before.before in let part 
     let p = place.position_in.ensures in
     let t = tally.tally-in.ensures in
     let put = given.give-parted.ensures in
-    part-done _ _ _ _ lent _ _ _ _ _
-    (part.part.ensures.0 ∙ ap₂ (λ p t. partTold p (state_of a.matrix.now a.rights.now t) a.bytes.now (length a.answers.now)) p t)
-    (part.part.ensures.1.0 ∙ ap₂ (λ p t. partPosition p (state_of a.matrix.now a.rights.now t) a.bytes.now (length a.answers.now)) p t)
-    (part.part.ensures.1.1.0 ∙ ap₂ (λ p t. partState p (state_of a.matrix.now a.rights.now t) a.bytes.now (length a.answers.now)) p t)
-    (part.part.ensures.1.1.1 ∙ ap₂ (λ p t. partAnswers p (state_of a.matrix.now a.rights.now t) a.bytes.now a.answers.now) p t)
+    part_done _ _ _ _ lent _ _ _ _ _
+    (part.part.ensures.0 ∙ ap₂ (λ p t. part_told p (state_of a.matrix.now a.rights.now t) a.bytes.now (length a.answers.now)) p t)
+    (part.part.ensures.1.0 ∙ ap₂ (λ p t. part_position p (state_of a.matrix.now a.rights.now t) a.bytes.now (length a.answers.now)) p t)
+    (part.part.ensures.1.1.0 ∙ ap₂ (λ p t. part_state p (state_of a.matrix.now a.rights.now t) a.bytes.now (length a.answers.now)) p t)
+    (part.part.ensures.1.1.1 ∙ ap₂ (λ p t. part_answers p (state_of a.matrix.now a.rights.now t) a.bytes.now a.answers.now) p t)
     put.0 put.1.0 put.1.1.0 put.1.1.1
 
 same-length-7 : tie.Need-same-length-7
@@ -86,7 +86,7 @@ same-length-8 : tie.Need-same-length-8
 same-length-8 c = search rules
 
 returns-2 : tie.Need-returns-2
-returns-2 c = part-short _ _ _ _ (sym c.before.has-rooms.ensures ∙ c.if1.false)
+returns-2 c = part_short _ _ _ _ (sym c.before.has-rooms.ensures ∙ c.if1.false)
 
 pub part-spec : {M : Type 1} → statement M
 part-spec =

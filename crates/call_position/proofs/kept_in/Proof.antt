@@ -4,7 +4,7 @@ use native.Mathlib.Omega.{arith}
 use Prim.Native.Nat.{◌≤◌}
 use mathlib.Core.Path.{sym}
 use lib.Seq.{length-take-le}
-use Rattle.call_position.proofs.Bytes.{kept-laid}
+use Rattle.call_position.proofs.Bytes.{kept_laid}
 use borrow.Author.Rules.{rules}
 use Rattle.call_position.proofs.kept_in.Statement.{statement}
 use Rattle.call_position.proofs.kept_in.Tie as tie
@@ -22,7 +22,7 @@ put-run-requires : tie.Need-put-run-requires
 put-run-requires c κs = omega (arith, slice-aggregate-put-run c.before, c.before.before.least.ensures)
 
 returns : tie.Need-returns
-returns c = kept-laid _ _ _ c.before.before.before.before.least.ensures c.before.put-run.ensures
+returns c = kept_laid _ _ _ c.before.before.before.before.least.ensures c.before.put-run.ensures
 
 pub kept-in-spec : {M : Type 1} → statement M
 kept-in-spec =

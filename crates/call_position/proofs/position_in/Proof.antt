@@ -3,7 +3,7 @@
 use mathlib.Core.Path.{ap, ◌∙◌}
 use Rattle.num_whole.specs.Tests.{less}
 use Rattle.num_whole.proofs.Cases.{by_less}
-use Rattle.call_position.specs.Position.{positionIn}
+use Rattle.call_position.specs.Position.{position_in}
 use borrow.Author.Rules.{rules}
 use Rattle.call_position.proofs.position_in.Statement.{statement}
 use Rattle.call_position.proofs.position_in.Tie as tie
@@ -21,7 +21,7 @@ read-u64-requires-3 : tie.Need-read-u64-requires-3
 read-u64-requires-3 c κs = search rules
 
 returns : tie.Need-returns
-unfolding positionIn
+unfolding position_in
 returns c = let over = by_less 0 _ ∙ ap (less 0) c.read-u643.ensures in
     λ i. record { kept = c.before.before.before.kept_in.ensures i; length = c.before.before.read_u64.ensures i; taken = c.before.read-u642.ensures i; over = over i }
 

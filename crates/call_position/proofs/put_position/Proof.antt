@@ -1,6 +1,6 @@
 -- `call_position::put_position` meets its contract: its parts one after the other.
 -- Assumes nothing.
-use Rattle.call_position.proofs.Bytes.{position-put}
+use Rattle.call_position.proofs.Bytes.{position_put}
 use borrow.Author.Rules.{rules}
 use Rattle.call_position.proofs.put_position.Statement.{statement}
 use Rattle.call_position.proofs.put_position.Tie as tie
@@ -39,7 +39,7 @@ same_length c = search rules
 returns : tie.Need-returns
 returns c =
     let over = c.before.before in let taken = taken-of-over over in let length = length-of-taken taken in let kept = kept-of-length length in let a = (start-of-kept kept).args in
-    position-put a.p a.out.now kept.put-kept.ensures.1 kept.put-kept.ensures.0 length.write-u64.ensures taken.write-u642.ensures
+    position_put a.p a.out.now kept.put-kept.ensures.1 kept.put-kept.ensures.0 length.write-u64.ensures taken.write-u642.ensures
     over.before.flag.ensures over.write-u643.ensures
 
 pub put-position-spec : {M : Type 1} → statement M

@@ -6,8 +6,8 @@ use mathlib.Core.Path.{◌≡◌, sym, ◌∙◌}
 use lib.Seq.{sets}
 use Rattle.byte_words.specs.Words.{word}
 use Rattle.byte_words.specs.Stands.{stands}
-use Rattle.byte_words.proofs.Stands.{put-end, put-turn}
-use Rattle.call_tally.proofs.Loops.{fill-whole}
+use Rattle.byte_words.proofs.Stands.{put_end, put_turn}
+use Rattle.call_tally.proofs.Loops.{fill_whole}
 use borrow.Author.Rules.{rules}
 use Rattle.call_tally.proofs.counts_in.Statement.{statement}
 use Rattle.call_tally.proofs.counts_in.Tie as tie
@@ -20,7 +20,7 @@ abbrev decreases-loop : tie.decreases-loop
 decreases-loop b counts₀ at₀ i₀ counts at i = 16 - i
 
 loop-holds : tie.Need-loop-init invariant-loop decreases-loop
-loop-holds c = (search rules, search rules, fill-whole _ _ 16 _ 0)
+loop-holds c = (search rules, search rules, fill_whole _ _ 16 _ 0)
 
 read-u32-requires : tie.Need-read-u32-requires invariant-loop decreases-loop
 read-u32-requires c κs = search rules
@@ -41,10 +41,10 @@ loop-less : tie.Need-loop-smaller invariant-loop decreases-loop
 loop-less c = search rules
 
 loop-again : tie.Need-loop-preserved invariant-loop decreases-loop
-loop-again c = (search rules, search rules, rw c.read_u32.ensures (sym (put-turn _ _ _ _ _ _ (omega arith)) ∙ c.before.before.loop.invariant.2))
+loop-again c = (search rules, search rules, rw c.read_u32.ensures (sym (put_turn _ _ _ _ _ _ (omega arith)) ∙ c.before.before.loop.invariant.2))
 
 returns : tie.Need-returns invariant-loop decreases-loop
-returns c = sym (put-end _ _ _ _ _ _ (omega arith)) ∙ c.before.loop.invariant.2
+returns c = sym (put_end _ _ _ _ _ _ (omega arith)) ∙ c.before.loop.invariant.2
 
 pub counts-in-spec : {M : Type 1} → statement M
 counts-in-spec =

@@ -6,8 +6,8 @@ use mathlib.Core.Path.{◌≡◌, sym, ◌∙◌}
 use lib.Seq.{sets}
 use Rattle.byte_words.specs.Words.{word}
 use Rattle.byte_words.specs.Stands.{stands}
-use Rattle.byte_words.proofs.Stands.{put-end, put-turn}
-use Rattle.call_tally.proofs.Loops.{fill-whole}
+use Rattle.byte_words.proofs.Stands.{put_end, put_turn}
+use Rattle.call_tally.proofs.Loops.{fill_whole}
 use borrow.Author.Rules.{rules}
 use Rattle.call_tally.proofs.marks_in.Statement.{statement}
 use Rattle.call_tally.proofs.marks_in.Tie as tie
@@ -20,7 +20,7 @@ abbrev decreases-loop : tie.decreases-loop
 decreases-loop b marks₀ at₀ i₀ marks at i = 50 - i
 
 loop-holds : tie.Need-loop-init invariant-loop decreases-loop
-loop-holds c = (search rules, search rules, fill-whole _ _ 50 _ 0)
+loop-holds c = (search rules, search rules, fill_whole _ _ 50 _ 0)
 
 read-u16-requires : tie.Need-read-u16-requires invariant-loop decreases-loop
 read-u16-requires c κs = search rules
@@ -41,10 +41,10 @@ loop-less : tie.Need-loop-smaller invariant-loop decreases-loop
 loop-less c = search rules
 
 loop-again : tie.Need-loop-preserved invariant-loop decreases-loop
-loop-again c = (search rules, search rules, rw c.read-u16.ensures (sym (put-turn _ _ _ _ _ _ (omega arith)) ∙ c.before.before.loop.invariant.2))
+loop-again c = (search rules, search rules, rw c.read-u16.ensures (sym (put_turn _ _ _ _ _ _ (omega arith)) ∙ c.before.before.loop.invariant.2))
 
 returns : tie.Need-returns invariant-loop decreases-loop
-returns c = sym (put-end _ _ _ _ _ _ (omega arith)) ∙ c.before.loop.invariant.2
+returns c = sym (put_end _ _ _ _ _ _ (omega arith)) ∙ c.before.loop.invariant.2
 
 pub marks-in-spec : {M : Type 1} → statement M
 marks-in-spec =

@@ -6,9 +6,9 @@ use mathlib.Core.Path.{◌≡◌, refl, sym, ap, ◌∙◌}
 use lib.ListN.{length}
 use Rattle.num_whole.specs.Lists.{rest}
 use Rattle.byte_words.specs.Words.{lay, bytes_of}
-use Rattle.byte_words.proofs.Words.{length-lay, length-bytesOf}
+use Rattle.byte_words.proofs.Words.{length_lay, length_bytes_of}
 use Rattle.byte_section.specs.Section.{encoded}
-use Rattle.call_tally.proofs.Loops.{rest-whole, lay-end, lay-turn}
+use Rattle.call_tally.proofs.Loops.{rest_whole, lay_end, lay_turn}
 use borrow.Author.Rules.{rules}
 use Rattle.call_tally.proofs.put_counts.Statement.{statement}
 use Rattle.call_tally.proofs.put_counts.Tie as tie
@@ -27,7 +27,7 @@ decreases-loop out₀ counts at₀ i₀ out at i = 16 - i
 loop-holds : tie.Need-loop-init invariant-loop decreases-loop
 loop-holds c =
     let long : length c.before.args.t1 ≡ 16 = search rules in
-    (search rules, long, refl, omega arith, ap (λ l. lay c.before.args.out.now 8 (encoded (bytes_of 4) l)) (rest-whole _ 16 long))
+    (search rules, long, refl, omega arith, ap (λ l. lay c.before.args.out.now 8 (encoded (bytes_of 4) l)) (rest_whole _ 16 long))
 
 mul-write-u32 : tie.Need-overflow-mul-write-u32 invariant-loop decreases-loop
 mul-write-u32 c = search rules
@@ -53,16 +53,16 @@ loop-again c =
     let inv = c.before.before.before.before.before.loop.invariant in (
       search rules,
       search rules,
-      rw e (length-lay _ _ _ ∙ inv.2),
+      rw e (length_lay _ _ _ ∙ inv.2),
       search rules,
-      rw e (inv.4 ∙ lay-turn _ _ _ _ _ _ 0 4 (omega arith) (omega arith) (length-bytesOf 4 _)),
+      rw e (inv.4 ∙ lay_turn _ _ _ _ _ _ 0 4 (omega arith) (omega arith) (length_bytes_of 4 _)),
     )
 
 same_length : tie.Need-same-length invariant-loop decreases-loop
 same_length c = search rules
 
 returns : tie.Need-returns invariant-loop decreases-loop
-returns c = sym (c.before.loop.invariant.4 ∙ lay-end _ _ _ _ _ _ (omega arith))
+returns c = sym (c.before.loop.invariant.4 ∙ lay_end _ _ _ _ _ _ (omega arith))
 
 pub put-counts-spec : {M : Type 1} → statement M
 put-counts-spec =

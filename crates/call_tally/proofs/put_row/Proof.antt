@@ -6,10 +6,10 @@ use mathlib.Core.Path.{◌≡◌, refl, sym, ap, ◌∙◌}
 use lib.ListN.{length}
 use Rattle.num_whole.specs.Lists.{rest}
 use Rattle.byte_words.specs.Words.{lay, bytes_of}
-use Rattle.byte_words.proofs.Words.{length-lay, length-bytesOf}
+use Rattle.byte_words.proofs.Words.{length_lay, length_bytes_of}
 use Rattle.byte_section.specs.Section.{encoded}
-use Rattle.call_tally.specs.Tally.{rowBytes}
-use Rattle.call_tally.proofs.Loops.{rest-whole, lay-end, lay-turn}
+use Rattle.call_tally.specs.Tally.{row_bytes}
+use Rattle.call_tally.proofs.Loops.{rest_whole, lay_end, lay_turn}
 use borrow.Author.Rules.{rules}
 use Rattle.call_tally.proofs.put_row.Statement.{statement}
 use Rattle.call_tally.proofs.put_row.Tie as tie
@@ -28,7 +28,7 @@ decreases-loop out₀ start row at₀ i₀ out at i = 10 - i
 loop-holds : tie.Need-loop-init invariant-loop decreases-loop
 loop-holds c =
     let long : length c.before.args.t1.times ≡ 10 = search rules in
-    (search rules, long, refl, omega arith, ap (λ l. lay c.before.args.out.now c.before.args.start (encoded (bytes_of 8) l)) (rest-whole _ 10 long))
+    (search rules, long, refl, omega arith, ap (λ l. lay c.before.args.out.now c.before.args.start (encoded (bytes_of 8) l)) (rest_whole _ 10 long))
 
 mul-write-u64 : tie.Need-overflow-mul-write-u64 invariant-loop decreases-loop
 mul-write-u64 c = search rules
@@ -54,17 +54,17 @@ loop-again c =
     let inv = c.before.before.before.before.before.before.loop.invariant in (
       search rules,
       search rules,
-      rw e (length-lay _ _ _ ∙ inv.2),
+      rw e (length_lay _ _ _ ∙ inv.2),
       search rules,
-      rw e (inv.4 ∙ lay-turn _ _ _ _ _ _ 0 8 (omega arith) (omega arith) (length-bytesOf 8 _)),
+      rw e (inv.4 ∙ lay_turn _ _ _ _ _ _ 0 8 (omega arith) (omega arith) (length_bytes_of 8 _)),
     )
 
 same_length : tie.Need-same-length invariant-loop decreases-loop
 same_length c = search rules
 
 returns : tie.Need-returns invariant-loop decreases-loop
-unfolding rowBytes
-returns c = (sym (c.before.loop.invariant.4 ∙ lay-end _ _ _ _ _ _ (omega arith)), c.before.loop.invariant.1)
+unfolding row_bytes
+returns c = (sym (c.before.loop.invariant.4 ∙ lay_end _ _ _ _ _ _ (omega arith)), c.before.loop.invariant.1)
 
 pub put-row-spec : {M : Type 1} → statement M
 put-row-spec =

@@ -6,12 +6,12 @@ use mathlib.Core.Path.{◌≡◌, refl, sym, ap, ◌∙◌}
 use lib.ListN.{length, length-map}
 use Rattle.num_whole.specs.Lists.{rest}
 use Rattle.byte_words.specs.Words.{lay}
-use Rattle.byte_words.proofs.Words.{length-lay}
+use Rattle.byte_words.proofs.Words.{length_lay}
 use Rattle.byte_section.specs.Section.{encoded}
 use Rattle.take_tally.specs.Tally.{no_row}
-use Rattle.call_tally.specs.Tally.{rowBytes}
-use Rattle.call_tally.proofs.Bytes.{row-long}
-use Rattle.call_tally.proofs.Loops.{rest-whole, lay-end, lay-turn, long-end, long-turn}
+use Rattle.call_tally.specs.Tally.{row_bytes}
+use Rattle.call_tally.proofs.Bytes.{row_long}
+use Rattle.call_tally.proofs.Loops.{rest_whole, lay_end, lay_turn, long_end, long_turn}
 use borrow.Author.Rules.{rules}
 use Rattle.call_tally.proofs.put_rows.Statement.{statement}
 use Rattle.call_tally.proofs.put_rows.Tie as tie
@@ -22,8 +22,8 @@ invariant-loop out₀ t at₀ i₀ out at i =
     × (length t.rows ≡ 16)
     × (length out ≡ length out₀)
     × (at ≡ 72 + 80 * i)
-    × (lay out₀ 72 (encoded rowBytes t.rows) ≡ lay out at (encoded rowBytes (rest t.rows 16 i)))
-    × (length (encoded rowBytes t.rows) ≡ 80 * i + length (encoded rowBytes (rest t.rows 16 i)))
+    × (lay out₀ 72 (encoded row_bytes t.rows) ≡ lay out at (encoded row_bytes (rest t.rows 16 i)))
+    × (length (encoded row_bytes t.rows) ≡ 80 * i + length (encoded row_bytes (rest t.rows 16 i)))
 
 abbrev decreases-loop : tie.decreases-loop
 decreases-loop out₀ t at₀ i₀ out at i = 16 - i
@@ -31,9 +31,9 @@ decreases-loop out₀ t at₀ i₀ out at i = 16 - i
 loop-holds : tie.Need-loop-init invariant-loop decreases-loop
 loop-holds c =
     let long : length c.before.args.t1.rows ≡ 16 = simp length-map at c.before.well-formed.0.1.1.1.1.0.1.0.1 in
-    let bytes : length (encoded rowBytes c.before.args.t1.rows) ≡ length (encoded rowBytes (rest c.before.args.t1.rows 16 0)) =
-    ap (λ l. length (encoded rowBytes l)) (rest-whole _ 16 long) in
-    (search rules, long, refl, omega arith, ap (λ l. lay c.before.args.out.now 72 (encoded rowBytes l)) (rest-whole _ 16 long), omega (arith, bytes))
+    let bytes : length (encoded row_bytes c.before.args.t1.rows) ≡ length (encoded row_bytes (rest c.before.args.t1.rows 16 0)) =
+    ap (λ l. length (encoded row_bytes l)) (rest_whole _ 16 long) in
+    (search rules, long, refl, omega arith, ap (λ l. lay c.before.args.out.now 72 (encoded row_bytes l)) (rest_whole _ 16 long), omega (arith, bytes))
 
 mul-w : tie.Need-overflow-mul-w invariant-loop decreases-loop
 mul-w c = search rules
@@ -59,10 +59,10 @@ loop-again c =
     let inv = c.before.before.before.before.before.before.loop.invariant in (
       search rules,
       search rules,
-      rw e (length-lay _ _ _ ∙ inv.2),
+      rw e (length_lay _ _ _ ∙ inv.2),
       search rules,
-      rw e (inv.4 ∙ lay-turn _ _ _ _ _ _ no_row 80 (omega arith) (omega arith) (row-long _ c.before.before.put-row.ensures.1)),
-      long-turn rowBytes 80 _ _ _ _ inv.5 no_row (omega arith) (omega arith) (row-long _ c.before.before.put-row.ensures.1),
+      rw e (inv.4 ∙ lay_turn _ _ _ _ _ _ no_row 80 (omega arith) (omega arith) (row_long _ c.before.before.put-row.ensures.1)),
+      long_turn row_bytes 80 _ _ _ _ inv.5 no_row (omega arith) (omega arith) (row_long _ c.before.before.put-row.ensures.1),
     )
 
 same_length : tie.Need-same-length invariant-loop decreases-loop
@@ -71,8 +71,8 @@ same_length c = search rules
 returns : tie.Need-returns invariant-loop decreases-loop
 returns c =
     let inv = c.before.loop.invariant in (
-      sym (inv.4 ∙ lay-end _ _ _ _ _ _ (omega arith)),
-      long-end rowBytes 80 _ _ _ _ inv.5 (omega arith) ∙ omega arith,
+      sym (inv.4 ∙ lay_end _ _ _ _ _ _ (omega arith)),
+      long_end row_bytes 80 _ _ _ _ inv.5 (omega arith) ∙ omega arith,
     )
 
 pub put-rows-spec : {M : Type 1} → statement M

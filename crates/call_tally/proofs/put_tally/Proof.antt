@@ -1,7 +1,7 @@
 -- `call_tally::put_tally` meets its contract: each part is laid where the last one ends.
 -- Assumes nothing.
 use lib.ListN.{length-map}
-use Rattle.call_tally.proofs.Bytes.{tally-laid}
+use Rattle.call_tally.proofs.Bytes.{tally_laid}
 use borrow.Author.Rules.{rules}
 use Rattle.call_tally.proofs.put_tally.Statement.{statement}
 use Rattle.call_tally.proofs.put_tally.Tie as tie
@@ -29,7 +29,7 @@ returns c =
     let square = counts.before.before.before.before in
     let start = square.before.before.before.before.before in
     rw (marks.put-marks.ensures, rows.put-rows.ensures.0, counts.put-counts.ensures, square.write-u64.ensures)
-    (tally-laid start.args.t start.args.out.now (simp length-map at start.well-formed.0.1.1.1.0.1.0.1) rows.put-rows.ensures.1)
+    (tally_laid start.args.t start.args.out.now (simp length-map at start.well-formed.0.1.1.1.0.1.0.1) rows.put-rows.ensures.1)
 
 pub put-tally-spec : {M : Type 1} → statement M
 put-tally-spec =

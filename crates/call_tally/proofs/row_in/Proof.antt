@@ -5,10 +5,10 @@ use native.Mathlib.Omega.{arith}
 use mathlib.Core.Path.{◌≡◌, sym, ap, ◌∙◌}
 use lib.Seq.{sets}
 use Rattle.byte_words.specs.Words.{word}
-use Rattle.call_tally.specs.Tally.{timesRowAt}
+use Rattle.call_tally.specs.Tally.{times_row_at}
 use Rattle.byte_words.specs.Stands.{stands}
-use Rattle.byte_words.proofs.Stands.{put-end, put-turn}
-use Rattle.call_tally.proofs.Loops.{fill-whole}
+use Rattle.byte_words.proofs.Stands.{put_end, put_turn}
+use Rattle.call_tally.proofs.Loops.{fill_whole}
 use borrow.Author.Rules.{rules}
 use Rattle.call_tally.proofs.row_in.Statement.{statement}
 use Rattle.call_tally.proofs.row_in.Tie as tie
@@ -21,7 +21,7 @@ abbrev decreases-loop : tie.decreases-loop
 decreases-loop b start times₀ at₀ i₀ times at i = 10 - i
 
 loop-holds : tie.Need-loop-init invariant-loop decreases-loop
-loop-holds c = (search rules, search rules, fill-whole _ _ 10 _ 0)
+loop-holds c = (search rules, search rules, fill_whole _ _ 10 _ 0)
 
 read-u64-requires : tie.Need-read-u64-requires invariant-loop decreases-loop
 read-u64-requires c κs = search rules
@@ -42,11 +42,11 @@ loop-less : tie.Need-loop-smaller invariant-loop decreases-loop
 loop-less c = search rules
 
 loop-again : tie.Need-loop-preserved invariant-loop decreases-loop
-loop-again c = (search rules, search rules, rw c.read_u64.ensures (sym (put-turn _ _ _ _ _ _ (omega arith)) ∙ c.before.before.loop.invariant.2))
+loop-again c = (search rules, search rules, rw c.read_u64.ensures (sym (put_turn _ _ _ _ _ _ (omega arith)) ∙ c.before.before.loop.invariant.2))
 
 returns : tie.Need-returns invariant-loop decreases-loop
-unfolding timesRowAt
-returns c = ap (λ l. record { times = l }) (sym (put-end _ _ _ _ _ _ (omega arith)) ∙ c.before.loop.invariant.2)
+unfolding times_row_at
+returns c = ap (λ l. record { times = l }) (sym (put_end _ _ _ _ _ _ (omega arith)) ∙ c.before.loop.invariant.2)
 
 pub row-in-spec : {M : Type 1} → statement M
 row-in-spec =

@@ -1,6 +1,6 @@
 -- `call_tally::tally_in` meets its contract: each part is what stands at its place.
 -- Assumes nothing.
-use Rattle.call_tally.specs.Tally.{tallyIn}
+use Rattle.call_tally.specs.Tally.{tally_in}
 use borrow.Author.Rules.{rules}
 use Rattle.call_tally.proofs.tally_in.Statement.{statement}
 use Rattle.call_tally.proofs.tally_in.Tie as tie
@@ -18,7 +18,7 @@ read-u64-requires : tie.Need-read-u64-requires
 read-u64-requires c κs = search rules
 
 returns : tie.Need-returns
-unfolding tallyIn
+unfolding tally_in
 returns c =
     λ i.
     record {

@@ -1,8 +1,8 @@
 -- `call_told::give_head` meets its contract: 20, or the heading and the number in their rooms.
 -- Assumes nothing.
-use Rattle.num_whole.proofs.Cases.{is-upTo, not-upTo}
-use Rattle.call_told.specs.Told.{headRoomy}
-use Rattle.call_told.proofs.Told.{head-short, head-put}
+use Rattle.num_whole.proofs.Cases.{is_up_to, not_up_to}
+use Rattle.call_told.specs.Told.{head_roomy}
+use Rattle.call_told.proofs.Told.{head_short, head_put}
 use borrow.Author.Rules.{rules}
 use Rattle.call_told.proofs.give_head.Statement.{statement}
 use Rattle.call_told.proofs.give_head.Tie as tie
@@ -42,14 +42,14 @@ same-length-2 : tie.Need-same-length-2
 same-length-2 c = search rules
 
 returns : tie.Need-returns
-unfolding headRoomy
+unfolding head_roomy
 returns c =
     let put = put-of-given c.before.before in let roomy = roomy-of-put put in
-    head-put _ _ _ _ (is-upTo _ _ roomy.if1.taken) (start-of-roomy roomy).pre.2 put.put-heading.ensures c.before.before.give-two.ensures
+    head_put _ _ _ _ (is_up_to _ _ roomy.if1.taken) (start-of-roomy roomy).pre.2 put.put-heading.ensures c.before.before.give-two.ensures
 
 returns-2 : tie.Need-returns-2
-unfolding headRoomy
-returns-2 c = head-short _ _ _ _ (not-upTo _ _ c.if1.false)
+unfolding head_roomy
+returns-2 c = head_short _ _ _ _ (not_up_to _ _ c.if1.false)
 
 pub give-head-spec : {M : Type 1} → statement M
 give-head-spec =

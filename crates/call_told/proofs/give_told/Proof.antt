@@ -1,8 +1,8 @@
 -- `call_told::give_told` meets its contract: the records and the place, or nothing but the refusal.
 -- Assumes nothing.
 use mathlib.Core.Path.{ap}
-use Rattle.part_laws.specs.Entries.{toldPart}
-use Rattle.call_told.proofs.Told.{told-took, told-stopped, told-broken}
+use Rattle.part_laws.specs.Entries.{told_part}
+use Rattle.call_told.proofs.Told.{told_took, told_stopped, told_broken}
 use borrow.Author.Rules.{rules}
 use Rattle.call_told.proofs.give_told.Statement.{statement}
 use Rattle.call_told.proofs.give_told.Tie as tie
@@ -39,16 +39,16 @@ same_length : tie.Need-same-length
 same_length c = search rules
 
 returns : tie.Need-returns
-returns c = told-took _ _ (start-of-took c.before.before).requires _ (ap toldPart c.before.before.before.before.before.answer.given.1) c.before.before.give-two.ensures
+returns c = told_took _ _ (start-of-took c.before.before).requires _ (ap told_part c.before.before.before.before.before.answer.given.1) c.before.before.give-two.ensures
 
 returns-2 : tie.Need-returns-2
-returns-2 c = told-stopped _ _ _ (ap toldPart c.before.before.answer2.given.1) c.number.ensures
+returns-2 c = told_stopped _ _ _ (ap told_part c.before.before.answer2.given.1) c.number.ensures
 
 same-length-2 : tie.Need-same-length-2
 same-length-2 c = search rules
 
 returns-3 : tie.Need-returns-3
-returns-3 c = told-broken _ _ (start-of-broken c.before.before.before).requires _ _ _ (ap toldPart c.before.before.before.before.before.before.answer3.given.1) c.before.before.before.give-two2.ensures.1 c.number2.ensures
+returns-3 c = told_broken _ _ (start-of-broken c.before.before.before).requires _ _ _ (ap told_part c.before.before.before.before.before.before.answer3.given.1) c.before.before.before.give-two2.ensures.1 c.number2.ensures
 
 pub give-told-spec : {M : Type 1} → statement M
 give-told-spec =

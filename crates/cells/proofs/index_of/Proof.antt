@@ -5,7 +5,7 @@ use mathlib.Core.Path.{refl, ap, sym, ◌∙◌}
 use native.Mathlib.Omega.{arith}
 use Rattle.num_whole.specs.Answer.{given}
 use Rattle.num_whole.proofs.Cases.{yes, no}
-use Rattle.cells.specs.Cells.{index_of, cellIndex}
+use Rattle.cells.specs.Cells.{index_of, cell_index}
 use Rattle.cells.proofs.Owners.{limits}
 use Rattle.cells.proofs.index_of.Statement.{statement}
 use Rattle.cells.proofs.index_of.Tie as tie
@@ -41,11 +41,11 @@ add-t14 : tie.Need-overflow-add-t14
 add-t14 c = search rules
 
 returns : tie.Need-returns
-unfolding index_of cellIndex
+unfolding index_of cell_index
 returns c = yes _ _ _ (sym c.before.before.before.within.ensures ∙ c.before.before.if1.true) (ap given (rw c.enum_told.given.1 (omega arith)))
 
 returns-2 : tie.Need-returns-2
-unfolding index_of cellIndex
+unfolding index_of cell_index
 returns-2 c = yes _ _ _ (sym c.before.before.before.within.ensures ∙ c.before.before.if1.true) (ap given (rw c.enum-told2.given.1 (omega (arith, limits c.before.before.before.before.args.cell (sym c.before.before.before.within.ensures ∙ c.before.before.if1.true)))))
 
 returns-3 : tie.Need-returns-3

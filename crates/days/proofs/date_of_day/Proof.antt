@@ -3,8 +3,8 @@
 use mathlib.Core.Path.{◌≡◌, refl, sym, ap, ◌∙◌}
 use native.Mathlib.Omega.{arith}
 use borrow.Author.Rules.{rules}
-use Rattle.num_whole.proofs.Cases.{no, between-true}
-use Rattle.days.specs.Calendar.{dayNumber, dateOfDay}
+use Rattle.num_whole.proofs.Cases.{no, between_true}
+use Rattle.days.specs.Calendar.{day_number, date_of_day}
 use Rattle.days.proofs.Undo.{found}
 use Rattle.days.proofs.date_of_day.Statement.{statement}
 use Rattle.days.proofs.date_of_day.Tie as tie
@@ -13,7 +13,7 @@ within-requires : tie.Need-within-requires
 within-requires c κs = search rules
 
 year-of-requires : tie.Need-year-of-requires
-year-of-requires c κs = omega (arith, between-true _ _ _ (sym c.before.within.ensures ∙ c.if1.true))
+year-of-requires c κs = omega (arith, between_true _ _ _ (sym c.before.within.ensures ∙ c.if1.true))
 
 sub-years-days : tie.Need-overflow-sub-years-days
 sub-years-days c = omega arith
@@ -30,11 +30,11 @@ date-in-year-requires c κs = omega arith
 returns : tie.Need-returns
 returns c =
     let t = c.date-in-year.result in
-    let e : dayNumber t ≡ c.before.before.before.before.before.args.number = omega arith in
-    sym (found t c.date-in-year.ensures.0) ∙ ap dateOfDay e
+    let e : day_number t ≡ c.before.before.before.before.before.args.number = omega arith in
+    sym (found t c.date-in-year.ensures.0) ∙ ap date_of_day e
 
 returns-2 : tie.Need-returns-2
-unfolding dateOfDay
+unfolding date_of_day
 returns-2 c = no _ _ _ (sym c.before.within.ensures ∙ c.if1.false) refl
 
 pub date-of-day-spec : {M : Type 1} → statement M

@@ -4,7 +4,7 @@ use mathlib.Core.Path.{ap, sym, ◌∙◌}
 use borrow.Author.Rules.{rules}
 use Rattle.num_whole.specs.Tests.{between}
 use Rattle.num_whole.proofs.Cases.{holds, fails}
-use Rattle.days.specs.Calendar.{isDate}
+use Rattle.days.specs.Calendar.{is_date}
 use Rattle.days.proofs.is_date.Statement.{statement}
 use Rattle.days.proofs.is_date.Tie as tie
 
@@ -33,15 +33,15 @@ within-requires-3 : tie.Need-within-requires-3
 within-requires-3 c κs = search rules
 
 returns : tie.Need-returns
-unfolding isDate
+unfolding is_date
 returns c = holds _ _ (sym c.before.before.before.before.before.within.ensures ∙ c.before.before.before.before.if1.true) (holds _ _ (sym c.before.before.before.within2.ensures ∙ c.before.before.if2.true) (c.within3.ensures ∙ ap (between 1 _) c.before.month-length.ensures))
 
 returns-2 : tie.Need-returns-2
-unfolding isDate
+unfolding is_date
 returns-2 c = holds _ _ (sym c.before.before.before.within.ensures ∙ c.before.before.if1.true) (fails _ _ (sym c.before.within2.ensures ∙ c.if2.false))
 
 returns-3 : tie.Need-returns-3
-unfolding isDate
+unfolding is_date
 returns-3 c = fails _ _ (sym c.before.within.ensures ∙ c.if1.false)
 
 pub is-date-spec : {M : Type 1} → statement M

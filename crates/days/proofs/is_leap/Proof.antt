@@ -3,14 +3,14 @@
 use mathlib.Core.Path.{ap}
 use mathlib.Core.Bool.{not}
 use native.Mathlib.Omega.{arith}
-use Rattle.num_whole.proofs.Cases.{holds, fails, at_once, at_last, is_same, not_same, by-same}
+use Rattle.num_whole.proofs.Cases.{holds, fails, at_once, at_last, is_same, not_same, by_same}
 use Rattle.days.specs.Calendar.{leap}
 use Rattle.days.proofs.is_leap.Statement.{statement}
 use Rattle.days.proofs.is_leap.Tie as tie
 
 returns : tie.Need-returns
 unfolding leap
-returns c = holds _ _ (is_same _ _ (omega arith)) (at_last _ _ (ap not (is_same _ _ (omega arith))) (by-same _ _))
+returns c = holds _ _ (is_same _ _ (omega arith)) (at_last _ _ (ap not (is_same _ _ (omega arith))) (by_same _ _))
 
 returns-2 : tie.Need-returns-2
 unfolding leap

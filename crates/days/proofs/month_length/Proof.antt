@@ -6,7 +6,7 @@ use native.Mathlib.Omega.{arith}
 use borrow.Author.Rules.{rules}
 use Rattle.num_whole.specs.Tests.{same, either, pick}
 use Rattle.num_whole.proofs.Cases.{yes, no, at_last, is_same, not_same}
-use Rattle.days.specs.Calendar.{monthLength}
+use Rattle.days.specs.Calendar.{month_length}
 use Rattle.days.proofs.month_length.Statement.{statement}
 use Rattle.days.proofs.month_length.Tie as tie
 
@@ -14,19 +14,19 @@ is-leap-requires : tie.Need-is-leap-requires
 is-leap-requires c κs = search rules
 
 returns : tie.Need-returns
-unfolding monthLength
+unfolding month_length
 returns c = yes _ _ _ (is_same _ _ (omega arith)) (yes _ _ _ (sym c.before.is-leap.ensures ∙ c.if1.true) refl)
 
 returns-2 : tie.Need-returns-2
-unfolding monthLength
+unfolding month_length
 returns-2 c = yes _ _ _ (is_same _ _ (omega arith)) (no _ _ _ (sym c.before.is-leap.ensures ∙ c.if1.false) refl)
 
 returns-3 : tie.Need-returns-3
-unfolding monthLength same either pick
+unfolding month_length same either pick
 returns-3 c = ⊎_elim (λ e. rw e) (⊎_elim (λ e. rw e) (⊎_elim (λ e. rw e) (λ e. rw e))) c.match.keys2
 
 returns-4 : tie.Need-returns-4
-unfolding monthLength
+unfolding month_length
 returns-4 c =
     let rest = c.match.rest in
     let four = not_same _ 4 (λ e. rest.1 (inl e)) in

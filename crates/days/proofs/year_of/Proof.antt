@@ -3,7 +3,7 @@
 use Prim.Native.Nat.{suc, ◌+◌, ◌*◌, ◌-◌, ◌/◌}
 use native.Mathlib.Omega.{arith}
 use borrow.Author.Rules.{rules}
-use Rattle.days.proofs.Calendar.{year-step, years-closed}
+use Rattle.days.proofs.Calendar.{year_step, years_closed}
 use Rattle.days.proofs.year_of.Statement.{statement}
 use Rattle.days.proofs.year_of.Tie as tie
 
@@ -19,9 +19,9 @@ add-result c = search rules
 returns : tie.Need-returns
 returns c =
     let year = 1950 + (4 * c.args.number - 2) / 1461 in
-    let before = years-closed (year - 1950) (omega arith) in
-    let through = years-closed (suc (year - 1950)) (omega arith) in
-    let step = year-step year (omega arith) in
+    let before = years_closed (year - 1950) (omega arith) in
+    let through = years_closed (suc (year - 1950)) (omega arith) in
+    let step = year_step year (omega arith) in
     record { first = omega arith; last = omega arith; after = omega arith; within = omega arith }
 
 pub year-of-spec : {M : Type 1} → statement M

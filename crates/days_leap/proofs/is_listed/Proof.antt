@@ -6,9 +6,9 @@ use mathlib.Core.Bool.{true, false}
 use mathlib.Core.Path.{◌≡◌, refl, sym, ◌∙◌}
 use Prim.Native.Nat.{ℕ, ◌+◌}
 use Rattle.num_whole.specs.Tests.{less}
-use Rattle.num_whole.proofs.Cases.{yes, no, by_cases, is-less, not-less, by_less}
-use Rattle.days_leap.specs.Leap.{isListed, listedBefore}
-use Rattle.days_leap.proofs.Counts.{oneIf}
+use Rattle.num_whole.proofs.Cases.{yes, no, by_cases, is_less, not_less, by_less}
+use Rattle.days_leap.specs.Leap.{is_listed, listed_before}
+use Rattle.days_leap.proofs.Counts.{one_if}
 use Rattle.days_leap.proofs.Days.{listed_next}
 use Rattle.days_leap.proofs.is_listed.Statement.{statement}
 use Rattle.days_leap.proofs.is_listed.Tie as tie
@@ -22,11 +22,11 @@ add-listed-before c = search rules
 listed-before-requires-2 : tie.Need-listed-before-requires-2
 listed-before-requires-2 c κs = search rules
 
-grows : (d n m : ℕ) → n ≡ listedBefore d → m ≡ listedBefore (d + 1) → less n m ≡ isListed d
+grows : (d n m : ℕ) → n ≡ listed_before d → m ≡ listed_before (d + 1) → less n m ≡ is_listed d
 grows d n m p q =
-    by_cases (isListed d)
-    (λ e. let one : ◌≡◌ {A = ℕ} 1 (oneIf (isListed d)) = yes _ _ _ e refl in is-less n m (omega (arith, listed_next d)) ∙ sym e)
-    (λ e. let none : ◌≡◌ {A = ℕ} 0 (oneIf (isListed d)) = no _ _ _ e refl in not-less n m (omega (arith, listed_next d)) ∙ sym e)
+    by_cases (is_listed d)
+    (λ e. let one : ◌≡◌ {A = ℕ} 1 (one_if (is_listed d)) = yes _ _ _ e refl in is_less n m (omega (arith, listed_next d)) ∙ sym e)
+    (λ e. let none : ◌≡◌ {A = ℕ} 0 (one_if (is_listed d)) = no _ _ _ e refl in not_less n m (omega (arith, listed_next d)) ∙ sym e)
 
 returns : tie.Need-returns
 returns c = by_less _ _ ∙ grows _ _ _ c.before.listed-before.ensures.0 c.listed-before2.ensures.0

@@ -4,7 +4,7 @@ use borrow.Author.Rules.{rules}
 use native.Mathlib.Omega.{arith}
 use mathlib.Core.Path.{◌≡◌, sym}
 use Rattle.days_leap.proofs.Days.{none_before}
-use Rattle.days_leap.proofs.Sixes.{all-before}
+use Rattle.days_leap.proofs.Sixes.{all_before}
 use Rattle.days_leap.proofs.listed_before.Statement.{statement}
 use Rattle.days_leap.proofs.listed_before.Tie as tie
 
@@ -12,7 +12,7 @@ returns : tie.Need-returns
 returns c = (sym (none_before _ (omega arith)), omega arith)
 
 returns-2 : tie.Need-returns-2
-returns-2 c = (all-before _ (omega arith), omega arith)
+returns-2 c = (all_before _ (omega arith), omega arith)
 
 listed-among-requires : tie.Need-listed-among-requires
 listed-among-requires c κs = search rules

@@ -2,7 +2,7 @@
 -- Assumes nothing.
 use borrow.Author.Rules.{rules}
 use native.Mathlib.Omega.{arith}
-use Rattle.days_leap.specs.Leap.{dayStart}
+use Rattle.days_leap.specs.Leap.{day_start}
 use Rattle.days_leap.proofs.start.Statement.{statement}
 use Rattle.days_leap.proofs.start.Tie as tie
 
@@ -22,7 +22,7 @@ add-result : tie.Need-overflow-add-result
 add-result c = search rules
 
 returns : tie.Need-returns
-unfolding dayStart
+unfolding day_start
 returns c = (omega arith, omega arith)
 
 pub start_spec : {M : Type 1} → statement M

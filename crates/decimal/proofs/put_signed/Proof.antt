@@ -8,7 +8,7 @@ use lib.IntN.{ℤ, pos, nat_abs}
 use lib.Signed.{lt_z}
 use mir.Syntax.{w64}
 use mir.ValLaws.{to_z-of_z}
-use Rattle.decimal.specs.Decimal.{decimal, signedDecimal}
+use Rattle.decimal.specs.Decimal.{decimal, signed_decimal}
 use Rattle.decimal.specs.Laid.{laid}
 use Rattle.decimal.proofs.Laying.{laid_then}
 use Rattle.decimal.proofs.Back.{signed_below, signed_above}
@@ -17,10 +17,10 @@ use Rattle.decimal.proofs.put_signed.Statement.{statement}
 use Rattle.decimal.proofs.put_signed.Tie as tie
 
 module _ (s : List ℕ) (at n : ℕ) (z : ℤ) (is : n ≡ nat_abs z) where
-  negative : {t u : List ℕ} {k m : ℕ} → lt_z z (pos 0) ≡ true → (t, k) ≡ laid s at (45 ∷ []) → (u, m) ≡ laid t k (decimal n) → (u, m) ≡ laid s at (signedDecimal z)
+  negative : {t u : List ℕ} {k m : ℕ} → lt_z z (pos 0) ≡ true → (t, k) ≡ laid s at (45 ∷ []) → (u, m) ≡ laid t k (decimal n) → (u, m) ≡ laid s at (signed_decimal z)
   negative below e f = f ∙ laid_then s at (45 ∷ []) (decimal n) e ∙ ap (λ x. laid s at (45 ∷ decimal x)) is ∙ ap (laid s at) (signed_below z below)
 
-  plain : {u : List ℕ} {m : ℕ} → lt_z z (pos 0) ≡ false → (u, m) ≡ laid s at (decimal n) → (u, m) ≡ laid s at (signedDecimal z)
+  plain : {u : List ℕ} {m : ℕ} → lt_z z (pos 0) ≡ false → (u, m) ≡ laid s at (decimal n) → (u, m) ≡ laid s at (signed_decimal z)
   plain above f = f ∙ ap (λ x. laid s at (decimal x)) is ∙ ap (laid s at) (signed_above z above)
 
 -- Views: from one place of the code to an earlier one. A statement put between two of them changes one line here.

@@ -8,7 +8,7 @@ use lib.ListN.{length, drop, length-set}
 use borrow.Author.Rules.{rules}
 use Rattle.byte_words.specs.Words.{lay}
 use Rattle.decimal.specs.Laid.{laid}
-use Rattle.decimal.proofs.Laying.{copy-turn, copy-end}
+use Rattle.decimal.proofs.Laying.{copy_turn, copy_end}
 use Rattle.decimal.proofs.put_text.Statement.{statement}
 use Rattle.decimal.proofs.put_text.Tie as tie
 
@@ -49,7 +49,7 @@ loop-again c =
     let a = c.before.before.before.before.before.before.before.args in (
       omega arith,
       length-set l.room (a.at + l.i) _ ∙ l.invariant.1,
-      sym (copy-turn l.room a.text.now a.at l.i (omega arith)) ∙ l.invariant.2,
+      sym (copy_turn l.room a.text.now a.at l.i (omega arith)) ∙ l.invariant.2,
     )
 
 after-requires : tie.Need-after-requires invariant-loop decreases-loop
@@ -63,7 +63,7 @@ unfolding laid
 returns c =
     let l = c.before.before.loop in
     let a = c.before.before.before.before.before.before.before.args in
-    ap₂ (λ x y. (x, y)) (sym (copy-end l.room a.text.now a.at l.i (omega arith)) ∙ l.invariant.2) (omega arith)
+    ap₂ (λ x y. (x, y)) (sym (copy_end l.room a.text.now a.at l.i (omega arith)) ∙ l.invariant.2) (omega arith)
 
 pub put-text-spec : {M : Type 1} → statement M
 put-text-spec =

@@ -6,25 +6,25 @@ use mathlib.Core.List.{[], ◌++◌}
 use native.Mathlib.Omega.{arith}
 use lib.ListN.{length, take, length-take}
 use borrow.Author.Rules.{rules}
-use Rattle.num_limits.specs.Capacities.{arcSumsMost, parametersMost, recordsMost}
-use Rattle.byte_section.specs.Told.{toldAnswer}
+use Rattle.num_limits.specs.Capacities.{arc_sums_most, parameters_most, records_most}
+use Rattle.byte_section.specs.Told.{told_answer}
 use Rattle.byte_section.specs.declared.ReadAnswer.{ReadAnswer}
-use Rattle.part_laws.specs.Entries.{openedMost, recordSizeMost}
-use Rattle.list_run.specs.Rooms.{partMost}
+use Rattle.part_laws.specs.Entries.{opened_most, record_size_most}
+use Rattle.list_run.specs.Rooms.{part_most}
 use Rattle.list_run.specs.Course.{AfterBy, Open, Ended}
 use Rattle.desk_arc.proofs.follow.Statement.{statement}
 use Rattle.desk_arc.proofs.follow.Tie as tie
 
 -- what is counted at the most: the longest arc file, and one part
-abbrev countedMost : ℕ
-countedMost = openedMost + recordsMost * recordSizeMost + partMost
+abbrev counted_most : ℕ
+counted_most = opened_most + records_most * record_size_most + part_most
 
 abbrev invariant-loop : tie.invariant-loop
 invariant-loop fd buf₀ matrix₀ rights₀ table₀ c₀ total₀ buf matrix rights table c total =
-    (total ≤ countedMost) × (length buf ≡ partMost) × (length matrix ≡ arcSumsMost) × (length rights ≡ parametersMost) × (length table ≡ length table₀) × Open c matrix rights table
+    (total ≤ counted_most) × (length buf ≡ part_most) × (length matrix ≡ arc_sums_most) × (length rights ≡ parameters_most) × (length table ≡ length table₀) × Open c matrix rights table
 
 abbrev decreases-loop : tie.decreases-loop
-decreases-loop fd buf₀ matrix₀ rights₀ table₀ c₀ total₀ buf matrix rights table c total = countedMost - total
+decreases-loop fd buf₀ matrix₀ rights₀ table₀ c₀ total₀ buf matrix rights table c total = counted_most - total
 
 -- Views: from one place of the code to an earlier one. A statement put between two of them changes one line here.
 abbrev start-of-begin : tie.After-begin invariant-loop decreases-loop → tie.Start invariant-loop decreases-loop
@@ -53,18 +53,18 @@ ended_at : (x : tie.After-hear invariant-loop decreases-loop) (r : ReadAnswer) �
     → Ended r x.hear.result.course x.hear.new.1.0 x.hear.new.1.1.0 x.hear.new.1.1.1.0
 ended_at x r e =
     let o = (turn-of-heard x).loop.invariant.5 in let read = load-of-heard x in
-    (o.0 ++ take read.load.result.length read.load.last.1.0, subst (λ z. AfterBy (toldAnswer z) (o.0 ++ take read.load.result.length read.load.last.1.0) x.hear.result.course x.hear.new.1.0 x.hear.new.1.1.0 x.hear.new.1.1.1.0) e (x.hear.ensures o.0 o.1))
+    (o.0 ++ take read.load.result.length read.load.last.1.0, subst (λ z. AfterBy (told_answer z) (o.0 ++ take read.load.result.length read.load.last.1.0) x.hear.result.course x.hear.new.1.0 x.hear.new.1.1.0 x.hear.new.1.1.1.0) e (x.hear.ensures o.0 o.1))
 
 -- the lengths of what was lent
-buf-long : (x : tie.After-hear invariant-loop decreases-loop) → length (load-of-heard x).load.new.1.0 ≡ partMost
-buf-long x = (load-of-heard x).load.auto.1.0 ∙ (turn-of-heard x).loop.invariant.1
+buf_long : (x : tie.After-hear invariant-loop decreases-loop) → length (load-of-heard x).load.new.1.0 ≡ part_most
+buf_long x = (load-of-heard x).load.auto.1.0 ∙ (turn-of-heard x).loop.invariant.1
 
 -- a turn that is not the last read 64 KiB
 more : (c : tie.Else1 invariant-loop decreases-loop) → let x = heard-of-going c.before in
-    ((turn-of-heard x).loop.total + (load-of-heard x).load.result.length ≤ countedMost) × (partMost ≤ (load-of-heard x).load.result.length)
+    ((turn-of-heard x).loop.total + (load-of-heard x).load.result.length ≤ counted_most) × (part_most ≤ (load-of-heard x).load.result.length)
 more c =
     let x = heard-of-going c.before in let read = load-of-heard x in
-    (omega (arith, buf-long x, read.load.ensures, read.before.before.loop-test.taken), omega (arith, c.if1.false))
+    (omega (arith, buf_long x, read.load.ensures, read.before.before.loop-test.taken), omega (arith, c.if1.false))
 
 begin-requires : tie.Need-begin-requires invariant-loop decreases-loop
 begin-requires c κs = search rules
@@ -92,7 +92,7 @@ enum_told : tie.Need-enum-told invariant-loop decreases-loop
 enum_told c = search rules
 
 same_length : tie.Need-same-length invariant-loop decreases-loop
-same_length c = let x = heard-of-going c.before in buf-long x ∙ sym (start-of-turn (turn-of-heard x)).pre.0
+same_length c = let x = heard-of-going c.before in buf_long x ∙ sym (start-of-turn (turn-of-heard x)).pre.0
 
 same-length-2 : tie.Need-same-length-2 invariant-loop decreases-loop
 same-length-2 c = let x = heard-of-going c.before in let turn = turn-of-heard x in x.hear.kept.1.0 ∙ turn.loop.inv.2 ∙ sym (start-of-turn turn).pre.1
@@ -116,7 +116,7 @@ loop-again : tie.Need-loop-preserved invariant-loop decreases-loop
 loop-again c =
     let going = c.before in let x = heard-of-going going in let l = (turn-of-heard x).loop in (
       (more c).0,
-      buf-long x,
+      buf_long x,
       x.hear.kept.1.0 ∙ l.inv.2,
       x.hear.kept.1.1.0 ∙ l.inv.3,
       x.hear.kept.1.1.1.0 ∙ l.inv.4,
@@ -127,7 +127,7 @@ enum-told-2 : tie.Need-enum-told-2 invariant-loop decreases-loop
 enum-told-2 c = search rules
 
 same-length-5 : tie.Need-same-length-5 invariant-loop decreases-loop
-same-length-5 c = let x = heard-of-refused c in buf-long x ∙ sym (start-of-turn (turn-of-heard x)).pre.0
+same-length-5 c = let x = heard-of-refused c in buf_long x ∙ sym (start-of-turn (turn-of-heard x)).pre.0
 
 same-length-6 : tie.Need-same-length-6 invariant-loop decreases-loop
 same-length-6 c = let x = heard-of-refused c in let turn = turn-of-heard x in x.hear.kept.1.0 ∙ turn.loop.inv.2 ∙ sym (start-of-turn turn).pre.1

@@ -2,7 +2,7 @@
 -- Assumes nothing.
 use mathlib.Core.Path.{subst}
 use borrow.Author.Rules.{rules}
-use Rattle.byte_section.specs.Told.{toldAnswer}
+use Rattle.byte_section.specs.Told.{told_answer}
 use Rattle.list_run.specs.Course.{AfterBy}
 use Rattle.desk_commands.proofs.judge_arc.Statement.{statement}
 use Rattle.desk_commands.proofs.judge_arc.Tie as tie
@@ -13,7 +13,7 @@ enum_told c = search rules
 end-arc-requires : tie.Need-end-arc-requires
 end-arc-requires c κs =
     let start = c.before.before.before.before.before.before in let a = start.args in
-    ((start.requires.0.0, subst (λ r. AfterBy (toldAnswer r) start.requires.0.0 a.f.course a.matrix.now a.rights.now a.table.now) c.enum_told.given.1 start.requires.0.1), start.requires.1, start.requires.2)
+    ((start.requires.0.0, subst (λ r. AfterBy (told_answer r) start.requires.0.0 a.f.course a.matrix.now a.rights.now a.table.now) c.enum_told.given.1 start.requires.0.1), start.requires.1, start.requires.2)
 
 enum-known-answer : tie.Need-enum-known-answer
 enum-known-answer c = search rules

@@ -3,7 +3,7 @@
 use mathlib.Core.Path.{refl, sym}
 use borrow.Author.Rules.{rules}
 use Rattle.take_laws.specs.Mix.{keep}
-use Rattle.list_lines.specs.Lines.{tally_of, talliesFrom}
+use Rattle.list_lines.specs.Lines.{tally_of, tallies_from}
 use Rattle.desk_commands.proofs.read_arc.Statement.{statement}
 use Rattle.desk_commands.proofs.read_arc.Tie as tie
 
@@ -20,8 +20,8 @@ slice-aggregate-follow-3 : tie.Need-slice-aggregate-follow-3
 slice-aggregate-follow-3 c = search rules
 
 follow-requires : tie.Need-follow-requires
-unfolding talliesFrom tally_of keep
-follow-requires c κs = (search rules, sym c.before.before.before.before.sums-room.ensures, refl, refl)
+unfolding tallies_from tally_of keep
+follow-requires c κs = (search rules, sym c.before.before.before.before.sums_room.ensures, refl, refl)
 
 slice-aggregate-judge-arc : tie.Need-slice-aggregate-judge-arc
 slice-aggregate-judge-arc c = search rules

@@ -2,7 +2,7 @@
 -- Assumes nothing.
 use native.Mathlib.Omega.{arith}
 use lib.ListN.{length-take}
-use Rattle.list.proofs.Listings.{count-inside, list-short, list-fits}
+use Rattle.list.proofs.Listings.{count_inside, list_short, list_fits}
 use borrow.Author.Rules.{rules}
 use Rattle.list.proofs.list_by.Statement.{statement}
 use Rattle.list.proofs.list_by.Tie as tie
@@ -21,13 +21,13 @@ same_length : tie.Need-same-length
 same_length c = search rules
 
 returns : tie.Need-returns
-returns c = list-short _ _ (start-of-listing c.before.before.before).requires c.before.before.before.put-listing.ensures _ c.if1.true
+returns c = list_short _ _ (start-of-listing c.before.before.before).requires c.before.before.before.put-listing.ensures _ c.if1.true
 
 slice-reshare-prefix-put-text : tie.Need-slice-reshare-prefix-put-text
-slice-reshare-prefix-put-text c = count-inside _ _ (start-of-listing c.before.before.before.before).requires c.before.before.before.before.put-listing.ensures
+slice-reshare-prefix-put-text c = count_inside _ _ (start-of-listing c.before.before.before.before).requires c.before.before.before.before.put-listing.ensures
 
 slice-aggregate-put-text : tie.Need-slice-aggregate-put-text
-slice-aggregate-put-text c = simp length-take (omega (arith, count-inside _ _ (start-of-listing c.before.before.before.before.before).requires c.before.before.before.before.before.put-listing.ensures))
+slice-aggregate-put-text c = simp length-take (omega (arith, count_inside _ _ (start-of-listing c.before.before.before.before.before).requires c.before.before.before.before.before.put-listing.ensures))
 
 put-text-requires : tie.Need-put-text-requires
 put-text-requires c κs = search rules
@@ -41,7 +41,7 @@ same-length-3 c = search rules
 returns-2 : tie.Need-returns-2
 returns-2 c =
     let text = c.before.before in let listing = listing-of-text text in let start = start-of-listing listing in
-    list-fits _ _ start.pre listing.put-listing.ensures _ (omega arith) text.put-text.ensures
+    list_fits _ _ start.pre listing.put-listing.ensures _ (omega arith) text.put-text.ensures
 
 pub list-by-spec : {M : Type 1} → statement M
 list-by-spec =

@@ -3,7 +3,7 @@
 use mathlib.Core.Path.{refl, sym}
 use borrow.Author.Rules.{rules}
 use Rattle.take_laws.specs.Mix.{keep}
-use Rattle.list_lines.specs.Lines.{tally_of, talliesFrom}
+use Rattle.list_lines.specs.Lines.{tally_of, tallies_from}
 use Rattle.list.proofs.put_listing.Statement.{statement}
 use Rattle.list.proofs.put_listing.Tie as tie
 
@@ -20,8 +20,8 @@ slice-aggregate-put-parts-3 : tie.Need-slice-aggregate-put-parts-3
 slice-aggregate-put-parts-3 c = search rules
 
 put-parts-requires : tie.Need-put-parts-requires
-unfolding talliesFrom tally_of keep
-put-parts-requires c κs = (sym c.before.before.before.before.sums-room.ensures, refl, refl)
+unfolding tallies_from tally_of keep
+put-parts-requires c κs = (sym c.before.before.before.before.sums_room.ensures, refl, refl)
 
 same_length : tie.Need-same-length
 same_length c = search rules

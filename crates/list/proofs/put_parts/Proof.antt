@@ -7,21 +7,21 @@ use native.Mathlib.Omega.{arith}
 use lib.ListN.{length, take, drop, length-take, take-append-drop}
 use lib.Seq.{take_all}
 use borrow.Author.Rules.{rules}
-use Rattle.num_limits.specs.Capacities.{arcSumsMost, parametersMost}
-use Rattle.byte_section.specs.Told.{toldAnswer}
+use Rattle.num_limits.specs.Capacities.{arc_sums_most, parameters_most}
+use Rattle.byte_section.specs.Told.{told_answer}
 use Rattle.byte_section.specs.declared.ReadAnswer.{ReadAnswer}
 use Rattle.decimal.specs.Laid.{laid}
-use Rattle.list_lines.specs.Lines.{refusedLine}
+use Rattle.list_lines.specs.Lines.{refused_line}
 use Rattle.list_run.specs.Runs.{listing}
 use Rattle.list_run.specs.Course.{Follows, AfterBy}
-use Rattle.list_run.proofs.Courses.{refused-so}
-use Rattle.list.proofs.Listings.{part-next}
+use Rattle.list_run.proofs.Courses.{refused_so}
+use Rattle.list.proofs.Listings.{part_next}
 use Rattle.list.proofs.put_parts.Statement.{statement}
 use Rattle.list.proofs.put_parts.Tie as tie
 
 abbrev invariant-loop : tie.invariant-loop
 invariant-loop room₀ file matrix₀ rights₀ table₀ c₀ at₀ room matrix rights table c at =
-    (at ≤ length file) × (room ≡ room₀) × (length matrix ≡ arcSumsMost) × (length rights ≡ parametersMost) × (length table ≡ length table₀) × Follows (take at file) c matrix rights table
+    (at ≤ length file) × (room ≡ room₀) × (length matrix ≡ arc_sums_most) × (length rights ≡ parameters_most) × (length table ≡ length table₀) × Follows (take at file) c matrix rights table
 
 abbrev decreases-loop : tie.decreases-loop
 decreases-loop room₀ file matrix₀ rights₀ table₀ c₀ at₀ room matrix rights table c at = length file - at
@@ -49,12 +49,12 @@ ahead x = (omega (arith, x.before.before.before.before.before.least.ensures), om
 
 -- what the part was answered, of the bytes up to its end
 told_at : (x : tie.After-hear invariant-loop decreases-loop) (r : ReadAnswer) → x.hear.result.answer ≡ r → let inside = inside-of-heard x in let l = inside.before.loop in let file = (start-of-turn inside.before).args.file.now in
-    AfterBy (toldAnswer r) (take (l.at + x.before.before.before.before.before.least.result) file) x.hear.result.course x.hear.new.1.0 x.hear.new.1.1.0 x.hear.new.1.1.1.0
+    AfterBy (told_answer r) (take (l.at + x.before.before.before.before.before.least.result) file) x.hear.result.course x.hear.new.1.0 x.hear.new.1.1.0 x.hear.new.1.1.1.0
 told_at x r e =
     let inside = inside-of-heard x in let l = inside.before.loop in let file = (start-of-turn inside.before).args.file.now in
     let k = x.before.before.before.before.before.least.result in
-    subst (λ s. AfterBy (toldAnswer r) s x.hear.result.course x.hear.new.1.0 x.hear.new.1.1.0 x.hear.new.1.1.1.0) (part-next file l.at k)
-    (subst (λ z. AfterBy (toldAnswer z) (take l.at file ++ take (l.at + k - l.at) (drop l.at file)) x.hear.result.course x.hear.new.1.0 x.hear.new.1.1.0 x.hear.new.1.1.1.0) e (x.hear.ensures (take l.at file) l.inv.5))
+    subst (λ s. AfterBy (told_answer r) s x.hear.result.course x.hear.new.1.0 x.hear.new.1.1.0 x.hear.new.1.1.1.0) (part_next file l.at k)
+    (subst (λ z. AfterBy (told_answer z) (take l.at file ++ take (l.at + k - l.at) (drop l.at file)) x.hear.result.course x.hear.new.1.0 x.hear.new.1.1.0 x.hear.new.1.1.1.0) e (x.hear.ensures (take l.at file) l.inv.5))
 
 begin-requires : tie.Need-begin-requires invariant-loop decreases-loop
 begin-requires c κs = search rules
@@ -135,10 +135,10 @@ returns c =
     let put = c.before.before in let arm = put.before.before.before.before in let x = heard-of-refused arm in let turn = (inside-of-heard x).before in let l = turn.loop in
     let a = (start-of-turn turn).args in let e = l.at + x.before.before.before.before.before.least.result in
     put.Put-refused.ensures
-    ∙ ap (λ r. laid r 0 (refusedLine put.before.number.result arm.answer.given.0.1.0)) l.inv.1
+    ∙ ap (λ r. laid r 0 (refused_line put.before.number.result arm.answer.given.0.1.0)) l.inv.1
     ∙ ap (laid a.room.now 0)
-    (ap (λ k. refusedLine k arm.answer.given.0.1.0) put.before.number.ensures
-    ∙ refused-so (take e a.file.now) (drop e a.file.now) _ _ (told_at x _ arm.answer.given.1) ∙ ap listing (take-append-drop e a.file.now))
+    (ap (λ k. refused_line k arm.answer.given.0.1.0) put.before.number.ensures
+    ∙ refused_so (take e a.file.now) (drop e a.file.now) _ _ (told_at x _ arm.answer.given.1) ∙ ap listing (take-append-drop e a.file.now))
 
 put-text-requires : tie.Need-put-text-requires invariant-loop decreases-loop
 put-text-requires c κs = let l = c.before.before.before.before.before.loop in ((_, l.invariant.5), l.invariant.2, l.invariant.3)

@@ -1,6 +1,6 @@
 -- `list_arc::put_arc` meets its contract, line by line.
 -- Assumes nothing.
-use Rattle.list_lines.proofs.Laws.{arc-laid}
+use Rattle.list_lines.proofs.Laws.{arc_laid}
 use borrow.Author.Rules.{rules}
 use Rattle.list_arc.proofs.put_arc.Statement.{statement}
 use Rattle.list_arc.proofs.put_arc.Tie as tie
@@ -69,7 +69,7 @@ same_length c = search rules
 returns : tie.Need-returns
 returns c =
     let square = c.before.before in let tallies = tallies-of-square square in let records = records-of-tallies tallies in let parameters = parameters-of-records records in let count = count-of-parameters parameters in let arc = arc-of-count count in let a = (start-of-arc arc).args in
-    arc-laid a.room.now _ a.count a.table.now a.matrix.now a.rights.now _
+    arc_laid a.room.now _ a.count a.table.now a.matrix.now a.rights.now _
     records.before.tally.ensures arc.put_one.ensures count.put-one2.ensures parameters.put-parameters.ensures records.put_two.ensures tallies.put-tallies.ensures square.put-one3.ensures
 
 pub put-arc-spec : {M : Type 1} → statement M

@@ -1,6 +1,6 @@
 -- `list_lines::put_label` meets its contract, piece by piece.
 -- Assumes nothing.
-use Rattle.list_lines.proofs.Laws.{label-laid}
+use Rattle.list_lines.proofs.Laws.{label_laid}
 use borrow.Author.Rules.{rules}
 use Rattle.list_lines.proofs.put_label.Statement.{statement}
 use Rattle.list_lines.proofs.put_label.Tie as tie
@@ -31,7 +31,7 @@ same_length : tie.Need-same-length
 same_length c = search rules
 
 returns : tie.Need-returns
-returns c = label-laid _ _ _ (kind-of-gap c.before.before.before.before.before.before.before).put-decimal.ensures c.before.before.before.before.before.before.before.put-text.ensures c.before.before.put-decimal2.ensures
+returns c = label_laid _ _ _ (kind-of-gap c.before.before.before.before.before.before.before).put-decimal.ensures c.before.before.before.before.before.before.before.put-text.ensures c.before.before.put-decimal2.ensures
 
 pub put-label-spec : {M : Type 1} → statement M
 put-label-spec =

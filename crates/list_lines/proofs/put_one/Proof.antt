@@ -1,6 +1,6 @@
 -- `list_lines::put_one` meets its contract, piece by piece.
 -- Assumes nothing.
-use Rattle.list_lines.proofs.Laws.{one-laid}
+use Rattle.list_lines.proofs.Laws.{one_laid}
 use borrow.Author.Rules.{rules}
 use Rattle.list_lines.proofs.put_one.Statement.{statement}
 use Rattle.list_lines.proofs.put_one.Tie as tie
@@ -25,7 +25,7 @@ same_length : tie.Need-same-length
 same_length c = search rules
 
 returns : tie.Need-returns
-returns c = one-laid _ _ _ _ (text-of-number c.before.before.before.before.before.before.before).put-text.ensures c.before.before.before.before.before.before.before.put-decimal.ensures c.before.before.put-text2.ensures
+returns c = one_laid _ _ _ _ (text-of-number c.before.before.before.before.before.before.before).put-text.ensures c.before.before.before.before.before.before.before.put-decimal.ensures c.before.before.put-text2.ensures
 
 pub put-one-spec : {M : Type 1} → statement M
 put-one-spec =

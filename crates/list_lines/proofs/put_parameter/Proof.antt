@@ -5,7 +5,7 @@ use mathlib.Core.Bool.{not}
 use mir.Syntax.{w64}
 use mir.ValLaws.{to_z-of_z}
 use Rattle.num_packed.proofs.Tests.{zero_bits}
-use Rattle.list_lines.proofs.Laws.{parameter-laid}
+use Rattle.list_lines.proofs.Laws.{parameter_laid}
 use borrow.Author.Rules.{rules}
 use Rattle.list_lines.proofs.put_parameter.Statement.{statement}
 use Rattle.list_lines.proofs.put_parameter.Tie as tie
@@ -43,7 +43,7 @@ returns c =
     let sums = c.before.before in let seen = seen-of-sums sums in let label = label-of-seen seen in let start = start-of-label label in
     let a = start.args in
     let f = start.fits in
-    parameter-laid _ _ _ _ a.diagonal a.right _ (ap not (zero_bits a.diagonal f.diagonal)) (to_z-of_z w64 a.diagonal f.diagonal) (to_z-of_z w64 a.right f.right) sums.before.count.ensures.0
+    parameter_laid _ _ _ _ a.diagonal a.right _ (ap not (zero_bits a.diagonal f.diagonal)) (to_z-of_z w64 a.diagonal f.diagonal) (to_z-of_z w64 a.right f.right) sums.before.count.ensures.0
     label.put-label.ensures seen.put-seen.ensures sums.put-sums.ensures
 
 pub put-parameter-spec : {M : Type 1} → statement M

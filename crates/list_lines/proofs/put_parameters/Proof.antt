@@ -9,11 +9,11 @@ use mir.ValLaws.{to_z-of_z}
 use borrow.Author.Rules.{rules}
 use Rattle.num_whole.specs.Lists.{rest}
 use Rattle.decimal.specs.Laid.{laid}
-use Rattle.arc_heading.specs.Judge.{labelsOf}
-use Rattle.num_packed.proofs.Places.{tri-within}
-use Rattle.take_state.proofs.Rooms.{place-small}
-use Rattle.list_lines.specs.Lines.{parameterLines}
-use Rattle.list_lines.proofs.Laws.{row_laid, lines-turn, lines_end, parameters-turn, parameters-end}
+use Rattle.arc_heading.specs.Judge.{labels_of}
+use Rattle.num_packed.proofs.Places.{tri_within}
+use Rattle.take_state.proofs.Rooms.{place_small}
+use Rattle.list_lines.specs.Lines.{parameter_lines}
+use Rattle.list_lines.proofs.Laws.{row_laid, lines_turn, lines_end, parameters_turn, parameters_end}
 use Rattle.list_lines.proofs.put_parameters.Statement.{statement}
 use Rattle.list_lines.proofs.put_parameters.Tie as tie
 
@@ -22,7 +22,7 @@ invariant-loop room₀ start matrix rights h t n at₀ i₀ room at i =
     (i ≤ n)
     × (length h.labels ≡ 50)
     × (length room ≡ length room₀)
-    × (laid room at (parameterLines matrix rights t.marks i (rest h.labels n i)) ≡ laid room₀ start (parameterLines matrix rights t.marks 0 (labelsOf h)))
+    × (laid room at (parameter_lines matrix rights t.marks i (rest h.labels n i)) ≡ laid room₀ start (parameter_lines matrix rights t.marks 0 (labels_of h)))
 
 abbrev decreases-loop : tie.decreases-loop
 decreases-loop room₀ start matrix rights h t n at₀ i₀ room at i = n - i
@@ -35,7 +35,7 @@ abbrev inside-of-put : tie.After-put-parameter invariant-loop decreases-loop →
 inside-of-put c = c.before.before.before.before.before.before.before
 
 loop-holds : tie.Need-loop-init invariant-loop decreases-loop
-unfolding labelsOf rest
+unfolding labels_of rest
 loop-holds c = (search rules, simp length-map at c.before.well-formed.1.1.0.1.1.1.1.1.0.1.0.1, refl, refl)
 
 mul-l : tie.Need-overflow-mul-l invariant-loop decreases-loop
@@ -48,17 +48,17 @@ place-requires : tie.Need-place-requires invariant-loop decreases-loop
 place-requires c κs = search rules
 
 mul-put-parameter : tie.Need-overflow-mul-put-parameter invariant-loop decreases-loop
-mul-put-parameter c = record { fits = omega (arith, c.before.place.ensures, place-small c.before.before.before.before.loop.i (omega arith)) }
+mul-put-parameter c = record { fits = omega (arith, c.before.place.ensures, place_small c.before.before.before.before.loop.i (omega arith)) }
 
 shared-slice-copy-out-put-parameter : tie.Need-shared-slice-copy-out-put-parameter invariant-loop decreases-loop
-shared-slice-copy-out-put-parameter c = omega (arith, c.before.place.ensures, tri-within _ _ c.before.before.before.loop-test.true)
+shared-slice-copy-out-put-parameter c = omega (arith, c.before.place.ensures, tri_within _ _ c.before.before.before.loop-test.true)
 
 mul-put-parameter-2 : tie.Need-overflow-mul-put-parameter-2 invariant-loop decreases-loop
 mul-put-parameter-2 c = search rules
 
-shared-slice-copy-out-put-parameter-2 :
+shared_slice_copy_out_put_parameter_2 :
     tie.Need-shared-slice-copy-out-put-parameter-2 invariant-loop decreases-loop
-shared-slice-copy-out-put-parameter-2 c = search rules
+shared_slice_copy_out_put_parameter_2 c = search rules
 
 mul-put-parameter-3 : tie.Need-overflow-mul-put-parameter-3 invariant-loop decreases-loop
 mul-put-parameter-3 c = search rules
@@ -86,7 +86,7 @@ loop-again c =
       omega (arith, more),
       l.inv.1,
       put.put-parameter.auto.0 ∙ l.inv.2,
-      lines-turn _ _ _ _ line (parameters-turn a.matrix.now a.rights.now a.t4.marks _ _ l.i (omega (arith, start.pre.0, l.inv.1)) more) l.inv.3,
+      lines_turn _ _ _ _ line (parameters_turn a.matrix.now a.rights.now a.t4.marks _ _ l.i (omega (arith, start.pre.0, l.inv.1)) more) l.inv.3,
     )
 
 least-requires : tie.Need-least-requires invariant-loop decreases-loop
@@ -96,7 +96,7 @@ same_length : tie.Need-same-length invariant-loop decreases-loop
 same_length c = search rules
 
 returns : tie.Need-returns invariant-loop decreases-loop
-returns c = lines_end _ _ c.least.ensures (parameters-end _ _ _ _ _ _ (omega arith)) c.before.before.loop.invariant.3
+returns c = lines_end _ _ c.least.ensures (parameters_end _ _ _ _ _ _ (omega arith)) c.before.before.loop.invariant.3
 
 pub put-parameters-spec : {M : Type 1} → statement M
 put-parameters-spec =
@@ -111,7 +111,7 @@ put-parameters-spec =
     mul-put-parameter
     shared-slice-copy-out-put-parameter
     mul-put-parameter-2
-    shared-slice-copy-out-put-parameter-2
+    shared_slice_copy_out_put_parameter_2
     mul-put-parameter-3
     element-copy-out-put-parameter
     put-parameter-requires

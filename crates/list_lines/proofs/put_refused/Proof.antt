@@ -1,6 +1,6 @@
 -- `list_lines::put_refused` meets its contract.
 -- Assumes nothing.
-use Rattle.list_lines.specs.Lines.{refusedLine}
+use Rattle.list_lines.specs.Lines.{refused_line}
 use borrow.Author.Rules.{rules}
 use Rattle.list_lines.proofs.put_refused.Statement.{statement}
 use Rattle.list_lines.proofs.put_refused.Tie as tie
@@ -18,7 +18,7 @@ same_length : tie.Need-same-length
 same_length c = search rules
 
 returns : tie.Need-returns
-unfolding refusedLine
+unfolding refused_line
 returns c = c.before.before.put_two.ensures
 
 pub put-refused-spec : {M : Type 1} → statement M

@@ -3,7 +3,7 @@
 use mathlib.Core.Path.{refl}
 use Rattle.num_whole.proofs.Cases.{yes, no}
 use Rattle.decimal.proofs.Laying.{laid_as}
-use Rattle.list_lines.specs.Lines.{seenText, unseenText}
+use Rattle.list_lines.specs.Lines.{seen_text, unseen_text}
 use borrow.Author.Rules.{rules}
 use Rattle.list_lines.proofs.put_seen.Statement.{statement}
 use Rattle.list_lines.proofs.put_seen.Tie as tie
@@ -24,13 +24,13 @@ same_length : tie.Need-same-length
 same_length c = search rules
 
 returns : tie.Need-returns
-returns c = laid_as _ _ c.before.before.put-text.ensures (yes _ seenText unseenText c.before.before.before.before.before.if1.true refl)
+returns c = laid_as _ _ c.before.before.put-text.ensures (yes _ seen_text unseen_text c.before.before.before.before.before.if1.true refl)
 
 same-length-2 : tie.Need-same-length-2
 same-length-2 c = search rules
 
 returns-2 : tie.Need-returns-2
-returns-2 c = laid_as _ _ c.before.before.put-text2.ensures (no _ seenText unseenText c.before.before.before.before.before.if1.false refl)
+returns-2 c = laid_as _ _ c.before.before.put-text2.ensures (no _ seen_text unseen_text c.before.before.before.before.before.if1.false refl)
 
 pub put-seen-spec : {M : Type 1} → statement M
 put-seen-spec =

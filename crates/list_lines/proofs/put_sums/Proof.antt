@@ -2,7 +2,7 @@
 -- Assumes nothing.
 use mir.Syntax.{w64}
 use mir.ValLaws.{to_z-of_z}
-use Rattle.list_lines.proofs.Laws.{sums-laid}
+use Rattle.list_lines.proofs.Laws.{sums_laid}
 use borrow.Author.Rules.{rules}
 use Rattle.list_lines.proofs.put_sums.Statement.{statement}
 use Rattle.list_lines.proofs.put_sums.Tie as tie
@@ -46,7 +46,7 @@ returns c =
     let end = c.before.before in let right = right-of-end end in let gap = gap-of-right right in let diagonal = diagonal-of-gap gap in let start = start-of-diagonal diagonal in
     let a = start.args in
     let f = start.fits in
-    sums-laid _ _ a.diagonal a.right a.n (to_z-of_z w64 a.diagonal f.diagonal) (to_z-of_z w64 a.right f.right)
+    sums_laid _ _ a.diagonal a.right a.n (to_z-of_z w64 a.diagonal f.diagonal) (to_z-of_z w64 a.right f.right)
     diagonal.put-signed.ensures gap.put-text.ensures right.put-signed2.ensures end.put_one.ensures
 
 pub put-sums-spec : {M : Type 1} → statement M

@@ -1,6 +1,6 @@
 -- `list_lines::put_two` meets its contract, piece by piece.
 -- Assumes nothing.
-use Rattle.list_lines.proofs.Laws.{two-laid}
+use Rattle.list_lines.proofs.Laws.{two_laid}
 use borrow.Author.Rules.{rules}
 use Rattle.list_lines.proofs.put_two.Statement.{statement}
 use Rattle.list_lines.proofs.put_two.Tie as tie
@@ -22,7 +22,7 @@ same_length : tie.Need-same-length
 same_length c = search rules
 
 returns : tie.Need-returns
-returns c = two-laid _ _ _ _ _ _ (text-of-number c.before.before.before.before.before.before).put-text.ensures c.before.before.before.before.before.before.put-decimal.ensures c.before.before.put_one.ensures
+returns c = two_laid _ _ _ _ _ _ (text-of-number c.before.before.before.before.before.before).put-text.ensures c.before.before.before.before.before.before.put-decimal.ensures c.before.before.put_one.ensures
 
 pub put-two-spec : {M : Type 1} → statement M
 put-two-spec =

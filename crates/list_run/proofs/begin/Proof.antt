@@ -3,8 +3,8 @@
 use mathlib.Core.Path.{◌≡◌, sym, ap, ◌∙◌}
 use native.Mathlib.Omega.{arith}
 use Rattle.part_laws.specs.Entries.{held_of}
-use Rattle.list_lines.specs.Lines.{talliesOf}
-use Rattle.list_run.proofs.Courses.{heard-nothing, begin-state}
+use Rattle.list_lines.specs.Lines.{tallies_of}
+use Rattle.list_run.proofs.Courses.{heard_nothing, begin_state_lem}
 use borrow.Author.Rules.{rules}
 use Rattle.list_run.proofs.begin.Statement.{statement}
 use Rattle.list_run.proofs.begin.Tie as tie
@@ -26,10 +26,10 @@ returns : tie.Need-returns
 returns c =
     let begun = c.before.before.before.before in let b = begun.begin in let start = start-of-begun begun in
     record {
-      going = ap (λ z. z.verdict) heard-nothing;
-      position = b.ensures.1.0 ∙ ap (λ z. held_of z.position) (sym heard-nothing);
-      state = b.ensures.1.1 ∙ begin-state _ _ start.pre.0 start.pre.1 ∙ ap (λ z. z.state) (sym heard-nothing);
-      tallies = start.pre.2 ∙ ap (λ z. talliesOf z.answers) (sym heard-nothing);
+      going = ap (λ z. z.verdict) heard_nothing;
+      position = b.ensures.1.0 ∙ ap (λ z. held_of z.position) (sym heard_nothing);
+      state = b.ensures.1.1 ∙ begin_state_lem _ _ start.pre.0 start.pre.1 ∙ ap (λ z. z.state) (sym heard_nothing);
+      tallies = start.pre.2 ∙ ap (λ z. tallies_of z.answers) (sym heard_nothing);
     }
 
 pub begin-spec : {M : Type 1} → statement M

@@ -3,12 +3,12 @@
 use mathlib.Core.Path.{◌≡◌, sym, ap, ◌∙◌, subst}
 use mathlib.Core.List.{[], append-nil}
 use borrow.Author.Rules.{rules}
-use Rattle.byte_section.specs.Told.{toldAnswer}
+use Rattle.byte_section.specs.Told.{told_answer}
 use Rattle.decimal.specs.Laid.{laid}
-use Rattle.list_lines.specs.Lines.{refusedLine}
+use Rattle.list_lines.specs.Lines.{refused_line}
 use Rattle.list_run.specs.Runs.{listing}
 use Rattle.list_run.specs.Course.{AfterBy}
-use Rattle.list_run.proofs.Courses.{refused-so}
+use Rattle.list_run.proofs.Courses.{refused_so}
 use Rattle.list_run.proofs.put_end.Statement.{statement}
 use Rattle.list_run.proofs.put_end.Tie as tie
 
@@ -25,7 +25,7 @@ enum_told c = search rules
 put-text-requires : tie.Need-put-text-requires
 put-text-requires c κs =
     let going = c.before in let start = start-of-going going in let a = start.args in
-    ((start.pre.0.0, subst (λ r. AfterBy (toldAnswer r) start.pre.0.0 a.c a.matrix.now a.rights.now a.table.now) going.enum_told.given.1 start.pre.0.1), start.pre.1, start.pre.2)
+    ((start.pre.0.0, subst (λ r. AfterBy (told_answer r) start.pre.0.0 a.c a.matrix.now a.rights.now a.table.now) going.enum_told.given.1 start.pre.0.1), start.pre.1, start.pre.2)
 
 enum-known-answer : tie.Need-enum-known-answer
 enum-known-answer c = search rules
@@ -45,7 +45,7 @@ same_length c = search rules
 returns : tie.Need-returns
 returns c s h =
     let put = c.before.before in let going = put.before.before in let a = (start-of-going going).args in
-    put.put-text.ensures s (subst (λ r. AfterBy (toldAnswer r) s a.c a.matrix.now a.rights.now a.table.now) going.enum_told.given.1 h)
+    put.put-text.ensures s (subst (λ r. AfterBy (told_answer r) s a.c a.matrix.now a.rights.now a.table.now) going.enum_told.given.1 h)
 
 same-length-2 : tie.Need-same-length-2
 same-length-2 c = search rules
@@ -55,8 +55,8 @@ returns-2 c s h =
     let put = c.before.before in let arm = put.before.before.before.before in let a = (start-of-refused arm).args in
     put.Put-refused.ensures
     ∙ ap (laid a.room.now 0)
-    (ap (λ k. refusedLine k arm.answer.given.0.1.0) put.before.number.ensures
-    ∙ refused-so s [] _ _ (subst (λ r. AfterBy (toldAnswer r) s a.c a.matrix.now a.rights.now a.table.now) arm.answer.given.1 h) ∙ ap listing (append-nil s))
+    (ap (λ k. refused_line k arm.answer.given.0.1.0) put.before.number.ensures
+    ∙ refused_so s [] _ _ (subst (λ r. AfterBy (told_answer r) s a.c a.matrix.now a.rights.now a.table.now) arm.answer.given.1 h) ∙ ap listing (append-nil s))
 
 pub put-end-spec : {M : Type 1} → statement M
 put-end-spec =

@@ -4,11 +4,11 @@ use mathlib.Core.Path.{◌≡◌, sym, ap, ◌∙◌, subst}
 use Prim.Native.Nat.{◌≤◌}
 use native.Mathlib.Omega.{arith}
 use borrow.Author.Rules.{rules}
-use Rattle.num_limits.specs.Capacities.{parametersMost}
+use Rattle.num_limits.specs.Capacities.{parameters_most}
 use Rattle.decimal.specs.Laid.{laid}
-use Rattle.part_laws.specs.Entries.{toldPart, headingGiven}
-use Rattle.list_lines.specs.Lines.{arcLines, refusedLine}
-use Rattle.list_run.proofs.Courses.{sums-fit, heading-few, text-good, end-good, end-bad, end-never}
+use Rattle.part_laws.specs.Entries.{told_part, heading_given}
+use Rattle.list_lines.specs.Lines.{arc_lines, refused_line}
+use Rattle.list_run.proofs.Courses.{sums_fit_lem, heading_few, text_good, end_good, end_bad, end_never}
 use Rattle.list_run.proofs.put_text.Statement.{statement}
 use Rattle.list_run.proofs.put_text.Tie as tie
 
@@ -41,10 +41,10 @@ put-arc-requires : tie.Need-put-arc-requires
 put-arc-requires c κs =
     let head = c.before.before in let f = finish-of-heading head in let start = start-of-finish f in let a = start.args in
     let w = start.pre.0 in
-    let e = end-good w.0 a.c a.matrix.now a.rights.now a.table.now w.1 _ (sym (ap toldPart head.before.enum_told.given.1) ∙ f.finish.ensures.0) in
-    let few : head.heading.result.heading.parameters ≤ parametersMost =
-    subst (λ g. g.parameters ≤ parametersMost) (sym head.heading.ensures.1) (heading-few w.0 a.c a.matrix.now a.rights.now a.table.now w.1 e.0 e.1) in
-    (few, omega (arith, sums-fit _ few, start.pre.1), omega (arith, start.pre.2))
+    let e = end_good w.0 a.c a.matrix.now a.rights.now a.table.now w.1 _ (sym (ap told_part head.before.enum_told.given.1) ∙ f.finish.ensures.0) in
+    let few : head.heading.result.heading.parameters ≤ parameters_most =
+    subst (λ g. g.parameters ≤ parameters_most) (sym head.heading.ensures.1) (heading_few w.0 a.c a.matrix.now a.rights.now a.table.now w.1 e.0 e.1) in
+    (few, omega (arith, sums_fit_lem _ few, start.pre.1), omega (arith, start.pre.2))
 
 enum-known-answer : tie.Need-enum-known-answer
 enum-known-answer c = search rules
@@ -76,11 +76,11 @@ same_length c = search rules
 returns : tie.Need-returns
 returns c s h =
     let put = c.before.before in let head = heading-of-arc put in let f = finish-of-heading head in let a = (start-of-finish f).args in
-    let e = end-good s a.c a.matrix.now a.rights.now a.table.now h _ (sym (ap toldPart head.before.enum_told.given.1) ∙ f.finish.ensures.0) in
+    let e = end_good s a.c a.matrix.now a.rights.now a.table.now h _ (sym (ap told_part head.before.enum_told.given.1) ∙ f.finish.ensures.0) in
     put.put-arc.ensures
     ∙ ap (laid a.room.now 0)
-    (ap (λ g. arcLines g a.c.position.taken a.table.now a.matrix.now a.rights.now a.c.tally) head.heading.ensures.1
-    ∙ text-good s a.c a.matrix.now a.rights.now a.table.now h e.0 e.1)
+    (ap (λ g. arc_lines g a.c.position.taken a.table.now a.matrix.now a.rights.now a.c.tally) head.heading.ensures.1
+    ∙ text_good s a.c a.matrix.now a.rights.now a.table.now h e.0 e.1)
 
 same-length-2 : tie.Need-same-length-2
 same-length-2 c = search rules
@@ -90,8 +90,8 @@ returns-2 c s h =
     let put = c.before.before in let f = finish-of-refused put in let a = (start-of-finish f).args in
     put.Put-refused.ensures
     ∙ ap (laid a.room.now 0)
-    (ap (λ k. refusedLine k put.before.before.before.before.answer.given.0.1.0) put.before.number.ensures
-    ∙ end-bad s a.c a.matrix.now a.rights.now a.table.now h _ _ _ (sym (ap toldPart put.before.before.before.before.answer.given.1) ∙ f.finish.ensures.0))
+    (ap (λ k. refused_line k put.before.before.before.before.answer.given.0.1.0) put.before.number.ensures
+    ∙ end_bad s a.c a.matrix.now a.rights.now a.table.now h _ _ _ (sym (ap told_part put.before.before.before.before.answer.given.1) ∙ f.finish.ensures.0))
 
 same-length-3 : tie.Need-same-length-3
 same-length-3 c = search rules
@@ -99,7 +99,7 @@ same-length-3 c = search rules
 returns-3 : tie.Need-returns-3
 returns-3 c s h =
     let put = c.before.before in let f = finish-of-stopped put in let a = (start-of-finish f).args in
-    absurd (end-never s a.c a.matrix.now a.rights.now a.table.now h _ (sym (ap toldPart put.before.before.before.before.answer2.given.1) ∙ f.finish.ensures.0))
+    absurd (end_never s a.c a.matrix.now a.rights.now a.table.now h _ (sym (ap told_part put.before.before.before.before.answer2.given.1) ∙ f.finish.ensures.0))
 
 pub put-text-spec : {M : Type 1} → statement M
 put-text-spec =

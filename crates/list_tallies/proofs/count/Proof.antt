@@ -6,7 +6,7 @@ use native.Mathlib.Omega.{arith}
 use lib.ListN.{length, get_or, drop}
 use borrow.Author.Rules.{rules}
 use Rattle.list_tallies.specs.Tables.{counted, CountsFit}
-use Rattle.list_tallies.proofs.Counts.{counted-end, counted-turn, bumped-most}
+use Rattle.list_tallies.proofs.Counts.{counted_end, counted_turn, bumped_most}
 use Rattle.list_tallies.proofs.count.Statement.{statement}
 use Rattle.list_tallies.proofs.count.Tie as tie
 
@@ -49,15 +49,15 @@ loop-again c =
     let new = counted-one.count-one.ensures in (
       omega arith,
       counted-one.count-one.auto.0 ∙ l.inv.1,
-      (λ k. omega (arith, ap (λ t. get_or t k 0) new, bumped-most l.table (get_or told l.i 0) k, l.inv.2 k)),
-      ap (λ t. counted t (drop (l.i + 1) told)) new ∙ counted-turn l.table told l.i more ∙ l.inv.3,
+      (λ k. omega (arith, ap (λ t. get_or t k 0) new, bumped_most l.table (get_or told l.i 0) k, l.inv.2 k)),
+      ap (λ t. counted t (drop (l.i + 1) told)) new ∙ counted_turn l.table told l.i more ∙ l.inv.3,
     )
 
 same_length : tie.Need-same-length invariant-loop decreases-loop
 same_length c = c.before.loop.invariant.1
 
 returns : tie.Need-returns invariant-loop decreases-loop
-returns c = let l = c.before.loop in sym (counted-end l.table (start-of-turn c.before).args.told.now l.i (omega arith)) ∙ l.invariant.3
+returns c = let l = c.before.loop in sym (counted_end l.table (start-of-turn c.before).args.told.now l.i (omega arith)) ∙ l.invariant.3
 
 pub count_spec : {M : Type 1} → statement M
 count_spec =

@@ -2,7 +2,7 @@
 -- Assumes nothing.
 use mathlib.Core.Path.{refl, sym}
 use Rattle.decimal.proofs.Laying.{laid_as}
-use Rattle.list_lines.proofs.Laws.{lines_end, tally-none, tally-some}
+use Rattle.list_lines.proofs.Laws.{lines_end, tally_none, tally_some}
 use borrow.Author.Rules.{rules}
 use Rattle.list_tallies.proofs.put_tally.Statement.{statement}
 use Rattle.list_tallies.proofs.put_tally.Tie as tie
@@ -29,7 +29,7 @@ put-two-requires c κs = search rules
 returns : tie.Need-returns
 returns c =
     let a = c.before.before.before.before.before.args in
-    lines_end _ _ c.least.ensures (sym (tally-none a.table.now a.k c.before.before.tally.ensures c.before.if1.true)) refl
+    lines_end _ _ c.least.ensures (sym (tally_none a.table.now a.k c.before.before.tally.ensures c.before.if1.true)) refl
 
 same_length : tie.Need-same-length
 same_length c = search rules
@@ -37,7 +37,7 @@ same_length c = search rules
 returns-2 : tie.Need-returns-2
 returns-2 c =
     let a = (start-of-tally c.before.before.before.before.before.before.before).args in
-    laid_as _ _ c.before.before.put_two.ensures (tally-some a.table.now a.k c.before.before.before.before.before.before.before.tally.ensures c.before.before.before.before.before.before.if1.false)
+    laid_as _ _ c.before.before.put_two.ensures (tally_some a.table.now a.k c.before.before.before.before.before.before.before.tally.ensures c.before.before.before.before.before.before.if1.false)
 
 pub put-tally-spec : {M : Type 1} → statement M
 put-tally-spec =

@@ -1,7 +1,7 @@
 -- `merge::merge` meets its contract: the first file refused, or what the second comes to.
 -- Assumes nothing.
 use Rattle.merge_put.proofs.Known.{taken}
-use Rattle.merge.proofs.Outcomes.{read-bad, first-bad}
+use Rattle.merge.proofs.Outcomes.{read_bad, first_bad}
 use borrow.Author.Rules.{rules}
 use Rattle.merge.proofs.merge.Statement.{statement}
 use Rattle.merge.proofs.merge.Tie as tie
@@ -26,7 +26,7 @@ returns c = search rules
 
 returns-2 : tie.Need-returns-2
 returns-2 c =
-    first-bad _ _ _ _ _ (read-bad _ _ _ _ c.before.before.before.read.ensures c.before.answer.given.1)
+    first_bad _ _ _ _ _ (read_bad _ _ _ _ c.before.before.before.read.ensures c.before.answer.given.1)
 
 pub merge-spec : {M : Type 1} → statement M
 merge-spec =

@@ -1,7 +1,7 @@
 -- `merge::merge_labels` meets its contract: 23 where there are more than 500.
 -- Assumes nothing.
 use Rattle.merge_put.proofs.Known.{Known, known}
-use Rattle.merge.proofs.Answers.{answers-23}
+use Rattle.merge.proofs.Answers.{answers_23}
 use borrow.Author.Rules.{rules}
 use Rattle.merge.proofs.merge_labels.Statement.{statement}
 use Rattle.merge.proofs.merge_labels.Tie as tie
@@ -28,7 +28,7 @@ join-labels-requires c κs = search rules
 returns : tie.Need-returns
 returns c =
     let s = start-of-joined c.before.before.before in
-    answers-23 _ _ (kx s) _ _ (ky s) _ s.pre.2 _ _ _ c.before.before.before.join-labels.ensures _ c.if1.true
+    answers_23 _ _ (kx s) _ _ (ky s) _ s.pre.2 _ _ _ c.before.before.before.join-labels.ensures _ c.if1.true
 
 slice-aggregate-merge-agreed : tie.Need-slice-aggregate-merge-agreed
 slice-aggregate-merge-agreed c = search rules

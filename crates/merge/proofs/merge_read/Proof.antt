@@ -2,7 +2,7 @@
 -- Assumes nothing.
 use native.Mathlib.Omega.{arith}
 use Rattle.merge_put.proofs.Known.{Known, known}
-use Rattle.merge.proofs.Answers.{answers-21, answers-22, arcs-fit}
+use Rattle.merge.proofs.Answers.{answers_21, answers_22, arcs_fit}
 use borrow.Author.Rules.{rules}
 use Rattle.merge.proofs.merge_read.Statement.{statement}
 use Rattle.merge.proofs.merge_read.Tie as tie
@@ -22,22 +22,22 @@ count-arcs-requires c κs = search rules
 
 add-if1 : tie.Need-overflow-add-if1
 add-if1 c =
-    omega (arith, (kx (start-of-counted c.before.before)).few-arcs, (ky (start-of-counted c.before.before)).few-arcs)
+    omega (arith, (kx (start-of-counted c.before.before)).few_arcs, (ky (start-of-counted c.before.before)).few_arcs)
 
 returns : tie.Need-returns
 returns c =
     let s = start-of-counted c.before.before.before in
-    answers-21 _ _ (kx s) _ _ (ky s) _ c.before.before.before.count-arcs.ensures _ c.if1.true
+    answers_21 _ _ (kx s) _ _ (ky s) _ c.before.before.before.count-arcs.ensures _ c.if1.true
 
 returns-2 : tie.Need-returns-2
 returns-2 c =
     let s = start-of-counted c.before.before.before.before in
-    answers-22 _ _ (kx s) _ _ (ky s) _ c.before.before.before.before.count-arcs.ensures c.before.if1.false _ c.if2.true
+    answers_22 _ _ (kx s) _ _ (ky s) _ c.before.before.before.before.count-arcs.ensures c.before.if1.false _ c.if2.true
 
 merge-labels-requires : tie.Need-merge-labels-requires
 merge-labels-requires c κs =
     let s = start-of-counted c.before.before.before.before.before in
-    (s.pre.0, s.pre.1, arcs-fit _ _ (kx s) _ _ (ky s) _ c.before.before.before.before.before.count-arcs.ensures c.before.before.if1.false c.before.if2.false)
+    (s.pre.0, s.pre.1, arcs_fit _ _ (kx s) _ _ (ky s) _ c.before.before.before.before.before.count-arcs.ensures c.before.before.if1.false c.before.if2.false)
 
 same_length : tie.Need-same-length
 same_length c = search rules

@@ -2,7 +2,7 @@
 -- Assumes nothing.
 use native.Mathlib.Omega.{arith}
 use Rattle.merge_put.proofs.Known.{Known, known}
-use Rattle.merge.proofs.Answers.{answers-20, answers-written}
+use Rattle.merge.proofs.Answers.{answers_20, answers_written}
 use borrow.Author.Rules.{rules}
 use Rattle.merge.proofs.merge_room.Statement.{statement}
 use Rattle.merge.proofs.merge_room.Tie as tie
@@ -23,7 +23,7 @@ needed-requires c κs = search rules
 returns : tie.Need-returns
 returns c =
     let s = start-of-needed c.before in
-    answers-20 _ _ (kx s) _ _ (ky s) _ s.pre.1.0.0 _ _ _ s.pre.1.0.1 s.pre.1.1.0 _ c.before.needed.ensures _ c.if1.true
+    answers_20 _ _ (kx s) _ _ (ky s) _ s.pre.1.0.0 _ _ _ s.pre.1.0.1 s.pre.1.1.0 _ c.before.needed.ensures _ c.if1.true
 
 put-file-requires : tie.Need-put-file-requires
 put-file-requires c κs =
@@ -36,7 +36,7 @@ same_length c = search rules
 returns-2 : tie.Need-returns-2
 returns-2 c =
     let s = start-of-needed c.before.before.before.before.before in
-    answers-written _ _ (kx s) _ _ (ky s) _ s.pre.1.0.0 _ _ _ s.pre.1.0.1 s.pre.1.1.0 _ c.before.before.before.before.before.needed.ensures _ _ c.before.before.before.before.if1.false c.before.before.put-file.ensures
+    answers_written _ _ (kx s) _ _ (ky s) _ s.pre.1.0.0 _ _ _ s.pre.1.0.1 s.pre.1.1.0 _ c.before.before.before.before.before.needed.ensures _ _ c.before.before.before.before.if1.false c.before.before.put-file.ensures
 
 pub merge-room-spec : {M : Type 1} → statement M
 merge-room-spec =

@@ -1,7 +1,7 @@
 -- `merge::merge_second` meets its contract: the second file refused, or the two merged.
 -- Assumes nothing.
 use Rattle.merge_put.proofs.Known.{taken}
-use Rattle.merge.proofs.Outcomes.{read-bad, second-bad, both-taken}
+use Rattle.merge.proofs.Outcomes.{read_bad, second_bad, both_taken}
 use borrow.Author.Rules.{rules}
 use Rattle.merge.proofs.merge_second.Statement.{statement}
 use Rattle.merge.proofs.merge_second.Tie as tie
@@ -28,12 +28,12 @@ same_length c = search rules
 
 returns : tie.Need-returns
 returns c =
-    both-taken _ _ _ _ _ _ _ (start-of-read c.before.before.before.before.before.before).requires
+    both_taken _ _ _ _ _ _ _ (start-of-read c.before.before.before.before.before.before).requires
     (taken _ _ c.before.before.before.before.before.before.read.ensures c.before.before.before.before.enum_told.given.1) c.before.before.merge-read.ensures
 
 returns-2 : tie.Need-returns-2
 returns-2 c =
-    second-bad _ _ _ _ _ _ (start-of-read c.before.before.before).requires.is (read-bad _ _ _ _ c.before.before.before.read.ensures c.before.answer.given.1)
+    second_bad _ _ _ _ _ _ (start-of-read c.before.before.before).requires.is (read_bad _ _ _ _ c.before.before.before.read.ensures c.before.answer.given.1)
 
 pub merge-second-spec : {M : Type 1} → statement M
 merge-second-spec =

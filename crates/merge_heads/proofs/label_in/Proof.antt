@@ -1,7 +1,7 @@
 -- `merge_heads::label_in` meets its contract, one step for its test.
 -- Assumes nothing.
 use native.Mathlib.Omega.{arith}
-use Rattle.merge_heads.proofs.Chosen.{label-first, label-second}
+use Rattle.merge_heads.proofs.Chosen.{label_first, label_second}
 use borrow.Author.Rules.{rules}
 use Rattle.merge_heads.proofs.label_in.Statement.{statement}
 use Rattle.merge_heads.proofs.label_in.Tie as tie
@@ -16,7 +16,7 @@ label-at-requires : tie.Need-label-at-requires
 label-at-requires c κs = search rules
 
 returns : tie.Need-returns
-returns c = label-first _ _ _ _ _ _ _ (omega arith) c.label_at.ensures
+returns c = label_first _ _ _ _ _ _ _ (omega arith) c.label_at.ensures
 
 mul-label-at-2 : tie.Need-overflow-mul-label-at-2
 mul-label-at-2 c = omega (arith, c.before.before.before.requires.2 (omega arith))
@@ -28,7 +28,7 @@ label-at-requires-2 : tie.Need-label-at-requires-2
 label-at-requires-2 c κs = omega (arith, c.before.before.before.requires.2 (omega arith))
 
 returns-2 : tie.Need-returns-2
-returns-2 c = label-second _ _ _ _ _ _ _ (omega arith) c.label-at2.ensures
+returns-2 c = label_second _ _ _ _ _ _ _ (omega arith) c.label-at2.ensures
 
 pub label-in-spec : {M : Type 1} → statement M
 label-in-spec =

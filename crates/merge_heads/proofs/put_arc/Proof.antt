@@ -1,6 +1,6 @@
 -- `merge_heads::put_arc` meets its contract: an arc is one word.
 -- Assumes nothing.
-use Rattle.norm_kinds.specs.Kinds.{arcNumberBytes}
+use Rattle.norm_kinds.specs.Kinds.{arc_number_bytes}
 use borrow.Author.Rules.{rules}
 use Rattle.merge_heads.proofs.put_arc.Statement.{statement}
 use Rattle.merge_heads.proofs.put_arc.Tie as tie
@@ -15,7 +15,7 @@ same_length : tie.Need-same-length
 same_length c = search rules
 
 returns : tie.Need-returns
-unfolding arcNumberBytes
+unfolding arc_number_bytes
 returns c = c.before.before.write-u32.ensures
 
 pub put-arc-spec : {M : Type 1} → statement M

@@ -7,12 +7,12 @@ use native.Mathlib.Omega.{arith}
 use borrow.Author.Rules.{rules}
 use lib.ListN.{length}
 use Rattle.byte_words.specs.Words.{lay}
-use Rattle.byte_words.proofs.Words.{length-lay}
+use Rattle.byte_words.proofs.Words.{length_lay}
 use Rattle.byte_section.specs.Section.{encoded}
-use Rattle.norm_kinds.specs.Kinds.{arcNumberBytes}
-use Rattle.norm_kinds.proofs.Records.{length-arc}
+use Rattle.norm_kinds.specs.Kinds.{arc_number_bytes}
+use Rattle.norm_kinds.proofs.Records.{length_arc}
 use Rattle.norm_labels.specs.Table.{rows_of}
-use Rattle.merge_sums.proofs.Writing.{rows_end, rows-turn}
+use Rattle.merge_sums.proofs.Writing.{rows_end, rows_turn}
 use Rattle.merge_heads.specs.Heads.{number_at}
 use Rattle.merge_heads.proofs.Chosen.{number_short}
 use Rattle.merge_heads.proofs.put_arcs.Statement.{statement}
@@ -23,7 +23,7 @@ invariant-loop out₀ at count xs left ys right k₀ i₀ out k i =
     (i ≤ count)
     × (k ≡ at + 4 * i)
     × (length out ≡ length out₀)
-    × (lay out₀ at (encoded arcNumberBytes (rows_of (number_at xs left ys right) 0 count)) ≡ lay out k (encoded arcNumberBytes (rows_of (number_at xs left ys right) i (count - i))))
+    × (lay out₀ at (encoded arc_number_bytes (rows_of (number_at xs left ys right) 0 count)) ≡ lay out k (encoded arc_number_bytes (rows_of (number_at xs left ys right) i (count - i))))
 
 abbrev decreases-loop : tie.decreases-loop
 decreases-loop out₀ at count xs left ys right k₀ i₀ out k i = count - i
@@ -72,19 +72,19 @@ loop-again c =
     let l = turn.loop in
     let s = start.args in
     let is : number.number_in.result ≡ number_at s.xs.now s.left.now s.ys.now s.right.now l.i = number.number_in.ensures in
-    let e : c.before.before.put-arc.new.0 ≡ lay l.out l.k (arcNumberBytes (number_at s.xs.now s.left.now s.ys.now s.right.now l.i)) =
-    c.before.before.put-arc.ensures ∙ ap (λ v. lay l.out l.k (arcNumberBytes v)) is in (
+    let e : c.before.before.put-arc.new.0 ≡ lay l.out l.k (arc_number_bytes (number_at s.xs.now s.left.now s.ys.now s.right.now l.i)) =
+    c.before.before.put-arc.ensures ∙ ap (λ v. lay l.out l.k (arc_number_bytes v)) is in (
       omega arith,
       omega arith,
-      rw e (length-lay _ _ _ ∙ l.inv.2),
-      rw e (l.inv.3 ∙ rows-turn _ _ length-arc _ _ _ _ _ (omega arith)),
+      rw e (length_lay _ _ _ ∙ l.inv.2),
+      rw e (l.inv.3 ∙ rows_turn _ _ length_arc _ _ _ _ _ (omega arith)),
     )
 
 same_length : tie.Need-same-length invariant-loop decreases-loop
 same_length c = search rules
 
 returns : tie.Need-returns invariant-loop decreases-loop
-returns c = sym (c.before.loop.invariant.3 ∙ rows_end _ _ length-arc _ _ _ _ _ (omega arith))
+returns c = sym (c.before.loop.invariant.3 ∙ rows_end _ _ length_arc _ _ _ _ _ (omega arith))
 
 pub put-arcs-spec : {M : Type 1} → statement M
 put-arcs-spec =

@@ -4,8 +4,8 @@ use native.Mathlib.Omega.{arith}
 use mathlib.Core.Path.{◌∙◌}
 use mir.Syntax.{w64}
 use mir.ValLaws.{to_z-of_z}
-use Rattle.byte_words.proofs.Words.{lay-append, length-bytesOf}
-use Rattle.norm_kinds.specs.Kinds.{normalLabelBytes}
+use Rattle.byte_words.proofs.Words.{lay_append, length_bytes_of}
+use Rattle.norm_kinds.specs.Kinds.{normal_label_bytes}
 use borrow.Author.Rules.{rules}
 use Rattle.merge_heads.proofs.put_fields.Statement.{statement}
 use Rattle.merge_heads.proofs.put_fields.Tie as tie
@@ -48,7 +48,7 @@ same_length c = search rules
 
 -- Each `let` of a place leads from a later one to an earlier one; they stand here since `rw` takes no view.
 returns : tie.Need-returns
-unfolding normalLabelBytes
+unfolding normal_label_bytes
 returns c =
     let sixth = c.before.before in
     let fifth = sixth.before.before.before.before.before in
@@ -60,11 +60,11 @@ returns c =
     let l = start.args.l in
     let back = to_z-of_z w64 l.estimate (record { sfits = sixth.before.struct_told.given.1.1.1.1.0.1 }) in
     rw (sixth.write-i64.ensures, fifth.write-u323.ensures, fourth.write-u322.ensures, third.write-u32.ensures, second.write-u162.ensures, first.write-u16.ensures, back)
-    (lay-append _ _ _ _ _ (simp length-bytesOf (omega arith))
-    ∙ lay-append _ _ _ _ _ (simp length-bytesOf (omega arith))
-    ∙ lay-append _ _ _ _ _ (simp length-bytesOf (omega arith))
-    ∙ lay-append _ _ _ _ _ (simp length-bytesOf (omega arith))
-    ∙ lay-append _ _ _ _ _ (simp length-bytesOf))
+    (lay_append _ _ _ _ _ (simp length_bytes_of (omega arith))
+    ∙ lay_append _ _ _ _ _ (simp length_bytes_of (omega arith))
+    ∙ lay_append _ _ _ _ _ (simp length_bytes_of (omega arith))
+    ∙ lay_append _ _ _ _ _ (simp length_bytes_of (omega arith))
+    ∙ lay_append _ _ _ _ _ (simp length_bytes_of))
 
 pub put-fields-spec : {M : Type 1} → statement M
 put-fields-spec =

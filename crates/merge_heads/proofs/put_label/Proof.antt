@@ -5,8 +5,8 @@ use native.Mathlib.Omega.{arith}
 use mathlib.Core.Path.{ap, ◌∙◌}
 use mathlib.Core.List.{◌++◌}
 use lib.ListN.{take, drop}
-use Rattle.byte_words.proofs.Parts.{lay-part}
-use Rattle.norm_kinds.specs.Kinds.{normalLabelBytes}
+use Rattle.byte_words.proofs.Parts.{lay_part}
+use Rattle.norm_kinds.specs.Kinds.{normal_label_bytes}
 use Rattle.norm_kinds.proofs.Records.{length_label}
 use borrow.Author.Rules.{rules}
 use Rattle.merge_heads.proofs.put_label.Statement.{statement}
@@ -36,7 +36,7 @@ returns c =
     let out = s.args.out.now in
     let n = s.args.at + 24 - s.args.at in
     ap (λ l. take s.args.at out ++ (l ++ drop n (drop s.args.at out))) c.before.before.put-fields.ensures
-    ∙ lay-part out s.args.at n (normalLabelBytes s.args.l) (omega (arith, length_label s.args.l)) (omega (arith, length_label s.args.l, s.requires))
+    ∙ lay_part out s.args.at n (normal_label_bytes s.args.l) (omega (arith, length_label s.args.l)) (omega (arith, length_label s.args.l, s.requires))
 
 pub put-label-spec : {M : Type 1} → statement M
 put-label-spec =

@@ -7,13 +7,13 @@ use native.Mathlib.Omega.{arith}
 use borrow.Author.Rules.{rules}
 use lib.ListN.{length}
 use Rattle.byte_words.specs.Words.{lay}
-use Rattle.byte_words.proofs.Words.{length-lay}
+use Rattle.byte_words.proofs.Words.{length_lay}
 use Rattle.byte_section.specs.Section.{encoded}
-use Rattle.norm_kinds.specs.Kinds.{normalLabelBytes}
+use Rattle.norm_kinds.specs.Kinds.{normal_label_bytes}
 use Rattle.norm_kinds.proofs.Records.{length_label}
 use Rattle.norm_labels.specs.Table.{rows_of}
-use Rattle.merge_sums.proofs.Writing.{rows_end, rows-turn}
-use Rattle.merge_heads.specs.Heads.{labelOfUnion}
+use Rattle.merge_sums.proofs.Writing.{rows_end, rows_turn}
+use Rattle.merge_heads.specs.Heads.{label_of_union}
 use Rattle.merge_heads.proofs.put_labels.Statement.{statement}
 use Rattle.merge_heads.proofs.put_labels.Tie as tie
 
@@ -22,7 +22,7 @@ invariant-loop out₀ at count a start n left b begin m right k₀ i₀ out k i 
     (i ≤ count)
     × (k ≡ at + 24 * i)
     × (length out ≡ length out₀)
-    × (lay out₀ at (encoded normalLabelBytes (rows_of (labelOfUnion a start n left b begin right) 0 count)) ≡ lay out k (encoded normalLabelBytes (rows_of (labelOfUnion a start n left b begin right) i (count - i))))
+    × (lay out₀ at (encoded normal_label_bytes (rows_of (label_of_union a start n left b begin right) 0 count)) ≡ lay out k (encoded normal_label_bytes (rows_of (label_of_union a start n left b begin right) i (count - i))))
 
 abbrev decreases-loop : tie.decreases-loop
 decreases-loop out₀ at count a start n left b begin m right k₀ i₀ out k i = count - i
@@ -67,19 +67,19 @@ loop-less : tie.Need-loop-smaller invariant-loop decreases-loop
 loop-less c = search rules
 
 loop-again : tie.Need-loop-preserved invariant-loop decreases-loop
-unfolding labelOfUnion
+unfolding label_of_union
 loop-again c =
     let label = c.before.before.before.before in let turn = turn-of-label label in let start = start-of-turn turn in
     let l = turn.loop in
     let s = start.args in
-    let is : label.label-in.result ≡ labelOfUnion s.a.now s.start s.n s.left.now s.b.now s.begin s.right.now l.i =
+    let is : label.label-in.result ≡ label_of_union s.a.now s.start s.n s.left.now s.b.now s.begin s.right.now l.i =
     label.label-in.ensures in
-    let e : c.before.before.put-label.new.0 ≡ lay l.out l.k (normalLabelBytes (labelOfUnion s.a.now s.start s.n s.left.now s.b.now s.begin s.right.now l.i)) =
-    c.before.before.put-label.ensures ∙ ap (λ v. lay l.out l.k (normalLabelBytes v)) is in (
+    let e : c.before.before.put-label.new.0 ≡ lay l.out l.k (normal_label_bytes (label_of_union s.a.now s.start s.n s.left.now s.b.now s.begin s.right.now l.i)) =
+    c.before.before.put-label.ensures ∙ ap (λ v. lay l.out l.k (normal_label_bytes v)) is in (
       omega arith,
       omega arith,
-      rw e (length-lay _ _ _ ∙ l.inv.2),
-      rw e (l.inv.3 ∙ rows-turn _ _ length_label _ _ _ _ _ (omega arith)),
+      rw e (length_lay _ _ _ ∙ l.inv.2),
+      rw e (l.inv.3 ∙ rows_turn _ _ length_label _ _ _ _ _ (omega arith)),
     )
 
 same_length : tie.Need-same-length invariant-loop decreases-loop

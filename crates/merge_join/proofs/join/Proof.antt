@@ -5,7 +5,7 @@ use Prim.Native.Nat.{◌≤◌, ◌+◌, ◌-◌}
 use native.Mathlib.Omega.{arith}
 use borrow.Author.Rules.{rules}
 use lib.ListN.{length, length-set}
-use Rattle.merge_join.proofs.Joining.{Walking, walk-starts, walk-on, walk_ends}
+use Rattle.merge_join.proofs.Joining.{Walking, walk_starts, walk_on, walk_ends}
 use Rattle.merge_join.proofs.join.Statement.{statement}
 use Rattle.merge_join.proofs.join.Tie as tie
 
@@ -22,7 +22,7 @@ abbrev decreases-loop : tie.decreases-loop
 decreases-loop xs ys left₀ right₀ i₀ j₀ n₀ left right i j n = (length xs + length ys) - (i + j)
 
 loop-holds : tie.Need-loop-init invariant-loop decreases-loop
-loop-holds c = (omega arith, omega arith, omega arith, search rules, search rules, walk-starts _ _ _ _)
+loop-holds c = (omega arith, omega arith, omega arith, search rules, search rules, walk_starts _ _ _ _)
 
 add-loop : tie.Need-overflow-add-loop invariant-loop decreases-loop
 add-loop c = search rules
@@ -55,12 +55,12 @@ loop-again : tie.Need-loop-preserved invariant-loop decreases-loop
 loop-again c =
     let l = c.before.before.loop in
     let e = c.step.ensures in (
-      e.within-left,
-      e.within-right,
+      e.within_left,
+      e.within_right,
       omega (arith, e.on),
       length-set l.left l.n _ ∙ l.invariant.3,
       length-set l.right l.n _ ∙ l.invariant.4,
-      walk-on _ _ _ _ l.left l.right l.i l.j l.n c.step.result e l.invariant.5,
+      walk_on _ _ _ _ l.left l.right l.i l.j l.n c.step.result e l.invariant.5,
     )
 
 same_length : tie.Need-same-length invariant-loop decreases-loop

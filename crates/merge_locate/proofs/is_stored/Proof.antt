@@ -5,7 +5,7 @@ use mathlib.Core.Bool.{not}
 use native.Mathlib.Omega.{arith}
 use borrow.Author.Rules.{rules}
 use Rattle.num_whole.specs.Tests.{same}
-use Rattle.num_whole.proofs.Cases.{holds, fails, is-less, not-less, by-not-same}
+use Rattle.num_whole.proofs.Cases.{holds, fails, is_less, not_less, by_not_same}
 use Rattle.merge_locate.specs.Locate.{stored_at}
 use Rattle.merge_locate.proofs.is_stored.Statement.{statement}
 use Rattle.merge_locate.proofs.is_stored.Tie as tie
@@ -24,11 +24,11 @@ read-u32-requires c κs = search rules
 
 returns : tie.Need-returns
 unfolding stored_at
-returns c = holds _ _ (is-less _ _ (omega arith)) (by-not-same _ _ ∙ ap (λ n. not (same n 2)) c.read_u32.ensures)
+returns c = holds _ _ (is_less _ _ (omega arith)) (by_not_same _ _ ∙ ap (λ n. not (same n 2)) c.read_u32.ensures)
 
 returns-2 : tie.Need-returns-2
 unfolding stored_at
-returns-2 c = fails _ _ (not-less _ _ (omega arith))
+returns-2 c = fails _ _ (not_less _ _ (omega arith))
 
 pub is-stored-spec : {M : Type 1} → statement M
 is-stored-spec =

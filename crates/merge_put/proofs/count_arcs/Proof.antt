@@ -5,9 +5,9 @@ use native.Mathlib.Omega.{arith}
 use Prim.Native.Nat.{◌≤◌}
 use lib.ListN.{length, take}
 use Rattle.merge_join.specs.Join.{union}
-use Rattle.merge_put.specs.Parts.{systemInFile}
+use Rattle.merge_put.specs.Parts.{system_in_file}
 use Rattle.merge_put.proofs.Known.{Known, known}
-use Rattle.merge_put.proofs.Loaded.{arcs-part, part-long, arcs-ascend, arcs-room}
+use Rattle.merge_put.proofs.Loaded.{arcs_part, part_long, arcs_ascend, arcs_room}
 use borrow.Author.Rules.{rules}
 use Rattle.merge_put.proofs.count_arcs.Statement.{statement}
 use Rattle.merge_put.proofs.count_arcs.Tie as tie
@@ -32,11 +32,11 @@ ky : (c : tie.Start) → Known c.args.b.now c.args.y
 ky c = known _ _ c.requires.1
 
 -- the arcs of each file, in the room that they were loaded into
-us-part : (c : tie.After-load-arcs) → let a = (start-of-us c).args in let room = c.load-arcs.new.1.1.0 in (a.x.arcs ≤ length room) × (take a.x.arcs room ≡ (systemInFile a.a.now).arcs)
-us-part c = arcs-part _ _ (kx (start-of-us c)) _ _ refl c.load-arcs.ensures
+us_part : (c : tie.After-load-arcs) → let a = (start-of-us c).args in let room = c.load-arcs.new.1.1.0 in (a.x.arcs ≤ length room) × (take a.x.arcs room ≡ (system_in_file a.a.now).arcs)
+us_part c = arcs_part _ _ (kx (start-of-us c)) _ _ refl c.load-arcs.ensures
 
-vs-part : (c : tie.After-load-arcs2) → let a = (start-of-vs c).args in let room = c.load-arcs2.new.1.1.0 in (a.y.arcs ≤ length room) × (take a.y.arcs room ≡ (systemInFile a.b.now).arcs)
-vs-part c = arcs-part _ _ (ky (start-of-vs c)) _ _ refl c.load-arcs2.ensures
+vs_part : (c : tie.After-load-arcs2) → let a = (start-of-vs c).args in let room = c.load-arcs2.new.1.1.0 in (a.y.arcs ≤ length room) × (take a.y.arcs room ≡ (system_in_file a.b.now).arcs)
+vs_part c = arcs_part _ _ (ky (start-of-vs c)) _ _ refl c.load-arcs2.ensures
 
 slice-aggregate-load-arcs : tie.Need-slice-aggregate-load-arcs
 slice-aggregate-load-arcs c = search rules
@@ -44,7 +44,7 @@ slice-aggregate-load-arcs c = search rules
 load-arcs-requires : tie.Need-load-arcs-requires
 load-arcs-requires c κs =
     let s = c.before.before.before in
-    (omega (arith, (kx s).labels-end), (kx s).few-arcs)
+    (omega (arith, (kx s).labels_end), (kx s).few_arcs)
 
 slice-aggregate-load-arcs-2 : tie.Need-slice-aggregate-load-arcs-2
 slice-aggregate-load-arcs-2 c = search rules
@@ -52,19 +52,19 @@ slice-aggregate-load-arcs-2 c = search rules
 load-arcs-requires-2 : tie.Need-load-arcs-requires-2
 load-arcs-requires-2 c κs =
     let s = start-of-us c.before.before in
-    (omega (arith, (ky s).labels-end), (ky s).few-arcs)
+    (omega (arith, (ky s).labels_end), (ky s).few_arcs)
 
 array-share-prefix-us : tie.Need-array-share-prefix-us
-array-share-prefix-us c = (us-part (us-of-vs c.before)).0
+array-share-prefix-us c = (us_part (us-of-vs c.before)).0
 
 slice-aggregate-join : tie.Need-slice-aggregate-join
-slice-aggregate-join c = part-long _ _ (us-part (us-of-vs c.before.before)).0
+slice-aggregate-join c = part_long _ _ (us_part (us-of-vs c.before.before)).0
 
 array-share-prefix-vs : tie.Need-array-share-prefix-vs
-array-share-prefix-vs c = (vs-part c.before.before).0
+array-share-prefix-vs c = (vs_part c.before.before).0
 
 slice-aggregate-join-2 : tie.Need-slice-aggregate-join-2
-slice-aggregate-join-2 c = part-long _ _ (vs-part c.before.before.before).0
+slice-aggregate-join-2 c = part_long _ _ (vs_part c.before.before.before).0
 
 slice-aggregate-join-3 : tie.Need-slice-aggregate-join-3
 slice-aggregate-join-3 c = search rules
@@ -75,14 +75,14 @@ slice-aggregate-join-4 c = search rules
 join-requires : tie.Need-join-requires
 join-requires c κs =
     let vs = c.before.before.before.before.before in let us = us-of-vs vs in let s = start-of-us us in
-    let p = us-part us in let q = vs-part vs in let k = kx s in let l = ky s in
-    (arcs-ascend _ _ k _ _ l _ _ p.1 q.1, (arcs-room _ _ k _ _ l _ _ p.1 q.1, arcs-room _ _ k _ _ l _ _ p.1 q.1))
+    let p = us_part us in let q = vs_part vs in let k = kx s in let l = ky s in
+    (arcs_ascend _ _ k _ _ l _ _ p.1 q.1, (arcs_room _ _ k _ _ l _ _ p.1 q.1, arcs_room _ _ k _ _ l _ _ p.1 q.1))
 
 returns : tie.Need-returns
 returns c =
     let joined = c.before.before in let vs = vs-of-joined joined in let us = us-of-vs vs in
     joined.join.ensures.count
-    ∙ ap₂ (λ u v. length (union u v)) (us-part us).1 (vs-part vs).1
+    ∙ ap₂ (λ u v. length (union u v)) (us_part us).1 (vs_part vs).1
 
 pub count-arcs-spec : {M : Type 1} → statement M
 count-arcs-spec =

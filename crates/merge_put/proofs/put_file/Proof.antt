@@ -4,7 +4,7 @@ use mathlib.Core.Path.{refl}
 use native.Mathlib.Omega.{arith}
 use borrow.Author.Rules.{rules}
 use Rattle.merge_put.proofs.Known.{Known, known}
-use Rattle.merge_put.proofs.Steps.{file-put}
+use Rattle.merge_put.proofs.Steps.{file_put}
 use Rattle.merge_put.proofs.put_file.Statement.{statement}
 use Rattle.merge_put.proofs.put_file.Tie as tie
 
@@ -74,7 +74,7 @@ returns : tie.Need-returns
 returns c =
     let last = c.before.before in let middle = middle-of-last last in let heads = heads-of-middle middle in let s = start-of-heads heads in
     let p = s.pre in
-    file-put _ _ (kx s) _ _ (ky s) _ _ _ p.1.0.1 _ p.1.0.0 _ _ _ _ _ _ refl (omega (arith, last.before.before.triangle.ensures.0))
+    file_put _ _ (kx s) _ _ (ky s) _ _ _ p.1.0.1 _ p.1.0.0 _ _ _ _ _ _ refl (omega (arith, last.before.before.triangle.ensures.0))
     heads.put-heads.ensures middle.put-middle.ensures last.put_last.ensures
 
 pub put-file-spec : {M : Type 1} → statement M

@@ -2,8 +2,8 @@
 -- Assumes nothing.
 use native.Mathlib.Omega.{arith}
 use Rattle.merge_put.proofs.Known.{Known, known}
-use Rattle.merge_put.proofs.Sums.{labels-somewhere}
-use Rattle.merge_put.proofs.Steps.{heads-put}
+use Rattle.merge_put.proofs.Sums.{labels_somewhere}
+use Rattle.merge_put.proofs.Steps.{heads_put}
 use borrow.Author.Rules.{rules}
 use Rattle.merge_put.proofs.put_heads.Statement.{statement}
 use Rattle.merge_put.proofs.put_heads.Tie as tie
@@ -55,24 +55,24 @@ add-put-labels : tie.Need-overflow-add-put-labels
 add-put-labels c = search rules
 
 mul-put-labels : tie.Need-overflow-mul-put-labels
-mul-put-labels c = omega (arith, (kx (start-of-label-count c.before.before.before.before)).few-arcs)
+mul-put-labels c = omega (arith, (kx (start-of-label-count c.before.before.before.before)).few_arcs)
 
 add-put-labels-2 : tie.Need-overflow-add-put-labels-2
-add-put-labels-2 c = omega (arith, (kx (start-of-label-count c.before.before.before.before)).few-arcs)
+add-put-labels-2 c = omega (arith, (kx (start-of-label-count c.before.before.before.before)).few_arcs)
 
 mul-put-labels-2 : tie.Need-overflow-mul-put-labels-2
-mul-put-labels-2 c = omega (arith, (ky (start-of-label-count c.before.before.before.before.before)).few-arcs)
+mul-put-labels-2 c = omega (arith, (ky (start-of-label-count c.before.before.before.before.before)).few_arcs)
 
 add-put-labels-3 : tie.Need-overflow-add-put-labels-3
-add-put-labels-3 c = omega (arith, (ky (start-of-label-count c.before.before.before.before.before)).few-arcs)
+add-put-labels-3 c = omega (arith, (ky (start-of-label-count c.before.before.before.before.before)).few_arcs)
 
 put-labels-requires : tie.Need-put-labels-requires
 put-labels-requires c κs =
     let k = kx (start-of-label-count c.before.before.before.before.before) in
     let l = ky (start-of-label-count c.before.before.before.before.before) in
     let j = (start-of-label-count c.before.before.before.before.before).requires.1.0.1 in (
-      (k.labels-end, l.labels-end),
-      ((j.left-long, j.right-long, omega (arith, (start-of-label-count c.before.before.before.before.before).requires.1.1.1)), labels-somewhere _ _ k _ _ l _ _ _ j),
+      (k.labels_end, l.labels_end),
+      ((j.left_long, j.right_long, omega (arith, (start-of-label-count c.before.before.before.before.before).requires.1.1.1)), labels_somewhere _ _ k _ _ l _ _ _ j),
     )
 
 same_length : tie.Need-same-length
@@ -82,7 +82,7 @@ returns : tie.Need-returns
 returns c =
     let labels = c.before.before in let label-count = label-count-of-labels labels in let arcs = arcs-of-label-count label-count in let arc-count = arc-count-of-arcs arcs in let s = start-of-arc-count arc-count in
     let p = s.pre in
-    heads-put _ _ (kx s) _ _ (ky s) _ _ _ p.1.0.1 _ p.1.0.0 _ _ _ _ _
+    heads_put _ _ (kx s) _ _ (ky s) _ _ _ p.1.0.1 _ p.1.0.0 _ _ _ _ _
     arc-count.write-u32.ensures arcs.put-arcs.ensures label-count.write-u322.ensures labels.put-labels.ensures
 
 pub put-heads-spec : {M : Type 1} → statement M

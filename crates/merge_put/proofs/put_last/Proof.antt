@@ -4,7 +4,7 @@ use mathlib.Core.Path.{ap₂, ◌∙◌}
 use Prim.Native.Nat.{◌+◌}
 use native.Mathlib.Omega.{arith}
 use Rattle.merge_put.proofs.Known.{Known, known}
-use Rattle.merge_put.proofs.Steps.{totals-fit, last-put}
+use Rattle.merge_put.proofs.Steps.{totals_fit, last_put}
 use borrow.Author.Rules.{rules}
 use Rattle.merge_put.proofs.put_last.Statement.{statement}
 use Rattle.merge_put.proofs.put_last.Tie as tie
@@ -42,16 +42,16 @@ add-accepted c =
     let s = start-of-accepted c in
     let k = kx s in
     let l = ky s in
-    omega (arith, c.before.read_u64.ensures ∙ k.accepted-is, c.read-u642.ensures ∙ l.accepted-is, (totals-fit _ _ k _ _ l).0)
+    omega (arith, c.before.read_u64.ensures ∙ k.accepted_is, c.read-u642.ensures ∙ l.accepted_is, (totals_fit _ _ k _ _ l).0)
 
 add-read-u64 : tie.Need-overflow-add-read-u64
-add-read-u64 c = omega (arith, (kx (start-of-accepted c.before)).totals-end)
+add-read-u64 c = omega (arith, (kx (start-of-accepted c.before)).totals_end)
 
 read-u64-requires-3 : tie.Need-read-u64-requires-3
 read-u64-requires-3 c κs = search rules
 
 add-read-u64-2 : tie.Need-overflow-add-read-u64-2
-add-read-u64-2 c = omega (arith, (ky (start-of-accepted c.before.before.before)).totals-end)
+add-read-u64-2 c = omega (arith, (ky (start-of-accepted c.before.before.before)).totals_end)
 
 read-u64-requires-4 : tie.Need-read-u64-requires-4
 read-u64-requires-4 c κs = search rules
@@ -61,7 +61,7 @@ add-square c =
     let s = start-of-accepted (accepted-of-square c) in
     let k = kx s in
     let l = ky s in
-    omega (arith, c.before.before.read-u643.ensures ∙ k.square-is, c.read-u644.ensures ∙ l.square-is, (totals-fit _ _ k _ _ l).1)
+    omega (arith, c.before.before.read-u643.ensures ∙ k.square_is, c.read-u644.ensures ∙ l.square_is, (totals_fit _ _ k _ _ l).1)
 
 write-u32-requires : tie.Need-write-u32-requires
 write-u32-requires c κs = search rules
@@ -86,9 +86,9 @@ returns c =
     let square-put = c.before.before in let accepted-put = accepted-put-of-square-put square-put in let count = count-of-accepted-put accepted-put in let square = square-of-count count in let accepted = accepted-of-square square in let s = start-of-accepted accepted in
     let k = kx s in
     let l = ky s in
-    last-put _ _ k _ _ l _ _ _ _ _ _ _
-    (ap₂ (λ u v. u + v) (accepted.before.read_u64.ensures ∙ k.accepted-is) (accepted.read-u642.ensures ∙ l.accepted-is))
-    (ap₂ (λ u v. u + v) (square.before.before.read-u643.ensures ∙ k.square-is) (square.read-u644.ensures ∙ l.square-is))
+    last_put _ _ k _ _ l _ _ _ _ _ _ _
+    (ap₂ (λ u v. u + v) (accepted.before.read_u64.ensures ∙ k.accepted_is) (accepted.read-u642.ensures ∙ l.accepted_is))
+    (ap₂ (λ u v. u + v) (square.before.before.read-u643.ensures ∙ k.square_is) (square.read-u644.ensures ∙ l.square_is))
     count.write-u32.ensures accepted-put.write-u64.ensures square-put.write-u642.ensures
 
 pub put-last-spec : {M : Type 1} → statement M

@@ -6,13 +6,13 @@ use Prim.Native.Nat.{ℕ, ◌≤◌, ◌<◌, ◌-◌}
 use native.Mathlib.Omega.{arith}
 use borrow.Author.Rules.{rules}
 use borrow.Author.Count.{below_more}
-use Rattle.num_whole.proofs.Tables.{below-every, below_fails}
-use Rattle.merge_read.specs.Read.{agreeAt}
+use Rattle.num_whole.proofs.Tables.{below_every, below_fails}
+use Rattle.merge_read.specs.Read.{agree_at}
 use Rattle.merge_read.proofs.agree.Statement.{statement}
 use Rattle.merge_read.proofs.agree.Tie as tie
 
 abbrev invariant-loop : tie.invariant-loop
-invariant-loop a start n left b begin m right count i₀ i = (i ≤ count) × ((k : ℕ) → k < i → agreeAt a start n left b begin m right k ≡ true)
+invariant-loop a start n left b begin m right count i₀ i = (i ≤ count) × ((k : ℕ) → k < i → agree_at a start n left b begin m right k ≡ true)
 
 abbrev decreases-loop : tie.decreases-loop
 decreases-loop a start n left b begin m right count i₀ i = count - i
@@ -42,15 +42,15 @@ loop-less : tie.Need-loop-smaller invariant-loop decreases-loop
 loop-less c = search rules
 
 loop-again : tie.Need-loop-preserved invariant-loop decreases-loop
-unfolding agreeAt
+unfolding agree_at
 loop-again c = (omega arith, below_more _ _ c.before.before.before.before.before.loop.invariant.1 (sym c.before.agree-in.ensures ∙ c.if1.true))
 
 returns : tie.Need-returns invariant-loop decreases-loop
-unfolding agreeAt
+unfolding agree_at
 returns c = sym (below_fails _ _ c.before.before.before.before.before.loop.i (omega arith) (sym c.before.agree-in.ensures ∙ c.if1.false))
 
 returns-2 : tie.Need-returns-2 invariant-loop decreases-loop
-returns-2 c = sym (below-every _ _ (λ k h. c.before.loop.invariant.1 k (omega arith)))
+returns-2 c = sym (below_every _ _ (λ k h. c.before.loop.invariant.1 k (omega arith)))
 
 pub agree-spec : {M : Type 1} → statement M
 agree-spec =

@@ -1,7 +1,7 @@
 -- `merge_read::agree_in` meets its contract, one step for each test.
 -- Assumes nothing.
 use native.Mathlib.Omega.{arith}
-use Rattle.merge_read.proofs.Compared.{agree-both, agree_left, agree_right}
+use Rattle.merge_read.proofs.Compared.{agree_both, agree_left, agree_right}
 use borrow.Author.Rules.{rules}
 use Rattle.merge_read.proofs.agree_in.Statement.{statement}
 use Rattle.merge_read.proofs.agree_in.Tie as tie
@@ -22,7 +22,7 @@ alike-at-requires : tie.Need-alike-at-requires
 alike-at-requires c κs = search rules
 
 returns : tie.Need-returns
-returns c = agree-both _ _ _ _ _ _ _ _ (omega arith) (omega arith) c.Alike-at.ensures
+returns c = agree_both _ _ _ _ _ _ _ _ (omega arith) (omega arith) c.Alike-at.ensures
 
 returns-2 : tie.Need-returns-2
 returns-2 c = agree_left _ _ _ _ _ _ _ _ (omega arith) (omega arith)

@@ -1,7 +1,7 @@
 -- `merge_read::alike_at` meets its contract, one step for its test.
 -- Assumes nothing.
 use mathlib.Core.Path.{sym, ◌∙◌}
-use Rattle.merge_read.proofs.Compared.{weights-differ, estimates-tell}
+use Rattle.merge_read.proofs.Compared.{weights_differ, estimates_tell}
 use borrow.Author.Rules.{rules}
 use Rattle.merge_read.proofs.alike_at.Statement.{statement}
 use Rattle.merge_read.proofs.alike_at.Tie as tie
@@ -35,12 +35,12 @@ returns c =
     let s = c.before.before.before.before.before.before.before.args in
     let x = c.before.read-i64 in
     let y = c.read-i642 in
-    estimates-tell s.a.now s.p s.b.now s.q x.result y.result (sym c.before.before.before.before.read_u32.ensures ∙ c.before.before.if1.true ∙ c.before.before.before.read-u322.ensures) x.ensures y.ensures
+    estimates_tell s.a.now s.p s.b.now s.q x.result y.result (sym c.before.before.before.before.read_u32.ensures ∙ c.before.before.if1.true ∙ c.before.before.before.read-u322.ensures) x.ensures y.ensures
     (record { sfits = x.type-inv }) (record { sfits = y.type-inv })
 
 returns-2 : tie.Need-returns-2
 returns-2 c =
-    weights-differ _ _ _ _ (λ e. c.if1.false (c.before.before.read_u32.ensures ∙ e ∙ sym c.before.read-u322.ensures))
+    weights_differ _ _ _ _ (λ e. c.if1.false (c.before.before.read_u32.ensures ∙ e ∙ sym c.before.read-u322.ensures))
 
 pub alike-at-spec : {M : Type 1} → statement M
 alike-at-spec =

@@ -3,7 +3,7 @@
 use Prim.Native.Nat.{◌+◌, ◌-◌}
 use mathlib.Core.Path.{◌∙◌}
 use native.Mathlib.Omega.{arith}
-use Rattle.merge_read.proofs.Compared.{label-part}
+use Rattle.merge_read.proofs.Compared.{label_part}
 use borrow.Author.Rules.{rules}
 use Rattle.merge_read.proofs.label_at.Statement.{statement}
 use Rattle.merge_read.proofs.label_at.Tie as tie
@@ -26,7 +26,7 @@ load-label-requires c κs = search rules
 returns : tie.Need-returns
 returns c =
     let s = c.before.before.before in
-    c.load-label.ensures ∙ label-part s.args.s.now s.args.at (s.args.at + 24 - s.args.at) (omega arith)
+    c.load-label.ensures ∙ label_part s.args.s.now s.args.at (s.args.at + 24 - s.args.at) (omega arith)
 
 pub label-at-spec : {M : Type 1} → statement M
 label-at-spec =

@@ -8,8 +8,8 @@ use lib.ListN.{length, length-set}
 use Rattle.byte_words.specs.Words.{lay}
 use Rattle.norm_system.specs.System.{key_of}
 use Rattle.byte_words.specs.Stands.{stands}
-use Rattle.merge_read.specs.Read.{key_at, keysAt}
-use Rattle.byte_words.proofs.Stands.{load-start, load-end, load-turn}
+use Rattle.merge_read.specs.Read.{key_at, keys_at}
+use Rattle.byte_words.proofs.Stands.{load_start, load_end, load_turn}
 use Rattle.merge_read.proofs.load_keys.Statement.{statement}
 use Rattle.merge_read.proofs.load_keys.Tie as tie
 
@@ -18,14 +18,14 @@ invariant-loop s start n keys₀ at₀ i₀ keys at i =
     (i ≤ n)
     × (at ≡ start + 24 * i)
     × (length keys ≡ length keys₀)
-    × (lay keys₀ 0 (keysAt s start n) ≡ lay keys i (stands (key_at s) 24 (n - i) at))
+    × (lay keys₀ 0 (keys_at s start n) ≡ lay keys i (stands (key_at s) 24 (n - i) at))
 
 abbrev decreases-loop : tie.decreases-loop
 decreases-loop s start n keys₀ at₀ i₀ keys at i = n - i
 
 loop-holds : tie.Need-loop-init invariant-loop decreases-loop
-unfolding keysAt
-loop-holds c = (omega arith, omega arith, refl, load-start _ _ _ _ _)
+unfolding keys_at
+loop-holds c = (omega arith, omega arith, refl, load_start _ _ _ _ _)
 
 label-at-requires : tie.Need-label-at-requires invariant-loop decreases-loop
 label-at-requires c κs = search rules
@@ -55,14 +55,14 @@ loop-again c =
       omega arith,
       omega arith,
       length-set l.keys l.i _ ∙ l.invariant.2,
-      l.invariant.3 ∙ load-turn _ _ l.keys _ l.i l.at c.label-key.result (omega arith) (c.label-key.ensures.0 ∙ ap key_of c.before.label_at.ensures),
+      l.invariant.3 ∙ load_turn _ _ l.keys _ l.i l.at c.label_key_lem.result (omega arith) (c.label_key_lem.ensures.0 ∙ ap key_of c.before.label_at.ensures),
     )
 
 same_length : tie.Need-same-length invariant-loop decreases-loop
 same_length c = search rules
 
 returns : tie.Need-returns invariant-loop decreases-loop
-returns c = sym (c.before.loop.invariant.3 ∙ load-end _ _ _ _ _ _ (omega arith))
+returns c = sym (c.before.loop.invariant.3 ∙ load_end _ _ _ _ _ _ (omega arith))
 
 pub load-keys-spec : {M : Type 1} → statement M
 load-keys-spec =

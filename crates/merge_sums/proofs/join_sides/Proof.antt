@@ -6,10 +6,10 @@ use borrow.Author.Rules.{rules}
 use lib.IntN.{pos}
 use lib.ListN.{length, get_or, replicate, length-replicate}
 use Rattle.num_whole.specs.Sums.{plus}
-use Rattle.num_whole.proofs.Adding.{length-plus}
+use Rattle.num_whole.proofs.Adding.{length_plus}
 use Rattle.norm_labels.specs.Table.{rows_of}
-use Rattle.norm_add.specs.Add.{onPlace}
-use Rattle.merge_sums.proofs.Both.{all-cleared, first-addable, sides-both, sides-second}
+use Rattle.norm_add.specs.Add.{on_place}
+use Rattle.merge_sums.proofs.Both.{all_cleared, first_addable, sides_both, sides_second}
 use Rattle.merge_sums.proofs.join_sides.Statement.{statement}
 use Rattle.merge_sums.proofs.join_sides.Tie as tie
 
@@ -22,20 +22,20 @@ none-of-one c = c.before.before.before
 
 -- the room after the clearing
 zeros : (c : tie.After-clear) → c.clear.new.0 ≡ replicate (length (start-of-none c).args.col.now) (pos 0)
-zeros c = c.clear.ensures ∙ all-cleared (start-of-none c).args.col.now _ refl
+zeros c = c.clear.ensures ∙ all_cleared (start-of-none c).args.col.now _ refl
 
-none-long : (c : tie.After-clear) → length c.clear.new.0 ≡ length (start-of-none c).args.col.now
-none-long c = ap length (zeros c) ∙ length-replicate _ (pos 0)
+none_long : (c : tie.After-clear) → length c.clear.new.0 ≡ length (start-of-none c).args.col.now
+none_long c = ap length (zeros c) ∙ length-replicate _ (pos 0)
 
 -- and with the first file's
-one-is : (c : tie.After-add-column) → let s = start-of-none (none-of-one c) in
-    c.add-column.new.0 ≡ plus (none-of-one c).clear.new.0 (rows_of (onPlace s.args.a.now s.args.c s.args.ta.now) 0 (length s.args.col.now))
-one-is c =
+one_is : (c : tie.After-add-column) → let s = start-of-none (none-of-one c) in
+    c.add-column.new.0 ≡ plus (none-of-one c).clear.new.0 (rows_of (on_place s.args.a.now s.args.c s.args.ta.now) 0 (length s.args.col.now))
+one_is c =
     let s = start-of-none (none-of-one c) in
-    c.add-column.ensures ∙ ap (λ n. plus (none-of-one c).clear.new.0 (rows_of (onPlace s.args.a.now s.args.c s.args.ta.now) 0 n)) (none-long (none-of-one c))
+    c.add-column.ensures ∙ ap (λ n. plus (none-of-one c).clear.new.0 (rows_of (on_place s.args.a.now s.args.c s.args.ta.now) 0 n)) (none_long (none-of-one c))
 
-one-long : (c : tie.After-add-column) → length c.add-column.new.0 ≡ length (start-of-none (none-of-one c)).args.col.now
-one-long c = ap length (one-is c) ∙ length-plus (none-of-one c).clear.new.0 _ ∙ none-long (none-of-one c)
+one_long : (c : tie.After-add-column) → length c.add-column.new.0 ≡ length (start-of-none (none-of-one c)).args.col.now
+one_long c = ap length (one_is c) ∙ length_plus (none-of-one c).clear.new.0 _ ∙ none_long (none-of-one c)
 
 clear-requires : tie.Need-clear-requires
 clear-requires c κs = search rules
@@ -46,7 +46,7 @@ add-column-requires c κs =
     let s = start-of-none none in
     let x = s.pre.0 in (
       (x.0, x.1),
-      ((x.2, λ i h. subst (λ n. get_or s.args.ta.now i 0 < n) (sym (none-long none)) (x.3 i h)), first-addable s.args.a.now s.args.c.base s.args.c.rows s.args.b.now s.args.d.base s.args.d.rows s.pre.1.1 _ (length s.args.col.now) (zeros none)),
+      ((x.2, λ i h. subst (λ n. get_or s.args.ta.now i 0 < n) (sym (none_long none)) (x.3 i h)), first_addable s.args.a.now s.args.c.base s.args.c.rows s.args.b.now s.args.d.base s.args.d.rows s.pre.1.1 _ (length s.args.col.now) (zeros none)),
     )
 
 add-column-requires-2 : tie.Need-add-column-requires-2
@@ -56,8 +56,8 @@ add-column-requires-2 c κs =
     let y = s.pre.1.0 in (
       (y.0, y.1),
       (
-        (y.2, λ i h. subst (λ n. get_or s.args.tb.now i 0 < n) (sym (one-long one)) (y.3 i h)),
-        sides-second s.args.a.now s.args.c s.args.ta.now s.args.b.now s.args.d s.args.tb.now _ _ _ (zeros (none-of-one one)) (one-is one) s.pre.1.1,
+        (y.2, λ i h. subst (λ n. get_or s.args.tb.now i 0 < n) (sym (one_long one)) (y.3 i h)),
+        sides_second s.args.a.now s.args.c s.args.ta.now s.args.b.now s.args.d s.args.tb.now _ _ _ (zeros (none-of-one one)) (one_is one) s.pre.1.1,
       ),
     )
 
@@ -69,8 +69,8 @@ returns c =
     let two = c.before.add-column2 in
     let one = c.before.before.before.before in
     let s = start-of-none (none-of-one one) in
-    sides-both s.args.a.now s.args.c s.args.ta.now s.args.b.now s.args.d s.args.tb.now _ _ _ (zeros (none-of-one one)) (one-is one) _
-    (two.ensures ∙ ap (λ n. plus one.add-column.new.0 (rows_of (onPlace s.args.b.now s.args.d s.args.tb.now) 0 n)) (one-long one))
+    sides_both s.args.a.now s.args.c s.args.ta.now s.args.b.now s.args.d s.args.tb.now _ _ _ (zeros (none-of-one one)) (one_is one) _
+    (two.ensures ∙ ap (λ n. plus one.add-column.new.0 (rows_of (on_place s.args.b.now s.args.d s.args.tb.now) 0 n)) (one_long one))
 
 pub join-sides-spec : {M : Type 1} → statement M
 join-sides-spec =

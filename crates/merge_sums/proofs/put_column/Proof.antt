@@ -8,16 +8,16 @@ use lib.IntN.{pos}
 use lib.ListN.{length, get_or, drop}
 use mir.Syntax.{w64}
 use mir.ValLaws.{to_z-of_z}
-use Rattle.byte_words.specs.Words.{lay, signedBytes}
-use Rattle.byte_words.proofs.Words.{length-lay}
-use Rattle.merge_sums.proofs.Writing.{bytesIn}
-use Rattle.merge_sums.proofs.Both.{bytes-end, bytes-turn}
+use Rattle.byte_words.specs.Words.{lay, signed_bytes}
+use Rattle.byte_words.proofs.Words.{length_lay}
+use Rattle.merge_sums.proofs.Writing.{bytes_in}
+use Rattle.merge_sums.proofs.Both.{bytes_end, bytes_turn}
 use Rattle.merge_sums.proofs.put_column.Statement.{statement}
 use Rattle.merge_sums.proofs.put_column.Tie as tie
 
 abbrev invariant-loop : tie.invariant-loop
 invariant-loop out₀ at col k₀ i₀ out k i =
-    (i ≤ length col) × (k ≡ at + 8 * i) × (length out ≡ length out₀) × (lay out₀ at (bytesIn col) ≡ lay out k (bytesIn (drop i col)))
+    (i ≤ length col) × (k ≡ at + 8 * i) × (length out ≡ length out₀) × (lay out₀ at (bytes_in col) ≡ lay out k (bytes_in (drop i col)))
 
 abbrev decreases-loop : tie.decreases-loop
 decreases-loop out₀ at col k₀ i₀ out k i = length col - i
@@ -48,12 +48,12 @@ loop-again c =
     let l = c.before.before.before.before.before.before.loop in
     let s = c.before.before.before.before.before.before.before.before in
     let x = get_or s.args.col.now l.i (pos 0) in
-    let e : c.before.before.put-sum.new.0 ≡ lay l.out l.k (signedBytes w64 x) =
-    c.before.before.put-sum.ensures ∙ ap (λ z. lay l.out l.k (signedBytes w64 z)) (to_z-of_z w64 x (search rules)) in (
+    let e : c.before.before.put-sum.new.0 ≡ lay l.out l.k (signed_bytes w64 x) =
+    c.before.before.put-sum.ensures ∙ ap (λ z. lay l.out l.k (signed_bytes w64 z)) (to_z-of_z w64 x (search rules)) in (
       omega arith,
       omega (arith, l.invariant.1),
-      ap length e ∙ length-lay _ _ _ ∙ l.invariant.2,
-      l.invariant.3 ∙ bytes-turn l.out l.k s.args.col.now l.i (omega arith) ∙ ap (λ o. lay o (l.k + 8) (bytesIn (drop (l.i + 1) s.args.col.now))) (sym e),
+      ap length e ∙ length_lay _ _ _ ∙ l.invariant.2,
+      l.invariant.3 ∙ bytes_turn l.out l.k s.args.col.now l.i (omega arith) ∙ ap (λ o. lay o (l.k + 8) (bytes_in (drop (l.i + 1) s.args.col.now))) (sym e),
     )
 
 same_length : tie.Need-same-length invariant-loop decreases-loop
@@ -63,7 +63,7 @@ returns : tie.Need-returns invariant-loop decreases-loop
 returns c =
     let l = c.before.loop in
     let s = c.before.before.before in
-    sym (l.invariant.3 ∙ bytes-end l.out l.k s.args.col.now l.i (omega arith))
+    sym (l.invariant.3 ∙ bytes_end l.out l.k s.args.col.now l.i (omega arith))
 
 pub put-column-spec : {M : Type 1} → statement M
 put-column-spec =

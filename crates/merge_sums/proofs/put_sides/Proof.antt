@@ -2,7 +2,7 @@
 -- Assumes nothing.
 use mathlib.Core.Path.{ap, ◌∙◌}
 use Rattle.byte_words.specs.Words.{lay}
-use Rattle.merge_sums.proofs.Writing.{bytesIn}
+use Rattle.merge_sums.proofs.Writing.{bytes_in}
 use borrow.Author.Rules.{rules}
 use Rattle.merge_sums.proofs.put_sides.Statement.{statement}
 use Rattle.merge_sums.proofs.put_sides.Tie as tie
@@ -22,7 +22,7 @@ same-length-2 c = search rules
 returns : tie.Need-returns
 returns c =
     let s = c.before.before.before.before.before.before.before.before.before.before.before.before.before in
-    c.before.before.put-column.ensures ∙ ap (λ l. lay s.args.out.now s.args.at (bytesIn l)) c.before.before.before.before.before.before.join-sides.ensures
+    c.before.before.put-column.ensures ∙ ap (λ l. lay s.args.out.now s.args.at (bytes_in l)) c.before.before.before.before.before.before.join-sides.ensures
 
 pub put-sides-spec : {M : Type 1} → statement M
 put-sides-spec =

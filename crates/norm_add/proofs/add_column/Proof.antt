@@ -8,8 +8,8 @@ use lib.IntN.{pos, ◌+ℤ◌}
 use lib.ListN.{length, get_or, set, length-set}
 use mir.Syntax.{w64}
 use mir.ValLaws.{to_z-of_z}
-use Rattle.byte_words.specs.Words.{signedWord}
-use Rattle.norm_add.proofs.Scatter.{Scattered, scatter-starts, scatter-small, scatter-turn, scatter-ends}
+use Rattle.byte_words.specs.Words.{signed_word}
+use Rattle.norm_add.proofs.Scatter.{Scattered, scatter_starts, scatter_small, scatter_turn, scatter_ends}
 use Rattle.norm_add.proofs.add_column.Statement.{statement}
 use Rattle.norm_add.proofs.add_column.Tie as tie
 
@@ -22,7 +22,7 @@ decreases-loop part₀ s t n at₀ i₀ part at i = n - i
 loop-holds : tie.Need-loop-init invariant-loop decreases-loop
 loop-holds c =
     let s = c.before.before in
-    (omega arith, omega arith, refl, scatter-starts s.args.s.now s.args.c.base s.args.t.now s.args.part.now)
+    (omega arith, omega arith, refl, scatter_starts s.args.s.now s.args.c.base s.args.t.now s.args.part.now)
 
 mul-k : tie.Need-overflow-mul-k invariant-loop decreases-loop
 mul-k c = search rules
@@ -44,8 +44,8 @@ add-at-requires c κs =
           (omega (
             arith,
             s.requires.1.1.fits,
-            s.requires.1.1.sums-within l.i (omega arith),
-            scatter-small s.args.s.now s.args.c.base s.args.t.now s.args.part.now s.requires.1.0.0 l.part l.i l.invariant.2 (omega arith) there l.invariant.3 s.requires.1.1.target-bound s.requires.1.1.target-within,
+            s.requires.1.1.sums_within l.i (omega arith),
+            scatter_small s.args.s.now s.args.c.base s.args.t.now s.args.part.now s.requires.1.0.0 l.part l.i l.invariant.2 (omega arith) there l.invariant.3 s.requires.1.1.target_bound s.requires.1.1.target_within,
           )),
     )
 
@@ -65,14 +65,14 @@ loop-again c =
     let x = c.before.before.before.sum-from in
     let there : get_or s.args.t.now l.i 0 < length s.args.part.now = s.requires.1.0.1 l.i (omega arith) in
     let k = get_or s.args.t.now l.i 0 in
-    let e : c.before.add_at.new.0 ≡ set l.part k (get_or l.part k (pos 0) +ℤ signedWord w64 s.args.s.now (s.args.c.base + 8 * l.i)) =
+    let e : c.before.add_at.new.0 ≡ set l.part k (get_or l.part k (pos 0) +ℤ signed_word w64 s.args.s.now (s.args.c.base + 8 * l.i)) =
     c.before.add_at.ensures
     ∙ ap (λ z. set l.part k (get_or l.part k (pos 0) +ℤ z))
-    (to_z-of_z w64 x.result (search rules) ∙ x.ensures ∙ ap (signedWord w64 s.args.s.now) l.invariant.1) in (
+    (to_z-of_z w64 x.result (search rules) ∙ x.ensures ∙ ap (signed_word w64 s.args.s.now) l.invariant.1) in (
       omega arith,
       omega (arith, l.invariant.1),
       ap length e ∙ length-set l.part k _ ∙ l.invariant.2,
-      scatter-turn s.args.s.now s.args.c.base s.args.t.now s.args.part.now s.requires.1.0.0 l.part l.i l.invariant.2 (omega arith) there l.invariant.3 _ e,
+      scatter_turn s.args.s.now s.args.c.base s.args.t.now s.args.part.now s.requires.1.0.0 l.part l.i l.invariant.2 (omega arith) there l.invariant.3 _ e,
     )
 
 same_length : tie.Need-same-length invariant-loop decreases-loop
@@ -82,7 +82,7 @@ returns : tie.Need-returns invariant-loop decreases-loop
 returns c =
     let s = c.before.before.before.before in
     let l = c.before.loop in
-    scatter-ends s.args.s.now s.args.c s.args.t.now s.args.part.now l.part l.i (omega arith) l.invariant.2 l.invariant.3
+    scatter_ends s.args.s.now s.args.c s.args.t.now s.args.part.now l.part l.i (omega arith) l.invariant.2 l.invariant.3
 
 pub add-column-spec : {M : Type 1} → statement M
 add-column-spec =

@@ -5,9 +5,9 @@ use Prim.Native.Nat.{◌<◌}
 use native.Mathlib.Omega.{arith}
 use borrow.Author.Rules.{rules}
 use lib.ListN.{length, get_or}
-use Rattle.num_packed.proofs.Places.{tri-within}
+use Rattle.num_packed.proofs.Places.{tri_within}
 use Rattle.norm_add.proofs.Held.{column_fits}
-use Rattle.norm_add.proofs.Columns.{skipped, column-here, places-in, fits-here, passed_on, taken}
+use Rattle.norm_add.proofs.Columns.{skipped, column_here, places_in, fits_here, passed_on, taken}
 use Rattle.norm_add.proofs.add_next.Statement.{statement}
 use Rattle.norm_add.proofs.add_next.Tie as tie
 
@@ -26,7 +26,7 @@ mul-base c = search rules
 add-base : tie.Need-overflow-add-base
 add-base c =
     let s = c.before.before.before.before.before.before in
-    omega (arith, s.requires.1.0.1, c.triangle.ensures.0, tri-within s.args.q (length s.args.t.now) c.before.before.before.if1.true)
+    omega (arith, s.requires.1.0.1, c.triangle.ensures.0, tri_within s.args.q (length s.args.t.now) c.before.before.before.if1.true)
 
 add-t15 : tie.Need-overflow-add-t15
 add-t15 c = search rules
@@ -39,11 +39,11 @@ add-column-requires c κs =
     let e = c.before.before.if2.true in
     let up = s.requires.0.0 in
     let p = s.requires.0.1 in
-    let d = column-here t up s.args.j s.args.q p h e s.args.start c.before.triangle.result c.before.triangle.ensures.0 in (
+    let d = column_here t up s.args.j s.args.q p h e s.args.start c.before.triangle.result c.before.triangle.ensures.0 in (
       (column_fits s.args.start (length t) _ _ (length s.args.s.now) d s.requires.1.0.1, omega arith),
       (
-        (up, λ i g. subst (λ n. get_or t i 0 < n) s.requires.0.2 (places-in t up s.args.j s.args.q p h e i g)),
-        fits-here t up s.args.j s.args.q p h e s.args.s.now s.args.start c.before.triangle.result s.args.part.now c.before.triangle.ensures.0 s.requires.1.1,
+        (up, λ i g. subst (λ n. get_or t i 0 < n) s.requires.0.2 (places_in t up s.args.j s.args.q p h e i g)),
+        fits_here t up s.args.j s.args.q p h e s.args.s.now s.args.start c.before.triangle.result s.args.part.now c.before.triangle.ensures.0 s.requires.1.1,
       ),
     )
 
@@ -62,7 +62,7 @@ returns c =
     let up = s.requires.0.0 in
     let p = s.requires.0.1 in
     let tr = c.before.before.before.triangle in
-    let d = column-here t up s.args.j s.args.q p h e s.args.start tr.result tr.ensures.0 in (
+    let d = column_here t up s.args.j s.args.q p h e s.args.start tr.result tr.ensures.0 in (
       taken t up s.args.j s.args.q p h e s.args.s.now s.args.start _ s.args.part.now c.before.add-column.new.0 d s.requires.0.2 c.before.add-column.ensures,
       passed_on t up s.args.j s.args.q p h e,
     )

@@ -7,7 +7,7 @@ use lib.IntN.{◌+ℤ◌, nat_abs}
 use mir.Syntax.{w64}
 use mir.Val.{SFits}
 use mir.ValLaws.{to_z-of_z}
-use Rattle.num_whole.proofs.Ints.{+-within, within-fits}
+use Rattle.num_whole.proofs.Ints.{+-within, within_fits}
 use Rattle.norm_add.proofs.sum_of.Statement.{statement}
 use Rattle.norm_add.proofs.sum_of.Tie as tie
 
@@ -15,7 +15,7 @@ sum : (c : tie.Start) → SFits w64 (c.args.x +ℤ c.args.y)
 sum c =
     let m : nat_abs (c.args.x +ℤ c.args.y) ≤ nat_abs c.args.x + nat_abs c.args.y = +-within c.args.x c.args.y (le_refl _) (le_refl _) in
     let p : nat_abs (c.args.x +ℤ c.args.y) ≤ 9223372036854775807 = omega (arith, c.requires) in
-    within-fits w64 (c.args.x +ℤ c.args.y) p tt
+    within_fits w64 (c.args.x +ℤ c.args.y) p tt
 
 add-result : tie.Need-overflow-add-result
 add-result c = simp (to_z-of_z w64 _ c.ranges.x, to_z-of_z w64 _ c.ranges.y) (sum c)

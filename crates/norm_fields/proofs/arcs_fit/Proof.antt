@@ -6,14 +6,14 @@ use Prim.Native.Nat.{◌≤◌, ◌-◌}
 use native.Mathlib.Omega.{arith}
 use lib.ListN.{take}
 use Rattle.num_whole.specs.Lists.{all, rest}
-use Rattle.num_whole.proofs.Walks.{all_end, all_pass, all-fail}
-use Rattle.norm_system.specs.System.{arcOk}
+use Rattle.num_whole.proofs.Walks.{all_end, all_pass, all_fail}
+use Rattle.norm_system.specs.System.{arc_ok}
 use Rattle.norm_fields.proofs.arcs_fit.Statement.{statement}
 use Rattle.norm_fields.proofs.arcs_fit.Tie as tie
 
 abbrev invariant-loop : tie.invariant-loop
 invariant-loop heads n i₀ i =
-    (i ≤ n) × (all arcOk (take n heads) ≡ all arcOk (rest heads n i))
+    (i ≤ n) × (all arc_ok (take n heads) ≡ all arc_ok (rest heads n i))
 
 abbrev decreases-loop : tie.decreases-loop
 decreases-loop heads n i₀ i = n - i
@@ -38,13 +38,13 @@ loop-less : tie.Need-loop-smaller invariant-loop decreases-loop
 loop-less c = search rules
 
 loop-again : tie.Need-loop-preserved invariant-loop decreases-loop
-loop-again c = (omega arith, c.before.before.before.before.loop.invariant.1 ∙ all_pass _ _ _ arcOk 0 (omega arith) (omega arith) (sym c.before.arc-fits.ensures ∙ c.if1.true))
+loop-again c = (omega arith, c.before.before.before.before.loop.invariant.1 ∙ all_pass _ _ _ arc_ok 0 (omega arith) (omega arith) (sym c.before.arc_fits.ensures ∙ c.if1.true))
 
 returns : tie.Need-returns invariant-loop decreases-loop
-returns c = sym (c.before.before.before.before.loop.invariant.1 ∙ all-fail _ _ _ arcOk 0 (omega arith) (omega arith) (sym c.before.arc-fits.ensures ∙ c.if1.false))
+returns c = sym (c.before.before.before.before.loop.invariant.1 ∙ all_fail _ _ _ arc_ok 0 (omega arith) (omega arith) (sym c.before.arc_fits.ensures ∙ c.if1.false))
 
 returns-2 : tie.Need-returns-2 invariant-loop decreases-loop
-returns-2 c = sym (c.before.loop.invariant.1 ∙ all_end _ _ _ arcOk (omega arith))
+returns-2 c = sym (c.before.loop.invariant.1 ∙ all_end _ _ _ arc_ok (omega arith))
 
 pub arcs-fit-spec : {M : Type 1} → statement M
 arcs-fit-spec =

@@ -5,7 +5,7 @@ use mathlib.Core.Path.{◌≡◌, refl, sym, ◌∙◌}
 use Prim.Native.Nat.{◌≤◌, ◌-◌}
 use native.Mathlib.Omega.{arith}
 use lib.ListN.{length, take, length-set}
-use Rattle.norm_fields.proofs.Fields.{arc-at, copied}
+use Rattle.norm_fields.proofs.Fields.{arc_at, copied}
 use Rattle.norm_fields.proofs.arcs_of.Statement.{statement}
 use Rattle.norm_fields.proofs.arcs_of.Tie as tie
 
@@ -26,7 +26,7 @@ shared-slice-read-arcs : tie.Need-shared-slice-read-arcs invariant-loop decrease
 shared-slice-read-arcs c = search rules
 
 cast-arcs : tie.Need-overflow-cast-arcs invariant-loop decreases-loop
-cast-arcs c = omega (arith, arc-at c.before.before.before.args.heads.now c.before.before.before.args.n c.before.before.loop.i (omega arith) c.before.before.before.requires.2 (omega arith))
+cast-arcs c = omega (arith, arc_at c.before.before.before.args.heads.now c.before.before.before.args.n c.before.before.loop.i (omega arith) c.before.before.before.requires.2 (omega arith))
 
 mul-arcs-2 : tie.Need-overflow-mul-arcs-2 invariant-loop decreases-loop
 mul-arcs-2 c = search rules

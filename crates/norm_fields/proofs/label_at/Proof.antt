@@ -1,7 +1,7 @@
 -- `norm_fields::label_at` meets its contract: each number fits its word.
 -- Assumes nothing.
 use borrow.Author.Rules.{rules}
-use Rattle.norm_fields.specs.Fields.{bareLabel}
+use Rattle.norm_fields.specs.Fields.{bare_label}
 use Rattle.norm_fields.proofs.label_at.Statement.{statement}
 use Rattle.norm_fields.proofs.label_at.Tie as tie
 
@@ -51,7 +51,7 @@ cast-t21 : tie.Need-overflow-cast-t21
 cast-t21 c = search rules
 
 returns : tie.Need-returns
-unfolding bareLabel
+unfolding bare_label
 returns c = search rules
 
 pub label-at-spec : {M : Type 1} → statement M

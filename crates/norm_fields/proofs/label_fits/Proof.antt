@@ -2,8 +2,8 @@
 -- Assumes nothing.
 use borrow.Author.Rules.{rules}
 use mathlib.Core.Path.{sym, ap, ◌∙◌}
-use Rattle.norm_system.specs.System.{normalLabelOk}
-use Rattle.norm_fields.proofs.Fields.{small, bare-ok, not-small}
+use Rattle.norm_system.specs.System.{normal_label_ok}
+use Rattle.norm_fields.proofs.Fields.{small, bare_ok, not_small}
 use Rattle.norm_fields.proofs.label_fits.Statement.{statement}
 use Rattle.norm_fields.proofs.label_fits.Tie as tie
 
@@ -48,16 +48,16 @@ is-small-requires : tie.Need-is-small-requires
 is-small-requires c κs = search rules
 
 label-at-requires : tie.Need-label-at-requires
-label-at-requires c κs = (search rules, small _ _ (sym c.before.is-small.ensures ∙ c.if1.true))
+label-at-requires c κs = (search rules, small _ _ (sym c.before.is_small_lem.ensures ∙ c.if1.true))
 
 label-ok-requires : tie.Need-label-ok-requires
 label-ok-requires c κs = search rules
 
 returns : tie.Need-returns
-returns c = c.label-ok.ensures ∙ ap (normalLabelOk (start-of-small c.before.before.before).args.arcs.now) c.before.label_at.ensures ∙ bare-ok _ _ _
+returns c = c.label_ok_lem.ensures ∙ ap (normal_label_ok (start-of-small c.before.before.before).args.arcs.now) c.before.label_at.ensures ∙ bare_ok _ _ _
 
 returns-2 : tie.Need-returns-2
-returns-2 c = not-small _ _ _ (start-of-small c.before).requires.1 (sym c.before.is-small.ensures ∙ c.if1.false)
+returns-2 c = not_small _ _ _ (start-of-small c.before).requires.1 (sym c.before.is_small_lem.ensures ∙ c.if1.false)
 
 pub label-fits-spec : {M : Type 1} → statement M
 label-fits-spec =

@@ -4,19 +4,19 @@ use mathlib.Core.Path.{◌≡◌, refl, sym, ap, ◌∙◌}
 use mir.Syntax.{w64}
 use mir.Val.{to_z, of_z}
 use mir.ValLaws.{to_z-of_z}
-use Rattle.norm_add.specs.Add.{heldAt, columnAt}
+use Rattle.norm_add.specs.Add.{held_at, column_at}
 use Rattle.num_packed.specs.Sound.{is_zero}
 use Rattle.num_whole.proofs.Cases.{yes, no}
-use Rattle.norm_gather.specs.Gather.{fieldBySeat}
+use Rattle.norm_gather.specs.Gather.{field_by_seat}
 use borrow.Author.Rules.{rules}
 use Rattle.norm_gather.proofs.field_in.Statement.{statement}
 use Rattle.norm_gather.proofs.field_in.Tie as tie
 
 -- the sum that was read is the diagonal
-is-diagonal : (c : tie.After-held-at) → let s = c.before.before.before.before.args in to_z w64 (of_z w64 c.held_at.result) ≡ heldAt s.s.now (columnAt s.start s.n s.k) s.k
-is-diagonal c =
+is_diagonal : (c : tie.After-held-at) → let s = c.before.before.before.before.args in to_z w64 (of_z w64 c.held_at.result) ≡ held_at s.s.now (column_at s.start s.n s.k) s.k
+is_diagonal c =
     let s = c.before.before.before.before.args in
-    to_z-of_z w64 c.held_at.result (record { sfits = c.held_at.type-inv }) ∙ c.held_at.ensures ∙ ap (λ d. heldAt s.s.now d s.k) c.before.column-at.ensures.0
+    to_z-of_z w64 c.held_at.result (record { sfits = c.held_at.type-inv }) ∙ c.held_at.ensures ∙ ap (λ d. held_at s.s.now d s.k) c.before.column-at.ensures.0
 
 column-at-requires : tie.Need-column-at-requires
 column-at-requires c κs = search rules
@@ -28,21 +28,21 @@ is-unseen-requires : tie.Need-is-unseen-requires
 is-unseen-requires c κs = search rules
 
 returns : tie.Need-returns
-unfolding fieldBySeat
+unfolding field_by_seat
 returns c =
     let diagonal = c.before.before in
-    let zero = sym (c.before.is-unseen.ensures ∙ ap is_zero (is-diagonal diagonal)) ∙ c.if2.true in
+    let zero = sym (c.before.is-unseen.ensures ∙ ap is_zero (is_diagonal diagonal)) ∙ c.if2.true in
     yes _ _ _ diagonal.before.before.if1.true (yes _ _ _ zero refl)
 
 returns-2 : tie.Need-returns-2
-unfolding fieldBySeat
+unfolding field_by_seat
 returns-2 c =
     let diagonal = c.before.before in
-    let more = sym (c.before.is-unseen.ensures ∙ ap is_zero (is-diagonal diagonal)) ∙ c.if2.false in
+    let more = sym (c.before.is-unseen.ensures ∙ ap is_zero (is_diagonal diagonal)) ∙ c.if2.false in
     yes _ _ _ diagonal.before.before.if1.true (no _ _ _ more refl)
 
 returns-3 : tie.Need-returns-3
-unfolding fieldBySeat
+unfolding field_by_seat
 returns-3 c = no _ _ _ c.if1.false refl
 
 pub field-in-spec : {M : Type 1} → statement M

@@ -7,11 +7,11 @@ use native.Mathlib.Omega.{arith}
 use lib.ListN.{length}
 use Rattle.byte_words.specs.Words.{word, bytes_of, lay}
 use Rattle.byte_words.specs.Stands.{stands}
-use Rattle.byte_words.proofs.Words.{length-lay}
+use Rattle.byte_words.proofs.Words.{length_lay}
 use Rattle.byte_section.specs.Section.{encoded}
-use Rattle.norm_kinds.specs.Kinds.{arcNumberBytes}
-use Rattle.norm_kinds.proofs.Records.{length-arc}
-use Rattle.norm_gather.proofs.Writing.{stands-end, stands-turn}
+use Rattle.norm_kinds.specs.Kinds.{arc_number_bytes}
+use Rattle.norm_kinds.proofs.Records.{length_arc}
+use Rattle.norm_gather.proofs.Writing.{stands_end, stands_turn}
 use borrow.Author.Rules.{rules}
 use Rattle.norm_gather.proofs.put_arcs.Statement.{statement}
 use Rattle.norm_gather.proofs.put_arcs.Tie as tie
@@ -19,7 +19,7 @@ use Rattle.norm_gather.proofs.put_arcs.Tie as tie
 abbrev invariant-loop : tie.invariant-loop
 invariant-loop out₀ s n at₀ i₀ out at i =
     (i ≤ n) × (at ≡ 4 + 4 * i) × (length out ≡ length out₀)
-    × (lay out₀ 4 (encoded arcNumberBytes (stands (word 4 s) 4 n 4)) ≡ lay out at (encoded arcNumberBytes (stands (word 4 s) 4 (n - i) at)))
+    × (lay out₀ 4 (encoded arc_number_bytes (stands (word 4 s) 4 n 4)) ≡ lay out at (encoded arc_number_bytes (stands (word 4 s) 4 (n - i) at)))
 
 abbrev decreases-loop : tie.decreases-loop
 decreases-loop out₀ s n at₀ i₀ out at i = n - i
@@ -43,7 +43,7 @@ loop-less : tie.Need-loop-smaller invariant-loop decreases-loop
 loop-less c = search rules
 
 loop-again : tie.Need-loop-preserved invariant-loop decreases-loop
-unfolding arcNumberBytes
+unfolding arc_number_bytes
 loop-again c =
     let l = c.before.before.before.before.before.before.loop in
     let s = c.before.before.before.before.before.before.before.before.before in
@@ -51,9 +51,9 @@ loop-again c =
     c.before.before.write-u32.ensures ∙ ap (λ v. lay l.out l.at (bytes_of 4 v)) c.before.before.before.before.read_u32.ensures in (
       omega arith,
       omega (arith, l.invariant.1),
-      ap length e ∙ length-lay _ _ _ ∙ l.invariant.2,
-      l.invariant.3 ∙ stands-turn arcNumberBytes 4 length-arc l.out l.at (word 4 s.args.s.now) s.args.n l.i 4 l.at (omega arith)
-          ∙ ap (λ o. lay o (l.at + 4) (encoded arcNumberBytes (stands (word 4 s.args.s.now) 4 (s.args.n - (l.i + 1)) (l.at + 4)))) (sym e),
+      ap length e ∙ length_lay _ _ _ ∙ l.invariant.2,
+      l.invariant.3 ∙ stands_turn arc_number_bytes 4 length_arc l.out l.at (word 4 s.args.s.now) s.args.n l.i 4 l.at (omega arith)
+          ∙ ap (λ o. lay o (l.at + 4) (encoded arc_number_bytes (stands (word 4 s.args.s.now) 4 (s.args.n - (l.i + 1)) (l.at + 4)))) (sym e),
     )
 
 same_length : tie.Need-same-length invariant-loop decreases-loop
@@ -63,7 +63,7 @@ returns : tie.Need-returns invariant-loop decreases-loop
 returns c =
     let l = c.before.loop in
     let s = c.before.before.before.before in
-    sym (l.invariant.3 ∙ stands-end arcNumberBytes 4 length-arc l.out l.at (word 4 s.args.s.now) s.args.n l.i 4 l.at (omega arith))
+    sym (l.invariant.3 ∙ stands_end arc_number_bytes 4 length_arc l.out l.at (word 4 s.args.s.now) s.args.n l.i 4 l.at (omega arith))
 
 pub put-arcs-spec : {M : Type 1} → statement M
 put-arcs-spec =

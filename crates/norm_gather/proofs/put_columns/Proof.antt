@@ -6,14 +6,14 @@ use native.Mathlib.Nat.{sub-zero}
 use native.Mathlib.Omega.{arith}
 use lib.ListN.{length}
 use Rattle.byte_words.specs.Words.{lay}
-use Rattle.byte_words.proofs.Words.{length-lay}
+use Rattle.byte_words.proofs.Words.{length_lay}
 use Rattle.byte_section.specs.Section.{encoded}
 use Rattle.num_packed.specs.Triangle.{tri}
-use Rattle.num_packed.proofs.Places.{tri-next, tri-within}
-use Rattle.norm_kinds.specs.Kinds.{sumBytes}
-use Rattle.norm_labels.specs.Table.{rows_of, columnsOf}
-use Rattle.norm_gather.specs.Gather.{gatheredAt, sideGathered}
-use Rattle.norm_gather.proofs.Writing.{columns-end, columns-turn}
+use Rattle.num_packed.proofs.Places.{tri_next, tri_within}
+use Rattle.norm_kinds.specs.Kinds.{sum_bytes}
+use Rattle.norm_labels.specs.Table.{rows_of, columns_of}
+use Rattle.norm_gather.specs.Gather.{gathered_at, side_gathered}
+use Rattle.norm_gather.proofs.Writing.{columns_end, columns_turn}
 use borrow.Author.Rules.{rules}
 use Rattle.norm_gather.proofs.put_columns.Statement.{statement}
 use Rattle.norm_gather.proofs.put_columns.Tie as tie
@@ -21,7 +21,7 @@ use Rattle.norm_gather.proofs.put_columns.Tie as tie
 abbrev invariant-loop : tie.invariant-loop
 invariant-loop out₀ at s start n u k₀ j₀ out k j =
     (j ≤ length u) × (k ≡ at + 8 * tri j) × (length out ≡ length out₀)
-    × (lay out₀ at (encoded sumBytes (columnsOf (gatheredAt s start n u) 0 (length u))) ≡ lay out k (encoded sumBytes (columnsOf (gatheredAt s start n u) j (length u - j))))
+    × (lay out₀ at (encoded sum_bytes (columns_of (gathered_at s start n u) 0 (length u))) ≡ lay out k (encoded sum_bytes (columns_of (gathered_at s start n u) j (length u - j))))
 
 abbrev decreases-loop : tie.decreases-loop
 decreases-loop out₀ at s start n u k₀ j₀ out k j = length u - j
@@ -35,7 +35,7 @@ fits : (c : tie.In-loop invariant-loop decreases-loop) → c.before.loop.k + 8 *
 fits c =
     let l = c.before.loop in
     let s = c.before.before.before.before.before in
-    omega (arith, l.invariant.1, l.invariant.2, s.requires.1.1, tri-within l.j (length s.args.u.now) c.loop-test.true)
+    omega (arith, l.invariant.1, l.invariant.2, s.requires.1.1, tri_within l.j (length s.args.u.now) c.loop-test.true)
 
 add-e : tie.Need-overflow-add-e invariant-loop decreases-loop
 add-e c = search rules
@@ -54,7 +54,7 @@ put-gathered-requires c κs =
     let l = c.before.before.before.before.loop in
     let s = c.before.before.before.before.before.before.before.before in
     let more : l.j < length s.args.u.now = c.before.before.before.loop-test.true in
-    (c.before.column-at.ensures.1, omega arith, omega (arith, l.invariant.1, l.invariant.2, s.requires.1.1, tri-within l.j (length s.args.u.now) more))
+    (c.before.column-at.ensures.1, omega arith, omega (arith, l.invariant.1, l.invariant.2, s.requires.1.1, tri_within l.j (length s.args.u.now) more))
 
 mul-k : tie.Need-overflow-mul-k invariant-loop decreases-loop
 mul-k c = omega (arith, fits c.before.before.before.before.before.before)
@@ -66,22 +66,22 @@ loop-less : tie.Need-loop-smaller invariant-loop decreases-loop
 loop-less c = search rules
 
 loop-again : tie.Need-loop-preserved invariant-loop decreases-loop
-unfolding gatheredAt sideGathered
+unfolding gathered_at side_gathered
 loop-again c =
     let column = c.before.before.before.before in
     let turn = column.before.before.before in
     let l = turn.loop in
     let s = turn.before.before.before.before.args in
     let more : l.j < length s.u.now = column.before.before.loop-test.true in
-    let f = gatheredAt s.s.now s.start s.n s.u.now in
-    let e : c.before.before.put-gathered.new.0 ≡ lay l.out l.k (encoded sumBytes (rows_of (λ i. f i l.j) 0 (l.j + 1))) =
+    let f = gathered_at s.s.now s.start s.n s.u.now in
+    let e : c.before.before.put-gathered.new.0 ≡ lay l.out l.k (encoded sum_bytes (rows_of (λ i. f i l.j) 0 (l.j + 1))) =
     c.before.before.put-gathered.ensures
-    ∙ ap (λ d. lay l.out l.k (encoded sumBytes (rows_of (sideGathered s.s.now d s.u.now) 0 (l.j + 1)))) column.column-at.ensures.0 in (
+    ∙ ap (λ d. lay l.out l.k (encoded sum_bytes (rows_of (side_gathered s.s.now d s.u.now) 0 (l.j + 1)))) column.column-at.ensures.0 in (
       omega arith,
-      omega (arith, l.invariant.1, tri-next l.j),
-      ap length e ∙ length-lay _ _ _ ∙ l.invariant.2,
-      l.invariant.3 ∙ columns-turn l.out l.k f (length s.u.now) l.j more
-          ∙ ap (λ o. lay o (l.k + 8 * (l.j + 1)) (encoded sumBytes (columnsOf f (l.j + 1) (length s.u.now - (l.j + 1))))) (sym e),
+      omega (arith, l.invariant.1, tri_next l.j),
+      ap length e ∙ length_lay _ _ _ ∙ l.invariant.2,
+      l.invariant.3 ∙ columns_turn l.out l.k f (length s.u.now) l.j more
+          ∙ ap (λ o. lay o (l.k + 8 * (l.j + 1)) (encoded sum_bytes (columns_of f (l.j + 1) (length s.u.now - (l.j + 1))))) (sym e),
     )
 
 same_length : tie.Need-same-length invariant-loop decreases-loop
@@ -91,7 +91,7 @@ returns : tie.Need-returns invariant-loop decreases-loop
 returns c =
     let l = c.before.loop in
     let s = c.before.before.before.before.before.args in
-    sym (l.invariant.3 ∙ columns-end l.out l.k (gatheredAt s.s.now s.start s.n s.u.now) (length s.u.now) l.j (omega arith))
+    sym (l.invariant.3 ∙ columns_end l.out l.k (gathered_at s.s.now s.start s.n s.u.now) (length s.u.now) l.j (omega arith))
 
 pub put-columns-spec : {M : Type 1} → statement M
 put-columns-spec =

@@ -4,8 +4,8 @@ use native.Mathlib.Omega.{arith}
 use mathlib.Core.Path.{◌∙◌}
 use mir.Syntax.{w64}
 use mir.ValLaws.{to_z-of_z}
-use Rattle.byte_words.proofs.Words.{lay-append, length-bytesOf}
-use Rattle.norm_kinds.specs.Kinds.{fieldedBytes}
+use Rattle.byte_words.proofs.Words.{lay_append, length_bytes_of}
+use Rattle.norm_kinds.specs.Kinds.{fielded_bytes}
 use borrow.Author.Rules.{rules}
 use Rattle.norm_gather.proofs.put_fields.Statement.{statement}
 use Rattle.norm_gather.proofs.put_fields.Tie as tie
@@ -47,7 +47,7 @@ same_length : tie.Need-same-length
 same_length c = search rules
 
 returns : tie.Need-returns
-unfolding fieldedBytes
+unfolding fielded_bytes
 returns c =
     let sixth = c.before.before in
     let fifth = sixth.before.before.before.before.before in
@@ -59,11 +59,11 @@ returns c =
     let l = start.args.l in
     let back = to_z-of_z w64 l.estimate (record { sfits = sixth.before.struct_told.given.1.1.1.1.0.1 }) in
     rw (sixth.write-i64.ensures, fifth.write-u323.ensures, fourth.write-u322.ensures, third.write-u32.ensures, second.write-u162.ensures, first.write-u16.ensures, back)
-    (lay-append _ _ _ _ _ (simp length-bytesOf (omega arith))
-    ∙ lay-append _ _ _ _ _ (simp length-bytesOf (omega arith))
-    ∙ lay-append _ _ _ _ _ (simp length-bytesOf (omega arith))
-    ∙ lay-append _ _ _ _ _ (simp length-bytesOf (omega arith))
-    ∙ lay-append _ _ _ _ _ (simp length-bytesOf))
+    (lay_append _ _ _ _ _ (simp length_bytes_of (omega arith))
+    ∙ lay_append _ _ _ _ _ (simp length_bytes_of (omega arith))
+    ∙ lay_append _ _ _ _ _ (simp length_bytes_of (omega arith))
+    ∙ lay_append _ _ _ _ _ (simp length_bytes_of (omega arith))
+    ∙ lay_append _ _ _ _ _ (simp length_bytes_of))
 
 pub put-fields-spec : {M : Type 1} → statement M
 put-fields-spec =

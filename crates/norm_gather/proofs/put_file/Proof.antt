@@ -5,8 +5,8 @@ use Prim.Native.Nat.{◌+◌, ◌*◌}
 use lib.ListN.{length}
 use native.Mathlib.Omega.{arith}
 use Rattle.byte_words.specs.Words.{lay}
-use Rattle.norm_gather.specs.Gather.{sumsGathered, totalsCopied}
-use Rattle.norm_gather.proofs.Laid.{parts-laid}
+use Rattle.norm_gather.specs.Gather.{sums_gathered, totals_copied}
+use Rattle.norm_gather.proofs.Laid.{parts_laid}
 use borrow.Author.Rules.{rules}
 use Rattle.norm_gather.proofs.put_file.Statement.{statement}
 use Rattle.norm_gather.proofs.put_file.Tie as tie
@@ -65,8 +65,8 @@ returns c =
     let m = 8 + 4 * s.r.arcs + 24 * length w in
     let n = m + 8 + 8 * sums.triangle.result + 8 * length u in
     last.put-totals.ensures
-    ∙ ap (λ o. lay o n (totalsCopied s.s.now s.r)) (middle.put-sums.ensures ∙ ap (λ o. lay o m (sumsGathered s.s.now s.r u)) heads.put-heads.ensures)
-    ∙ parts-laid s.is-small s.s.now s.r w u s.out.now m n refl (omega (arith, sums.triangle.ensures.0))
+    ∙ ap (λ o. lay o n (totals_copied s.s.now s.r)) (middle.put-sums.ensures ∙ ap (λ o. lay o m (sums_gathered s.s.now s.r u)) heads.put-heads.ensures)
+    ∙ parts_laid s.is_small_lem s.s.now s.r w u s.out.now m n refl (omega (arith, sums.triangle.ensures.0))
 
 pub put-file-spec : {M : Type 1} → statement M
 put-file-spec =

@@ -6,11 +6,11 @@ use lib.ListN.{length}
 use native.Mathlib.Omega.{arith}
 use Rattle.byte_words.specs.Words.{bytes_of, lay}
 use Rattle.byte_section.specs.Section.{encoded}
-use Rattle.norm_kinds.specs.Kinds.{arcNumberBytes, fieldedBytes}
+use Rattle.norm_kinds.specs.Kinds.{arc_number_bytes, fielded_bytes}
 use Rattle.norm_labels.specs.Table.{rows_of}
-use Rattle.norm_heads.specs.Heads.{arcsAt}
-use Rattle.norm_gather.specs.Gather.{fieldedBySeat}
-use Rattle.norm_gather.proofs.Laid.{head-part-laid}
+use Rattle.norm_heads.specs.Heads.{arcs_at}
+use Rattle.norm_gather.specs.Gather.{fielded_by_seat}
+use Rattle.norm_gather.proofs.Laid.{head_part_laid}
 use borrow.Author.Rules.{rules}
 use Rattle.norm_gather.proofs.put_heads.Statement.{statement}
 use Rattle.norm_gather.proofs.put_heads.Tie as tie
@@ -55,11 +55,11 @@ returns c =
     let r = s.r in
     let next = 4 + 4 * r.arcs in
     labels.put-labels.ensures
-    ∙ ap (λ o. lay o (next + 4) (encoded fieldedBytes (rows_of (fieldedBySeat s.is-small s.s.now (next + 4) r.matrix r.stored s.w.now) 0 (length s.w.now))))
+    ∙ ap (λ o. lay o (next + 4) (encoded fielded_bytes (rows_of (fielded_by_seat s.is_small_lem s.s.now (next + 4) r.matrix r.stored s.w.now) 0 (length s.w.now))))
     (label-count.write-u322.ensures
     ∙ ap (λ o. lay o next (bytes_of 4 (length s.w.now)))
-    (arcs.put-arcs.ensures ∙ ap (λ o. lay o 4 (encoded arcNumberBytes (arcsAt s.s.now r.arcs))) arc-count.write-u32.ensures))
-    ∙ head-part-laid s.is-small s.s.now r s.w.now s.out.now next (next + 4) refl (omega arith)
+    (arcs.put-arcs.ensures ∙ ap (λ o. lay o 4 (encoded arc_number_bytes (arcs_at s.s.now r.arcs))) arc-count.write-u32.ensures))
+    ∙ head_part_laid s.is_small_lem s.s.now r s.w.now s.out.now next (next + 4) refl (omega arith)
 
 pub put-heads-spec : {M : Type 1} → statement M
 put-heads-spec =

@@ -7,10 +7,10 @@ use mathlib.Core.List.{◌++◌}
 use lib.ListN.{take, drop}
 use mir.Syntax.{w64}
 use mir.ValLaws.{to_z-of_z}
-use Rattle.byte_words.specs.Words.{lay, signedBytes}
-use Rattle.byte_words.proofs.Parts.{lay-part}
-use Rattle.norm_kinds.specs.Kinds.{sumBytes}
-use Rattle.norm_kinds.proofs.Records.{length-sum}
+use Rattle.byte_words.specs.Words.{lay, signed_bytes}
+use Rattle.byte_words.proofs.Parts.{lay_part}
+use Rattle.norm_kinds.specs.Kinds.{sum_bytes}
+use Rattle.norm_kinds.proofs.Records.{length_sum}
 use borrow.Author.Rules.{rules}
 use Rattle.norm_gather.proofs.put_sum.Statement.{statement}
 use Rattle.norm_gather.proofs.put_sum.Tie as tie
@@ -34,14 +34,14 @@ same_length : tie.Need-same-length
 same_length c = search rules
 
 returns : tie.Need-returns
-unfolding sumBytes
+unfolding sum_bytes
 returns c =
     let s = c.before.before.before.before.before in
     let out = s.args.out.now in
     let n = s.args.at + 8 - s.args.at in
     ap (λ l. take s.args.at out ++ (l ++ drop n (drop s.args.at out))) c.before.before.write-i64.ensures
-    ∙ ap (λ z. take s.args.at out ++ (lay (take n (drop s.args.at out)) 0 (signedBytes w64 z) ++ drop n (drop s.args.at out))) (to_z-of_z w64 s.args.x s.ranges.x)
-    ∙ lay-part out s.args.at n (signedBytes w64 s.args.x) (omega (arith, length-sum s.args.x)) (omega (arith, length-sum s.args.x, s.requires))
+    ∙ ap (λ z. take s.args.at out ++ (lay (take n (drop s.args.at out)) 0 (signed_bytes w64 z) ++ drop n (drop s.args.at out))) (to_z-of_z w64 s.args.x s.ranges.x)
+    ∙ lay_part out s.args.at n (signed_bytes w64 s.args.x) (omega (arith, length_sum s.args.x)) (omega (arith, length_sum s.args.x, s.requires))
 
 pub put-sum-spec : {M : Type 1} → statement M
 put-sum-spec =

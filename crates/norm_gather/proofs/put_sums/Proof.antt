@@ -5,8 +5,8 @@ use Prim.Native.Nat.{◌+◌, ◌*◌}
 use lib.ListN.{length}
 use Rattle.byte_words.specs.Words.{bytes_of, lay}
 use Rattle.byte_section.specs.Section.{encoded}
-use Rattle.norm_kinds.specs.Kinds.{sumBytes}
-use Rattle.norm_gather.proofs.Laid.{columnsFound, sidesFound, sum-part-laid}
+use Rattle.norm_kinds.specs.Kinds.{sum_bytes}
+use Rattle.norm_gather.proofs.Laid.{columns_found, sides_found, sum_part_laid}
 use borrow.Author.Rules.{rules}
 use Rattle.norm_gather.proofs.put_sums.Statement.{statement}
 use Rattle.norm_gather.proofs.put_sums.Tie as tie
@@ -62,11 +62,11 @@ returns c =
     let m = sums.triangle.result in
     let next = s.at + 4 + 8 * m in
     rights.put-gathered.ensures
-    ∙ ap (λ o. lay o (next + 4) (encoded sumBytes (sidesFound s.s.now s.r u)))
+    ∙ ap (λ o. lay o (next + 4) (encoded sum_bytes (sides_found s.s.now s.r u)))
     (right-count.write-u322.ensures
     ∙ ap (λ o. lay o next (bytes_of 4 (length u)))
-    (matrix.put-columns.ensures ∙ ap (λ o. lay o (s.at + 4) (encoded sumBytes (columnsFound s.s.now s.r u))) sum-count.write-u32.ensures))
-    ∙ sum-part-laid s.s.now s.r u s.out.now s.at next m sums.triangle.ensures.0 refl
+    (matrix.put-columns.ensures ∙ ap (λ o. lay o (s.at + 4) (encoded sum_bytes (columns_found s.s.now s.r u))) sum-count.write-u32.ensures))
+    ∙ sum_part_laid s.s.now s.r u s.out.now s.at next m sums.triangle.ensures.0 refl
 
 pub put-sums-spec : {M : Type 1} → statement M
 put-sums-spec =

@@ -3,7 +3,7 @@
 use mathlib.Core.Path.{ap, ◌∙◌}
 use Prim.Native.Nat.{◌+◌}
 use Rattle.byte_words.specs.Words.{bytes_of, lay}
-use Rattle.norm_gather.proofs.Laid.{totals-laid}
+use Rattle.norm_gather.proofs.Laid.{totals_laid}
 use borrow.Author.Rules.{rules}
 use Rattle.norm_gather.proofs.put_totals.Statement.{statement}
 use Rattle.norm_gather.proofs.put_totals.Tie as tie
@@ -46,7 +46,7 @@ returns c =
     square-put.write-u642.ensures
     ∙ ap (λ o. lay o (s.args.at + 12) (bytes_of 8 square.read-u642.result))
     (accepted-put.write-u64.ensures ∙ ap (λ o. lay o (s.args.at + 4) (bytes_of 8 accepted.read_u64.result)) count.write-u32.ensures)
-    ∙ totals-laid s.args.out.now s.args.at s.args.s.now s.args.r _ _ accepted.read_u64.ensures square.read-u642.ensures
+    ∙ totals_laid s.args.out.now s.args.at s.args.s.now s.args.r _ _ accepted.read_u64.ensures square.read-u642.ensures
 
 pub put-totals-spec : {M : Type 1} → statement M
 put-totals-spec =

@@ -8,9 +8,9 @@ use native.Mathlib.Omega.{arith}
 use lib.ListN.{length, set, length-set}
 use Rattle.byte_words.specs.Words.{lay}
 use Rattle.byte_words.specs.Stands.{stands}
-use Rattle.norm_kinds.specs.Kinds.{fieldedAt}
-use Rattle.norm_gather.specs.Gather.{seatsFrom}
-use Rattle.norm_gather.proofs.Seated.{seats-end, seats-off, seats-on}
+use Rattle.norm_kinds.specs.Kinds.{fielded_at}
+use Rattle.norm_gather.specs.Gather.{seats_from}
+use Rattle.norm_gather.proofs.Seated.{seats_end, seats_off, seats_on}
 use borrow.Author.Rules.{rules}
 use Rattle.norm_gather.proofs.seat_labels.Statement.{statement}
 use Rattle.norm_gather.proofs.seat_labels.Tie as tie
@@ -18,7 +18,7 @@ use Rattle.norm_gather.proofs.seat_labels.Tie as tie
 abbrev invariant-loop : tie.invariant-loop
 invariant-loop s labels p n w₀ at₀ q₀ i₀ w at q i =
     (i ≤ p) × (at ≡ labels + 24 * i) × (q ≤ i) × (length w ≡ length w₀)
-    × (lay w₀ 0 (seatsFrom n 0 (stands (fieldedAt s) 24 p labels)) ≡ lay w i (seatsFrom n q (stands (fieldedAt s) 24 (p - i) at)))
+    × (lay w₀ 0 (seats_from n 0 (stands (fielded_at s) 24 p labels)) ≡ lay w i (seats_from n q (stands (fielded_at s) 24 (p - i) at)))
 
 abbrev decreases-loop : tie.decreases-loop
 decreases-loop s labels p n w₀ at₀ q₀ i₀ w at q i = p - i
@@ -64,23 +64,23 @@ loop-again c =
     let is = c.before.read_u32.ensures in
     let v = l.invariant in
     ⊎_elim
-    (λ w. let e = seats-off s.args.s.now s.args.n s.args.p l.i l.at l.q l.w more (sym is ∙ w.0.taken) in
+    (λ w. let e = seats_off s.args.s.now s.args.n s.args.p l.i l.at l.q l.w more (sym is ∙ w.0.taken) in
     let q : c.if1.q ≡ l.q = w.2 in
     let r : c.if1.w ≡ set l.w l.i s.args.n = w.1 in (
       omega arith,
       omega (arith, v.1),
       omega (arith, v.2),
       ap length r ∙ length-set l.w l.i s.args.n ∙ v.3,
-      v.4 ∙ e ∙ (λ i. lay (sym r i) (l.i + 1) (seatsFrom s.args.n (sym q i) (stands (fieldedAt s.args.s.now) 24 (s.args.p - (l.i + 1)) (l.at + 24)))),
+      v.4 ∙ e ∙ (λ i. lay (sym r i) (l.i + 1) (seats_from s.args.n (sym q i) (stands (fielded_at s.args.s.now) 24 (s.args.p - (l.i + 1)) (l.at + 24)))),
     ))
-    (λ w. let e = seats-on s.args.s.now s.args.n s.args.p l.i l.at l.q l.w more (λ d. w.0.left (is ∙ d)) in
+    (λ w. let e = seats_on s.args.s.now s.args.n s.args.p l.i l.at l.q l.w more (λ d. w.0.left (is ∙ d)) in
     let q : c.if1.q ≡ l.q + 1 = w.2 in
     let r : c.if1.w ≡ set l.w l.i l.q = w.1 in (
       omega arith,
       omega (arith, v.1),
       omega (arith, v.2),
       ap length r ∙ length-set l.w l.i l.q ∙ v.3,
-      v.4 ∙ e ∙ (λ i. lay (sym r i) (l.i + 1) (seatsFrom s.args.n (sym q i) (stands (fieldedAt s.args.s.now) 24 (s.args.p - (l.i + 1)) (l.at + 24)))),
+      v.4 ∙ e ∙ (λ i. lay (sym r i) (l.i + 1) (seats_from s.args.n (sym q i) (stands (fielded_at s.args.s.now) 24 (s.args.p - (l.i + 1)) (l.at + 24)))),
     ))
     c.if1.branch
 
@@ -91,7 +91,7 @@ returns : tie.Need-returns invariant-loop decreases-loop
 returns c =
     let l = c.before.loop in
     let s = c.before.before.before.before in
-    sym (l.invariant.4 ∙ seats-end s.args.s.now s.args.n s.args.p l.i l.at l.q l.w (omega arith))
+    sym (l.invariant.4 ∙ seats_end s.args.s.now s.args.n s.args.p l.i l.at l.q l.w (omega arith))
 
 pub seat-labels-spec : {M : Type 1} → statement M
 seat-labels-spec =

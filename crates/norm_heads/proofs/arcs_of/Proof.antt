@@ -9,13 +9,13 @@ use lib.ListN.{length, take, length-set}
 use lib.Seq.{sets}
 use Rattle.byte_words.specs.Words.{word}
 use Rattle.byte_words.specs.Stands.{stands}
-use Rattle.norm_heads.specs.Heads.{arcsAt}
-use Rattle.byte_words.proofs.Stands.{put-end, put-turn, put_all}
+use Rattle.norm_heads.specs.Heads.{arcs_at}
+use Rattle.byte_words.proofs.Stands.{put_end, put_turn, put_all}
 use Rattle.norm_heads.proofs.arcs_of.Statement.{statement}
 use Rattle.norm_heads.proofs.arcs_of.Tie as tie
 
 abbrev invariant-loop : tie.invariant-loop
-invariant-loop s n arcs₀ i₀ arcs i = (i ≤ n) × (length arcs₀ ≡ 16) × (length arcs ≡ 16) × (sets arcs₀ 0 (arcsAt s n) ≡ sets arcs i (stands (word 4 s) 4 (n - i) (4 + 4 * i)))
+invariant-loop s n arcs₀ i₀ arcs i = (i ≤ n) × (length arcs₀ ≡ 16) × (length arcs ≡ 16) × (sets arcs₀ 0 (arcs_at s n) ≡ sets arcs i (stands (word 4 s) 4 (n - i) (4 + 4 * i)))
 
 abbrev decreases-loop : tie.decreases-loop
 decreases-loop s n arcs₀ i₀ arcs i = n - i
@@ -49,7 +49,7 @@ loop-again c =
     let l = c.before.before.loop in
     let f = word 4 c.before.before.before.before.args.s.now in
     let place : 4 + 4 * l.i + 4 ≡ 4 + 4 * (l.i + 1) = omega arith in
-    let turn = put-turn f 4 l.arcs c.before.before.before.before.args.n l.i (4 + 4 * l.i) (omega arith) in (
+    let turn = put_turn f 4 l.arcs c.before.before.before.before.args.n l.i (4 + 4 * l.i) (omega arith) in (
       search rules,
       refl,
       length-set l.arcs l.i c.read_u32.result ∙ l.invariant.2,
@@ -58,7 +58,7 @@ loop-again c =
 
 returns : tie.Need-returns invariant-loop decreases-loop
 returns c =
-    let done = c.before.loop.invariant.3 ∙ put-end (word 4 c.before.before.before.args.s.now) 4 c.before.loop.arcs c.before.before.before.args.n c.before.loop.i (4 + 4 * c.before.loop.i) (omega arith) in (
+    let done = c.before.loop.invariant.3 ∙ put_end (word 4 c.before.before.before.args.s.now) 4 c.before.loop.arcs c.before.before.before.args.n c.before.loop.i (4 + 4 * c.before.loop.i) (omega arith) in (
       ap (take c.before.before.before.args.n) (sym done) ∙ put_all (word 4 c.before.before.before.args.s.now) 4 c.before.before.before.args.n 4 _ (omega arith),
       sym c.before.loop.invariant.2,
     )

@@ -7,20 +7,20 @@ use borrow.Author.Rules.{rules}
 use lib.ListN.{length, length-set}
 use Rattle.byte_words.specs.Words.{word, lay}
 use Rattle.byte_words.specs.Stands.{stands}
-use Rattle.norm_heads.specs.Heads.{arcsAt}
-use Rattle.byte_words.proofs.Stands.{load-start, load-end, load-turn}
+use Rattle.norm_heads.specs.Heads.{arcs_at}
+use Rattle.byte_words.proofs.Stands.{load_start, load_end, load_turn}
 use Rattle.norm_heads.proofs.load_arcs.Statement.{statement}
 use Rattle.norm_heads.proofs.load_arcs.Tie as tie
 
 abbrev invariant-loop : tie.invariant-loop
 invariant-loop s n arcs₀ at₀ i₀ arcs at i =
-    (i ≤ n) × (at ≡ 4 + 4 * i) × (length arcs ≡ length arcs₀) × (lay arcs₀ 0 (arcsAt s n) ≡ lay arcs i (stands (word 4 s) 4 (n - i) at))
+    (i ≤ n) × (at ≡ 4 + 4 * i) × (length arcs ≡ length arcs₀) × (lay arcs₀ 0 (arcs_at s n) ≡ lay arcs i (stands (word 4 s) 4 (n - i) at))
 
 abbrev decreases-loop : tie.decreases-loop
 decreases-loop s n arcs₀ at₀ i₀ arcs at i = n - i
 
 loop-holds : tie.Need-loop-init invariant-loop decreases-loop
-loop-holds c = (omega arith, refl, refl, load-start _ _ _ _ _)
+loop-holds c = (omega arith, refl, refl, load_start _ _ _ _ _)
 
 read-u32-requires : tie.Need-read-u32-requires invariant-loop decreases-loop
 read-u32-requires c κs = search rules
@@ -49,14 +49,14 @@ loop-again c =
       omega arith,
       omega arith,
       length-set l.arcs l.i _ ∙ l.invariant.2,
-      l.invariant.3 ∙ load-turn _ _ l.arcs _ l.i l.at c.read_u32.result (omega arith) c.read_u32.ensures,
+      l.invariant.3 ∙ load_turn _ _ l.arcs _ l.i l.at c.read_u32.result (omega arith) c.read_u32.ensures,
     )
 
 same_length : tie.Need-same-length invariant-loop decreases-loop
 same_length c = search rules
 
 returns : tie.Need-returns invariant-loop decreases-loop
-returns c = sym (c.before.loop.invariant.3 ∙ load-end _ _ _ _ _ _ (omega arith))
+returns c = sym (c.before.loop.invariant.3 ∙ load_end _ _ _ _ _ _ (omega arith))
 
 pub load-arcs-spec : {M : Type 1} → statement M
 load-arcs-spec =

@@ -2,9 +2,9 @@
 -- Assumes nothing.
 use native.Mathlib.Omega.{arith}
 use mathlib.Core.Path.{sym, ap, ◌∙◌}
-use Rattle.byte_section.proofs.Walk.{then-good, then-bad}
-use Rattle.byte_section.specs.Told.{toldSection}
-use Rattle.norm_heads.proofs.Heads.{heads-counts, heads-good, few-arcs, labels-whole}
+use Rattle.byte_section.proofs.Walk.{then_good, then_bad}
+use Rattle.byte_section.specs.Told.{told_section}
+use Rattle.norm_heads.proofs.Heads.{heads_counts, heads_good, few_arcs, labels_whole}
 use borrow.Author.Rules.{rules}
 use Rattle.norm_heads.proofs.read_heads.Statement.{statement}
 use Rattle.norm_heads.proofs.read_heads.Tie as tie
@@ -16,19 +16,19 @@ enum-known-arcs : tie.Need-enum-known-arcs
 enum-known-arcs c = search rules
 
 read-parameters-requires : tie.Need-read-parameters-requires
-read-parameters-requires c κs = few-arcs _ _ (sym c.before.before.before.read-arcs.ensures ∙ ap toldSection c.before.arcs.given.1)
+read-parameters-requires c κs = few_arcs _ _ (sym c.before.before.before.read-arcs.ensures ∙ ap told_section c.before.arcs.given.1)
 
 enum-known-parameters : tie.Need-enum-known-parameters
 enum-known-parameters c = search rules
 
 is-small-form-requires : tie.Need-is-small-form-requires
-is-small-form-requires c κs = omega (arith, labels-whole _ _ _ _ _ (sym c.before.before.before.read-parameters.ensures ∙ ap toldSection c.before.parameters.given.1))
+is-small-form-requires c κs = omega (arith, labels_whole _ _ _ _ _ (sym c.before.before.before.read-parameters.ensures ∙ ap told_section c.before.parameters.given.1))
 
 add-stored-in : tie.Need-overflow-add-stored-in
-add-stored-in c = omega (arith, labels-whole _ _ _ _ _ (sym c.before.before.before.before.read-parameters.ensures ∙ ap toldSection c.before.before.parameters.given.1))
+add-stored-in c = omega (arith, labels_whole _ _ _ _ _ (sym c.before.before.before.before.read-parameters.ensures ∙ ap told_section c.before.before.parameters.given.1))
 
 stored-in-requires : tie.Need-stored-in-requires
-stored-in-requires c κs = labels-whole _ _ _ _ _ (sym c.before.before.before.before.read-parameters.ensures ∙ ap toldSection c.before.before.parameters.given.1)
+stored-in-requires c κs = labels_whole _ _ _ _ _ (sym c.before.before.before.before.read-parameters.ensures ∙ ap told_section c.before.before.parameters.given.1)
 
 enum-known-r : tie.Need-enum-known-r
 enum-known-r c = search rules
@@ -38,18 +38,18 @@ enum-known-r-2 c = search rules
 
 returns : tie.Need-returns
 returns c =
-    let a = (sym c.before.before.before.before.before.before.before.before.before.read-arcs.ensures ∙ ap toldSection c.before.before.before.before.before.before.before.arcs.given.1) in
-    let b = (sym c.before.before.before.before.before.read-parameters.ensures ∙ ap toldSection c.before.before.before.parameters.given.1) in
-    heads-good _ _ _ _ _ a b c.stored-in.ensures c.before.is-small-form.ensures
+    let a = (sym c.before.before.before.before.before.before.before.before.before.read-arcs.ensures ∙ ap told_section c.before.before.before.before.before.before.before.arcs.given.1) in
+    let b = (sym c.before.before.before.before.before.read-parameters.ensures ∙ ap told_section c.before.before.before.parameters.given.1) in
+    heads_good _ _ _ _ _ a b c.stored-in.ensures c.before.is-small-form.ensures
 
 returns-2 : tie.Need-returns-2
 returns-2 c =
-    let a = (sym c.before.before.before.before.before.before.before.read-arcs.ensures ∙ ap toldSection c.before.before.before.before.before.arcs.given.1) in
-    let b = (sym c.before.before.before.read-parameters.ensures ∙ ap toldSection c.before.r.given.1) in
-    sym (heads-counts _ ∙ then-good _ _ a ∙ then-bad _ _ b)
+    let a = (sym c.before.before.before.before.before.before.before.read-arcs.ensures ∙ ap told_section c.before.before.before.before.before.arcs.given.1) in
+    let b = (sym c.before.before.before.read-parameters.ensures ∙ ap told_section c.before.r.given.1) in
+    sym (heads_counts _ ∙ then_good _ _ a ∙ then_bad _ _ b)
 
 returns-3 : tie.Need-returns-3
-returns-3 c = sym (heads-counts _ ∙ then-bad _ _ (sym c.before.before.before.read-arcs.ensures ∙ ap toldSection c.before.r2.given.1))
+returns-3 c = sym (heads_counts _ ∙ then_bad _ _ (sym c.before.before.before.read-arcs.ensures ∙ ap told_section c.before.r2.given.1))
 
 pub read-heads-spec : {M : Type 1} → statement M
 read-heads-spec =

@@ -3,8 +3,8 @@
 use native.Mathlib.Omega.{arith}
 use mathlib.Core.Path.{sym, ap, ◌∙◌}
 use lib.Seq.{length-take-le}
-use Rattle.byte_section.specs.Section.{sectionAt}
-use Rattle.norm_kinds.specs.Kinds.{fieldedKind, isSmallForm}
+use Rattle.byte_section.specs.Section.{section_at}
+use Rattle.norm_kinds.specs.Kinds.{fielded_kind, is_small_form}
 use Rattle.byte_section.specs.Told.{span_of}
 use borrow.Author.Rules.{rules}
 use Rattle.norm_heads.proofs.read_parameters.Statement.{statement}
@@ -26,7 +26,7 @@ returns : tie.Need-returns
 returns c =
     let a = c.before.before.before.before.args in
     c.read-labels.ensures
-    ∙ ap (λ l. span_of (sectionAt (fieldedKind (isSmallForm a.s.now a.at) l) a.s.now 1 500 a.at)) c.before.before.arcs-of.ensures.0
+    ∙ ap (λ l. span_of (section_at (fielded_kind (is_small_form a.s.now a.at) l) a.s.now 1 500 a.at)) c.before.before.arcs-of.ensures.0
 
 pub read-parameters-spec : {M : Type 1} → statement M
 read-parameters-spec =

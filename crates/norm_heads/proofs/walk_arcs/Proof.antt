@@ -5,21 +5,21 @@ use native.Mathlib.Omega.{arith}
 use mathlib.Core.Path.{◌≡◌, sym, ap, ◌∙◌}
 use Prim.Native.Nat.{◌+◌, ◌*◌, ◌-◌, ◌≤◌}
 use Rattle.byte_section.specs.Section.{records}
-use Rattle.norm_kinds.specs.Kinds.{arcKind}
+use Rattle.norm_kinds.specs.Kinds.{arc_kind}
 use Rattle.byte_section.specs.Told.{span_of}
-use Rattle.norm_kinds.specs.Told.{toldFloor}
-use Rattle.norm_heads.proofs.Loops.{reaching, reach-start, reach-end, reach-good, reach-bad}
+use Rattle.norm_kinds.specs.Told.{told_floor}
+use Rattle.norm_heads.proofs.Loops.{reaching, reach_start, reach_end, reach_good, reach_bad}
 use Rattle.norm_heads.proofs.walk_arcs.Statement.{statement}
 use Rattle.norm_heads.proofs.walk_arcs.Tie as tie
 
 abbrev invariant-loop : tie.invariant-loop
-invariant-loop s start count at₀ floor₀ i₀ at floor i = (i ≤ count) × (at ≡ start + 4 * i) × (span_of (records arcKind s count start 0) ≡ reaching count (records arcKind s (count - i) at floor))
+invariant-loop s start count at₀ floor₀ i₀ at floor i = (i ≤ count) × (at ≡ start + 4 * i) × (span_of (records arc_kind s count start 0) ≡ reaching count (records arc_kind s (count - i) at floor))
 
 abbrev decreases-loop : tie.decreases-loop
 decreases-loop s start count at₀ floor₀ i₀ at floor i = count - i
 
 loop-holds : tie.Need-loop-init invariant-loop decreases-loop
-loop-holds c = (search rules, search rules, reach-start arcKind _ _ _)
+loop-holds c = (search rules, search rules, reach_start arc_kind _ _ _)
 
 read-arc-requires : tie.Need-read-arc-requires invariant-loop decreases-loop
 read-arc-requires c κs = search rules
@@ -38,19 +38,19 @@ loop-less c = search rules
 
 loop-again : tie.Need-loop-preserved invariant-loop decreases-loop
 loop-again c =
-    let e = sym c.before.before.before.read-arc.ensures ∙ ap toldFloor c.before.next.given.1 in
-    (search rules, search rules, c.before.before.before.before.before.loop.invariant.2 ∙ reach-good arcKind _ _ _ _ _ (omega arith) _ e)
+    let e = sym c.before.before.before.read-arc.ensures ∙ ap told_floor c.before.next.given.1 in
+    (search rules, search rules, c.before.before.before.before.before.loop.invariant.2 ∙ reach_good arc_kind _ _ _ _ _ (omega arith) _ e)
 
 enum-known-r : tie.Need-enum-known-r invariant-loop decreases-loop
 enum-known-r c = search rules
 
 returns : tie.Need-returns invariant-loop decreases-loop
 returns c =
-    let e = sym c.before.before.before.read-arc.ensures ∙ ap toldFloor c.before.r.given.1 in
-    sym (c.before.before.before.before.before.loop.invariant.2 ∙ reach-bad arcKind _ _ _ _ _ (omega arith) _ _ e)
+    let e = sym c.before.before.before.read-arc.ensures ∙ ap told_floor c.before.r.given.1 in
+    sym (c.before.before.before.before.before.loop.invariant.2 ∙ reach_bad arc_kind _ _ _ _ _ (omega arith) _ _ e)
 
 returns-2 : tie.Need-returns-2 invariant-loop decreases-loop
-returns-2 c = sym (c.before.loop.invariant.2 ∙ reach-end arcKind _ _ _ _ _ (omega arith))
+returns-2 c = sym (c.before.loop.invariant.2 ∙ reach_end arc_kind _ _ _ _ _ (omega arith))
 
 pub walk-arcs-spec : {M : Type 1} → statement M
 walk-arcs-spec =

@@ -5,7 +5,7 @@ use native.Mathlib.Omega.{arith}
 use mathlib.Core.Path.{◌≡◌, sym, ◌∙◌}
 use lib.ListN.{length, take}
 use lib.Seq.{length-take-le}
-use Rattle.norm_judge.proofs.Sums.{sums-in}
+use Rattle.norm_judge.proofs.Sums.{sums_in}
 use Rattle.norm_judge.proofs.sums_fit.Statement.{statement}
 use Rattle.norm_judge.proofs.sums_fit.Tie as tie
 
@@ -48,7 +48,7 @@ sums-sound-requires c κs =
     (start.requires.arcs, start.requires.parameters, omega (arith, sums.ensures.0), omega arith)
 
 returns : tie.Need-returns
-returns c = (rw c.before.before.before.before.before.triangle.ensures.0 at c.sums-sound.ensures) ∙ sums-in _ _ _ _ _ (omega arith)
+returns c = (rw c.before.before.before.before.before.triangle.ensures.0 at c.sums_sound_lem.ensures) ∙ sums_in _ _ _ _ _ (omega arith)
 
 pub sums-fit-spec : {M : Type 1} → statement M
 sums-fit-spec =

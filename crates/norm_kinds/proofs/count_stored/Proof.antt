@@ -8,14 +8,14 @@ use native.Mathlib.Omega.{arith}
 use borrow.Author.Rules.{rules}
 use lib.ListN.{length}
 use Rattle.byte_words.specs.Stands.{stands}
-use Rattle.norm_kinds.specs.Kinds.{fieldedAt, storedOf}
-use Rattle.norm_kinds.proofs.Labels.{count-end, count-on, count-off}
+use Rattle.norm_kinds.specs.Kinds.{fielded_at, stored_of}
+use Rattle.norm_kinds.proofs.Labels.{count_end, count_on, count_off}
 use Rattle.norm_kinds.proofs.count_stored.Statement.{statement}
 use Rattle.norm_kinds.proofs.count_stored.Tie as tie
 
 abbrev invariant-loop : tie.invariant-loop
 invariant-loop s labels p at₀ n₀ i₀ at n i =
-    (i ≤ p) × (at ≡ labels + 24 * i) × (n ≤ i) × (length (storedOf (stands (fieldedAt s) 24 p labels)) ≡ n + length (storedOf (stands (fieldedAt s) 24 (p - i) at)))
+    (i ≤ p) × (at ≡ labels + 24 * i) × (n ≤ i) × (length (stored_of (stands (fielded_at s) 24 p labels)) ≡ n + length (stored_of (stands (fielded_at s) 24 (p - i) at)))
 
 abbrev decreases-loop : tie.decreases-loop
 decreases-loop s labels p at₀ n₀ i₀ at n i = p - i
@@ -49,10 +49,10 @@ loop-again c =
     let is = c.before.read_u32.ensures in
     let v = l.invariant in
     ⊎_elim
-    (λ w. let e = count-on s.args.s.now s.args.p l.i l.at more (λ d. w.0.taken (is ∙ d)) in
+    (λ w. let e = count_on s.args.s.now s.args.p l.i l.at more (λ d. w.0.taken (is ∙ d)) in
     let n : c.if1.n ≡ l.n + 1 = w.1 in
     (omega arith, omega (arith, v.1), omega (arith, v.2), omega (arith, v.3, e)))
-    (λ w. let e = count-off s.args.s.now s.args.p l.i l.at more (sym is ∙ w.0.left) in
+    (λ w. let e = count_off s.args.s.now s.args.p l.i l.at more (sym is ∙ w.0.left) in
     let n : c.if1.n ≡ l.n = w.1 in
     (omega arith, omega (arith, v.1), omega (arith, v.2), omega (arith, v.3, e)))
     c.if1.branch
@@ -61,7 +61,7 @@ returns : tie.Need-returns invariant-loop decreases-loop
 returns c =
     let l = c.before.loop in
     let s = c.before.before.before in
-    (omega (arith, l.invariant.3, count-end s.args.s.now s.args.p l.i l.at (omega arith)), omega (arith, l.invariant.0, l.invariant.2))
+    (omega (arith, l.invariant.3, count_end s.args.s.now s.args.p l.i l.at (omega arith)), omega (arith, l.invariant.0, l.invariant.2))
 
 pub count-stored-spec : {M : Type 1} → statement M
 count-stored-spec =

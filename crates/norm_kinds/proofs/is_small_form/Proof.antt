@@ -4,8 +4,8 @@ use mathlib.Core.Path.{ap, ◌∙◌}
 use mathlib.Core.Bool.{not}
 use borrow.Author.Rules.{rules}
 use Rattle.num_whole.specs.Tests.{same}
-use Rattle.num_whole.proofs.Cases.{by-not-same}
-use Rattle.norm_kinds.specs.Kinds.{isSmallForm}
+use Rattle.num_whole.proofs.Cases.{by_not_same}
+use Rattle.norm_kinds.specs.Kinds.{is_small_form}
 use Rattle.norm_kinds.proofs.is_small_form.Statement.{statement}
 use Rattle.norm_kinds.proofs.is_small_form.Tie as tie
 
@@ -16,8 +16,8 @@ read-u32-requires : tie.Need-read-u32-requires
 read-u32-requires c κs = search rules
 
 returns : tie.Need-returns
-unfolding isSmallForm
-returns c = by-not-same _ _ ∙ ap (λ n. not (same n 0)) c.read_u32.ensures
+unfolding is_small_form
+returns c = by_not_same _ _ ∙ ap (λ n. not (same n 0)) c.read_u32.ensures
 
 pub is-small-form-spec : {M : Type 1} → statement M
 is-small-form-spec = tie.close (tie.spec add-read-u32 read-u32-requires returns)

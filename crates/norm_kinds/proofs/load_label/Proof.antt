@@ -2,7 +2,7 @@
 -- Assumes nothing.
 use mir.Syntax.{w64}
 use mir.ValLaws.{to_z-of_z}
-use Rattle.norm_kinds.specs.Kinds.{normalLabelAt}
+use Rattle.norm_kinds.specs.Kinds.{normal_label_at}
 use borrow.Author.Rules.{rules}
 use Rattle.norm_kinds.proofs.load_label.Statement.{statement}
 use Rattle.norm_kinds.proofs.load_label.Tie as tie
@@ -35,7 +35,7 @@ read-i64-requires : tie.Need-read-i64-requires
 read-i64-requires c κs = search rules
 
 returns : tie.Need-returns
-unfolding normalLabelAt
+unfolding normal_label_at
 returns c = rw (to_z-of_z w64 c.read-i64.result (record { sfits = c.read-i64.type-inv }), c.before.before.before.before.read-u16.ensures, c.before.before.before.read-u162.ensures, c.before.before.read_u32.ensures, c.before.read-u322.ensures, c.read-i64.ensures)
 
 pub load-label-spec : {M : Type 1} → statement M

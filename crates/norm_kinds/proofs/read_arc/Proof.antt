@@ -2,9 +2,9 @@
 -- Assumes nothing.
 use native.Mathlib.Omega.{arith}
 use mathlib.Core.Path.{sym, ap, ◌∙◌}
-use Rattle.norm_system.specs.System.{arcOk}
-use Rattle.norm_kinds.specs.Kinds.{arcKind}
-use Rattle.norm_kinds.proofs.Floors.{floor-short, floor-limits, floor-order, floor-next}
+use Rattle.norm_system.specs.System.{arc_ok}
+use Rattle.norm_kinds.specs.Kinds.{arc_kind}
+use Rattle.norm_kinds.proofs.Floors.{floor_short, floor_limits, floor_order, floor_next}
 use borrow.Author.Rules.{rules}
 use Rattle.norm_kinds.proofs.read_arc.Statement.{statement}
 use Rattle.norm_kinds.proofs.read_arc.Tie as tie
@@ -13,7 +13,7 @@ left-requires : tie.Need-left-requires
 left-requires c κs = search rules
 
 returns : tie.Need-returns
-returns c = floor-short arcKind _ _ _ (omega arith)
+returns c = floor_short arc_kind _ _ _ (omega arith)
 
 read-u32-requires : tie.Need-read-u32-requires
 read-u32-requires c κs = search rules
@@ -31,13 +31,13 @@ add-t16 : tie.Need-overflow-add-t16
 add-t16 c = search rules
 
 returns-2 : tie.Need-returns-2
-returns-2 c = floor-next arcKind _ _ _ (omega arith) (ap arcOk (sym c.before.before.before.read_u32.ensures) ∙ sym c.before.before.arc-ok.ensures ∙ c.before.if2.true) _ c.before.before.before.read_u32.ensures (omega arith)
+returns-2 c = floor_next arc_kind _ _ _ (omega arith) (ap arc_ok (sym c.before.before.before.read_u32.ensures) ∙ sym c.before.before.arc_ok_lem.ensures ∙ c.before.if2.true) _ c.before.before.before.read_u32.ensures (omega arith)
 
 returns-3 : tie.Need-returns-3
-returns-3 c = floor-order arcKind _ _ _ (omega arith) (ap arcOk (sym c.before.before.before.read_u32.ensures) ∙ sym c.before.before.arc-ok.ensures ∙ c.before.if2.true) _ c.before.before.before.read_u32.ensures (omega arith)
+returns-3 c = floor_order arc_kind _ _ _ (omega arith) (ap arc_ok (sym c.before.before.before.read_u32.ensures) ∙ sym c.before.before.arc_ok_lem.ensures ∙ c.before.if2.true) _ c.before.before.before.read_u32.ensures (omega arith)
 
 returns-4 : tie.Need-returns-4
-returns-4 c = floor-limits arcKind _ _ _ (omega arith) (ap arcOk (sym c.before.before.read_u32.ensures) ∙ sym c.before.arc-ok.ensures ∙ c.if2.false)
+returns-4 c = floor_limits arc_kind _ _ _ (omega arith) (ap arc_ok (sym c.before.before.read_u32.ensures) ∙ sym c.before.arc_ok_lem.ensures ∙ c.if2.false)
 
 pub read-arc-spec : {M : Type 1} → statement M
 read-arc-spec =

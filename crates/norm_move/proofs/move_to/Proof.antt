@@ -1,6 +1,6 @@
 -- `norm_move::move_to` meets its contract: what was read is moved, and a refusal stands.
 -- Assumes nothing.
-use Rattle.norm_move.proofs.Known.{refused, answer-refused, left-refused}
+use Rattle.norm_move.proofs.Known.{refused, answer_refused, left_refused}
 use borrow.Author.Rules.{rules}
 use Rattle.norm_move.proofs.move_to.Statement.{statement}
 use Rattle.norm_move.proofs.move_to.Tie as tie
@@ -28,7 +28,7 @@ returns-2 c =
     let s = c.before.before.before.before.before.before.args in
     let read = c.before.before.before.read in
     let e = refused s.file.now read.result read.ensures _ _ c.before.answer.given.1 in
-    (answer-refused s.is-small s.file.now _ _ e _, left-refused s.is-small s.file.now _ _ e s.out.now)
+    (answer_refused s.is_small_lem s.file.now _ _ e _, left_refused s.is_small_lem s.file.now _ _ e s.out.now)
 
 pub move_to_spec : {M : Type 1} → statement M
 move_to_spec =

@@ -3,9 +3,9 @@
 use borrow.Author.Rules.{rules}
 use lib.Seq.{length-take-le}
 use native.Mathlib.Omega.{arith}
-use Rattle.byte_words.proofs.Stands.{length-stands}
-use Rattle.norm_room.specs.Room.{labelInHeads, systemInRooms}
-use Rattle.norm_put.proofs.Laid.{file-laid}
+use Rattle.byte_words.proofs.Stands.{length_stands}
+use Rattle.norm_room.specs.Room.{label_in_heads, system_in_rooms}
+use Rattle.norm_put.proofs.Laid.{file_laid}
 use Rattle.norm_put.proofs.put.Statement.{statement}
 use Rattle.norm_put.proofs.put.Tie as tie
 
@@ -59,7 +59,7 @@ same_length c = search rules
 
 -- Each `let` of a place leads from a later one to an earlier one; they stand here since `rw` takes no view.
 returns : tie.Need-returns
-unfolding systemInRooms
+unfolding system_in_rooms
 returns c =
     let tail = c.before.before in
     let labels = tail.before.before.before.before.before.before in
@@ -67,7 +67,7 @@ returns c =
     let start = arcs.before.before.before.before in
     let a = start.args in
     rw (tail.put-tail.ensures, labels.put-labels.ensures, arcs.put-arcs.ensures)
-    (file-laid _ _ (systemInRooms a.arcs a.parameters a.heads.now a.matrix.now a.rights.now) (length-take-le a.arcs a.heads.now (omega arith)) (length-stands (labelInHeads a.heads.now) 5 a.parameters a.arcs) _)
+    (file_laid _ _ (system_in_rooms a.arcs a.parameters a.heads.now a.matrix.now a.rights.now) (length-take-le a.arcs a.heads.now (omega arith)) (length_stands (label_in_heads a.heads.now) 5 a.parameters a.arcs) _)
 
 pub put_spec : {M : Type 1} → statement M
 put_spec =

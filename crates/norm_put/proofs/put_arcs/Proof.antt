@@ -9,12 +9,12 @@ use lib.Seq.{length-take-le}
 use Rattle.num_whole.specs.Lists.{rest}
 use Rattle.num_whole.proofs.Walks.{rest_end, rest_more}
 use Rattle.byte_words.specs.Words.{bytes_of, lay}
-use Rattle.byte_words.proofs.Words.{low, length-lay}
+use Rattle.byte_words.proofs.Words.{low, length_lay}
 use Rattle.byte_section.specs.Section.{encoded}
 use Rattle.byte_section.proofs.Laid.{laid_none, laid_one}
-use Rattle.norm_kinds.specs.Kinds.{arcNumberBytes}
-use Rattle.norm_kinds.proofs.Records.{length-arc}
-use Rattle.norm_put.proofs.Laid.{section-laid}
+use Rattle.norm_kinds.specs.Kinds.{arc_number_bytes}
+use Rattle.norm_kinds.proofs.Records.{length_arc}
+use Rattle.norm_put.proofs.Laid.{section_laid}
 use Rattle.norm_put.proofs.put_arcs.Statement.{statement}
 use Rattle.norm_put.proofs.put_arcs.Tie as tie
 
@@ -23,7 +23,7 @@ invariant-loop heads n out₀ at₀ i₀ out at i =
     (i ≤ n)
     × (at ≡ 4 + 4 * i)
     × (length out ≡ length out₀)
-    × (lay out₀ 4 (encoded arcNumberBytes (rest heads n 0)) ≡ lay out at (encoded arcNumberBytes (rest heads n i)))
+    × (lay out₀ 4 (encoded arc_number_bytes (rest heads n 0)) ≡ lay out at (encoded arc_number_bytes (rest heads n i)))
 
 abbrev decreases-loop : tie.decreases-loop
 decreases-loop heads n out₀ at₀ i₀ out at i = n - i
@@ -63,14 +63,14 @@ loop-less : tie.Need-loop-smaller invariant-loop decreases-loop
 loop-less c = search rules
 
 loop-again : tie.Need-loop-preserved invariant-loop decreases-loop
-unfolding arcNumberBytes
+unfolding arc_number_bytes
 loop-again c =
     let l = c.before.before.before.before.before.before.before.loop in
     let e = c.before.before.write-u322.ensures ∙ ap (lay l.out l.at) (ap (bytes_of 4) c.before.before.before.low32.ensures ∙ low 4 _) in (
       omega arith,
       omega arith,
-      rw e (length-lay _ _ _ ∙ l.invariant.2),
-      rw e (l.invariant.3 ∙ laid_one arcNumberBytes _ length-arc _ _ (rest_more _ _ _ 0 (omega arith) (omega arith))),
+      rw e (length_lay _ _ _ ∙ l.invariant.2),
+      rw e (l.invariant.3 ∙ laid_one arc_number_bytes _ length_arc _ _ (rest_more _ _ _ 0 (omega arith) (omega arith))),
     )
 
 same_length : tie.Need-same-length invariant-loop decreases-loop
@@ -80,8 +80,8 @@ returns : tie.Need-returns invariant-loop decreases-loop
 unfolding rest
 returns c =
     let start = (start-of-turn c.before).args in
-    sym (c.before.loop.invariant.3 ∙ laid_none arcNumberBytes _ length-arc _ _ (rest_end start.heads.now start.n c.before.loop.i (omega arith)))
-    ∙ section-laid arcNumberBytes _ _ 0 _ _ c.before.before.before.before.write-u32.ensures (length-take-le _ _ (omega arith))
+    sym (c.before.loop.invariant.3 ∙ laid_none arc_number_bytes _ length_arc _ _ (rest_end start.heads.now start.n c.before.loop.i (omega arith)))
+    ∙ section_laid arc_number_bytes _ _ 0 _ _ c.before.before.before.before.write-u32.ensures (length-take-le _ _ (omega arith))
 
 pub put-arcs-spec : {M : Type 1} → statement M
 put-arcs-spec =

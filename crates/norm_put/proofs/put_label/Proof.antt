@@ -2,7 +2,7 @@
 -- Assumes nothing.
 use borrow.Author.Rules.{rules}
 use Prim.Native.Nat.{◌+◌}
-use Rattle.norm_put.proofs.Laid.{label-laid}
+use Rattle.norm_put.proofs.Laid.{label_laid}
 use Rattle.norm_put.proofs.put_label.Statement.{statement}
 use Rattle.norm_put.proofs.put_label.Tie as tie
 
@@ -71,7 +71,7 @@ returns : tie.Need-returns
 returns c =
     let start = (start-of-lent (lent-of-name c.before.before.before.before.before.before.before)).args in
     rw (c.before.before.write-u64.ensures, c.before.before.before.before.before.before.before.put-name.ensures)
-    (label-laid start.heads.now start.k _ _ (c.before.before.before.shared-slice-known6.given (start.k + 4)).fits)
+    (label_laid start.heads.now start.k _ _ (c.before.before.before.shared-slice-known6.given (start.k + 4)).fits)
 
 pub put-label-spec : {M : Type 1} → statement M
 put-label-spec =

@@ -7,15 +7,15 @@ use native.Mathlib.Nat.{sub-zero}
 use native.Mathlib.Omega.{arith}
 use lib.ListN.{length}
 use Rattle.byte_words.specs.Words.{lay}
-use Rattle.byte_words.proofs.Words.{length-lay}
+use Rattle.byte_words.proofs.Words.{length_lay}
 use Rattle.byte_section.specs.Section.{encoded}
 use Rattle.byte_section.proofs.Laid.{laid_none, laid_one}
 use Rattle.byte_words.specs.Stands.{stands}
-use Rattle.byte_words.proofs.Stands.{length-stands, stands-done, stands-next}
-use Rattle.norm_kinds.specs.Kinds.{normalLabelBytes}
+use Rattle.byte_words.proofs.Stands.{length_stands, stands_done, stands_next}
+use Rattle.norm_kinds.specs.Kinds.{normal_label_bytes}
 use Rattle.norm_kinds.proofs.Records.{length_label}
-use Rattle.norm_room.specs.Room.{labelInHeads}
-use Rattle.norm_put.proofs.Laid.{section-laid}
+use Rattle.norm_room.specs.Room.{label_in_heads}
+use Rattle.norm_put.proofs.Laid.{section_laid}
 use Rattle.norm_put.proofs.put_labels.Statement.{statement}
 use Rattle.norm_put.proofs.put_labels.Tie as tie
 
@@ -25,7 +25,7 @@ invariant-loop heads from n out₀ start k₀ at₀ i₀ out k at i =
     × (k ≡ from + 5 * i)
     × (at ≡ start + 4 + 24 * i)
     × (length out ≡ length out₀)
-    × (lay out₀ (start + 4) (encoded normalLabelBytes (stands (labelInHeads heads) 5 n from)) ≡ lay out at (encoded normalLabelBytes (stands (labelInHeads heads) 5 (n - i) k)))
+    × (lay out₀ (start + 4) (encoded normal_label_bytes (stands (label_in_heads heads) 5 n from)) ≡ lay out at (encoded normal_label_bytes (stands (label_in_heads heads) 5 (n - i) k)))
 
 abbrev decreases-loop : tie.decreases-loop
 decreases-loop heads from n out₀ start k₀ at₀ i₀ out k at i = n - i
@@ -64,8 +64,8 @@ loop-again c =
       omega arith,
       omega arith,
       omega arith,
-      rw e (length-lay _ _ _ ∙ l.invariant.3),
-      rw e (l.invariant.4 ∙ laid_one normalLabelBytes _ length_label _ _ (stands-next _ _ _ _ _ (omega arith))),
+      rw e (length_lay _ _ _ ∙ l.invariant.3),
+      rw e (l.invariant.4 ∙ laid_one normal_label_bytes _ length_label _ _ (stands_next _ _ _ _ _ (omega arith))),
     )
 
 same_length : tie.Need-same-length invariant-loop decreases-loop
@@ -73,8 +73,8 @@ same_length c = search rules
 
 returns : tie.Need-returns invariant-loop decreases-loop
 returns c =
-    sym (c.before.loop.invariant.4 ∙ laid_none normalLabelBytes _ length_label _ _ (stands-done _ _ _ _ _ (omega arith)))
-    ∙ section-laid normalLabelBytes _ _ _ _ _ c.before.before.before.before.write-u32.ensures (length-stands _ _ _ _)
+    sym (c.before.loop.invariant.4 ∙ laid_none normal_label_bytes _ length_label _ _ (stands_done _ _ _ _ _ (omega arith)))
+    ∙ section_laid normal_label_bytes _ _ _ _ _ c.before.before.before.before.write-u32.ensures (length_stands _ _ _ _)
 
 pub put-labels-spec : {M : Type 1} → statement M
 put-labels-spec =

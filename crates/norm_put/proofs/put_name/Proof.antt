@@ -1,7 +1,7 @@
 -- `norm_put::put_name` meets its contract: the five fields are laid one after the other.
 -- Assumes nothing.
 use borrow.Author.Rules.{rules}
-use Rattle.norm_put.proofs.Laid.{name-laid}
+use Rattle.norm_put.proofs.Laid.{name_laid}
 use Rattle.norm_put.proofs.put_name.Statement.{statement}
 use Rattle.norm_put.proofs.put_name.Tie as tie
 
@@ -66,7 +66,7 @@ returns c =
       kind.write-u16.ensures,
       kind.before.low16.ensures,
     )
-    (name-laid _ _ _ _ _ _)
+    (name_laid _ _ _ _ _ _)
 
 pub put-name-spec : {M : Type 1} → statement M
 put-name-spec =

@@ -9,15 +9,15 @@ use lib.Seq.{length-take-le}
 use Rattle.num_whole.specs.Lists.{rest}
 use Rattle.num_whole.proofs.Walks.{rest_end, rest_more}
 use Rattle.byte_words.specs.Words.{lay}
-use Rattle.byte_words.proofs.Words.{length-lay}
+use Rattle.byte_words.proofs.Words.{length_lay}
 use Rattle.byte_section.specs.Section.{encoded}
 use Rattle.byte_section.proofs.Laid.{laid_none, laid_one}
 use lib.IntN.{pos}
 use mir.Syntax.{w64}
 use mir.ValLaws.{to_z-of_z}
-use Rattle.norm_kinds.specs.Kinds.{sumBytes}
-use Rattle.norm_kinds.proofs.Records.{length-sum}
-use Rattle.norm_put.proofs.Laid.{section-laid}
+use Rattle.norm_kinds.specs.Kinds.{sum_bytes}
+use Rattle.norm_kinds.proofs.Records.{length_sum}
+use Rattle.norm_put.proofs.Laid.{section_laid}
 use Rattle.norm_put.proofs.put_sums.Statement.{statement}
 use Rattle.norm_put.proofs.put_sums.Tie as tie
 
@@ -26,7 +26,7 @@ invariant-loop sums n out₀ start at₀ i₀ out at i =
     (i ≤ n)
     × (at ≡ start + 4 + 8 * i)
     × (length out ≡ length out₀)
-    × (lay out₀ (start + 4) (encoded sumBytes (rest sums n 0)) ≡ lay out at (encoded sumBytes (rest sums n i)))
+    × (lay out₀ (start + 4) (encoded sum_bytes (rest sums n 0)) ≡ lay out at (encoded sum_bytes (rest sums n i)))
 
 abbrev decreases-loop : tie.decreases-loop
 decreases-loop sums n out₀ start at₀ i₀ out at i = n - i
@@ -66,14 +66,14 @@ loop-less : tie.Need-loop-smaller invariant-loop decreases-loop
 loop-less c = search rules
 
 loop-again : tie.Need-loop-preserved invariant-loop decreases-loop
-unfolding sumBytes
+unfolding sum_bytes
 loop-again c =
     let l = c.before.before.before.before.before.before.loop in
     let e = rw (to_z-of_z w64 (get_or (start-of-turn c.before.before.before.before.before.before).args.sums.now l.i (pos 0)) (search rules)) at c.before.before.write-i64.ensures in (
       omega arith,
       omega arith,
-      rw e (length-lay _ _ _ ∙ l.invariant.2),
-      rw e (l.invariant.3 ∙ laid_one sumBytes _ length-sum _ _ (rest_more _ _ _ (pos 0) (omega arith) (omega arith))),
+      rw e (length_lay _ _ _ ∙ l.invariant.2),
+      rw e (l.invariant.3 ∙ laid_one sum_bytes _ length_sum _ _ (rest_more _ _ _ (pos 0) (omega arith) (omega arith))),
     )
 
 same_length : tie.Need-same-length invariant-loop decreases-loop
@@ -83,8 +83,8 @@ returns : tie.Need-returns invariant-loop decreases-loop
 unfolding rest
 returns c =
     let start = (start-of-turn c.before).args in
-    sym (c.before.loop.invariant.3 ∙ laid_none sumBytes _ length-sum _ _ (rest_end start.sums.now start.n c.before.loop.i (omega arith)))
-    ∙ section-laid sumBytes _ _ _ _ _ c.before.before.before.before.write-u32.ensures (length-take-le _ _ (omega arith))
+    sym (c.before.loop.invariant.3 ∙ laid_none sum_bytes _ length_sum _ _ (rest_end start.sums.now start.n c.before.loop.i (omega arith)))
+    ∙ section_laid sum_bytes _ _ _ _ _ c.before.before.before.before.write-u32.ensures (length-take-le _ _ (omega arith))
 
 pub put-sums-spec : {M : Type 1} → statement M
 put-sums-spec =

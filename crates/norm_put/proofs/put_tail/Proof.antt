@@ -2,7 +2,7 @@
 -- Assumes nothing.
 use borrow.Author.Rules.{rules}
 use lib.Seq.{length-take-le}
-use Rattle.norm_put.proofs.Laid.{tail-laid}
+use Rattle.norm_put.proofs.Laid.{tail_laid}
 use Rattle.norm_put.proofs.put_tail.Statement.{statement}
 use Rattle.norm_put.proofs.put_tail.Tie as tie
 
@@ -48,7 +48,7 @@ returns c =
     let sums = matrix.before.before in
     let start = sums.before.before in
     rw (totals.put-totals.ensures, rights.put-sums2.ensures, matrix.put-sums.ensures, sums.triangle.ensures.0)
-    (tail-laid _ _ _ _ _ (length-take-le _ _ start.requires.0.1) (length-take-le _ _ start.requires.0.2) _ _)
+    (tail_laid _ _ _ _ _ (length-take-le _ _ start.requires.0.1) (length-take-le _ _ start.requires.0.2) _ _)
 
 pub put-tail-spec : {M : Type 1} → statement M
 put-tail-spec =

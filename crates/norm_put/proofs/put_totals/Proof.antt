@@ -3,7 +3,7 @@
 use borrow.Author.Rules.{rules}
 use mathlib.Core.Path.{◌∙◌}
 use native.Mathlib.Omega.{arith}
-use Rattle.byte_words.proofs.Words.{lay-append, length-bytesOf}
+use Rattle.byte_words.proofs.Words.{lay_append, length_bytes_of}
 use Rattle.norm_put.proofs.put_totals.Statement.{statement}
 use Rattle.norm_put.proofs.put_totals.Tie as tie
 
@@ -32,7 +32,7 @@ same_length c = search rules
 returns : tie.Need-returns
 returns c =
     rw (c.before.before.write-u642.ensures, c.before.before.before.before.before.before.write-u64.ensures, (count-of-accepted c.before.before.before.before.before.before).write-u32.ensures)
-    (lay-append _ _ _ _ _ (simp length-bytesOf (omega arith)) ∙ lay-append _ _ _ _ _ (simp length-bytesOf))
+    (lay_append _ _ _ _ _ (simp length_bytes_of (omega arith)) ∙ lay_append _ _ _ _ _ (simp length_bytes_of))
 
 pub put-totals-spec : {M : Type 1} → statement M
 put-totals-spec =

@@ -1,7 +1,7 @@
 -- `norm_room::heads_roomy` meets its contract.
 -- Assumes nothing.
-use Rattle.num_whole.proofs.Cases.{by-upTo}
-use Rattle.norm_room.specs.Room.{headsRoomy}
+use Rattle.num_whole.proofs.Cases.{by_up_to}
+use Rattle.norm_room.specs.Room.{heads_roomy}
 use borrow.Author.Rules.{rules}
 use Rattle.norm_room.proofs.heads_roomy.Statement.{statement}
 use Rattle.norm_room.proofs.heads_roomy.Tie as tie
@@ -16,8 +16,8 @@ add-result-2 : tie.Need-overflow-add-result-2
 add-result-2 c = search rules
 
 returns : tie.Need-returns
-unfolding headsRoomy
-returns c = by-upTo _ _
+unfolding heads_roomy
+returns c = by_up_to _ _
 
 pub heads-roomy-spec : {M : Type 1} → statement M
 heads-roomy-spec = tie.close (tie.spec mul-result add-result add-result-2 returns)

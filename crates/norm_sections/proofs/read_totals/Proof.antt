@@ -2,11 +2,11 @@
 -- Assumes nothing.
 use native.Mathlib.Omega.{arith}
 use mathlib.Core.Path.{refl, sym, ap, ◌∙◌}
-use Rattle.num_whole.proofs.Cases.{yes, no, is-less, not-less}
+use Rattle.num_whole.proofs.Cases.{yes, no, is_less, not_less}
 use Rattle.byte_section.specs.Section.{closed}
-use Rattle.byte_section.proofs.Walk.{then-good, then-bad}
-use Rattle.norm_sections.specs.Sums.{totalsPart, toldPlace}
-use Rattle.norm_sections.proofs.Plain.{plain-read}
+use Rattle.byte_section.proofs.Walk.{then_good, then_bad}
+use Rattle.norm_sections.specs.Sums.{totals_part, told_place}
+use Rattle.norm_sections.proofs.Plain.{plain_read}
 use borrow.Author.Rules.{rules}
 use Rattle.norm_sections.proofs.read_totals.Statement.{statement}
 use Rattle.norm_sections.proofs.read_totals.Tie as tie
@@ -18,22 +18,22 @@ enum-known-end : tie.Need-enum-known-end
 enum-known-end c = search rules
 
 add-t14 : tie.Need-overflow-add-t14
-add-t14 c = let end = plain-read _ _ _ _ _ (sym c.before.before.before.before.read_plain.ensures ∙ ap toldPlace c.before.before.end.given.1) in omega (arith, end.0, end.1)
+add-t14 c = let end = plain_read _ _ _ _ _ (sym c.before.before.before.before.read_plain.ensures ∙ ap told_place c.before.before.end.given.1) in omega (arith, end.0, end.1)
 
 enum-known-r : tie.Need-enum-known-r
 enum-known-r c = search rules
 
 returns : tie.Need-returns
-unfolding totalsPart closed
-returns c = yes _ _ _ (is-less _ _ (omega arith)) refl ∙ sym (then-good _ _ (sym c.before.before.before.before.read_plain.ensures ∙ ap toldPlace c.before.before.end.given.1))
+unfolding totals_part closed
+returns c = yes _ _ _ (is_less _ _ (omega arith)) refl ∙ sym (then_good _ _ (sym c.before.before.before.before.read_plain.ensures ∙ ap told_place c.before.before.end.given.1))
 
 returns-2 : tie.Need-returns-2
-unfolding totalsPart closed
-returns-2 c = no _ _ _ (not-less _ _ (omega arith)) refl ∙ sym (then-good _ _ (sym c.before.before.before.before.read_plain.ensures ∙ ap toldPlace c.before.before.end.given.1))
+unfolding totals_part closed
+returns-2 c = no _ _ _ (not_less _ _ (omega arith)) refl ∙ sym (then_good _ _ (sym c.before.before.before.before.read_plain.ensures ∙ ap told_place c.before.before.end.given.1))
 
 returns-3 : tie.Need-returns-3
-unfolding totalsPart
-returns-3 c = sym (then-bad _ _ (sym c.before.before.before.read_plain.ensures ∙ ap toldPlace c.before.r.given.1))
+unfolding totals_part
+returns-3 c = sym (then_bad _ _ (sym c.before.before.before.read_plain.ensures ∙ ap told_place c.before.r.given.1))
 
 pub read-totals-spec : {M : Type 1} → statement M
 read-totals-spec =

@@ -8,7 +8,7 @@ use lib.IntN.{pos}
 use lib.ListN.{length, length-set}
 use lib.Seq.{sets}
 use Rattle.norm_labels.specs.Table.{rows_of}
-use Rattle.norm_spread.proofs.Rows.{rows_start, rows_end, rows-turn}
+use Rattle.norm_spread.proofs.Rows.{rows_start, rows_end, rows_turn}
 use Rattle.norm_spread.proofs.clear.Statement.{statement}
 use Rattle.norm_spread.proofs.clear.Tie as tie
 
@@ -39,7 +39,7 @@ loop-less c = search rules
 loop-again : tie.Need-loop-preserved invariant-loop decreases-loop
 loop-again c =
     let l = c.before.loop in
-    (omega arith, length-set l.out _ _ ∙ l.invariant.1, l.invariant.2 ∙ rows-turn (λ i. pos 0) l.out _ l.i _ (omega arith))
+    (omega arith, length-set l.out _ _ ∙ l.invariant.1, l.invariant.2 ∙ rows_turn (λ i. pos 0) l.out _ l.i _ (omega arith))
 
 same_length : tie.Need-same-length invariant-loop decreases-loop
 same_length c = search rules

@@ -9,15 +9,15 @@ use lib.Seq.{sets}
 use mir.Syntax.{w64}
 use mir.ValLaws.{to_z-of_z}
 use Rattle.norm_labels.specs.Table.{rows_of}
-use Rattle.norm_spread.specs.Spread.{storedBefore, spreadRowAt}
-use Rattle.norm_spread.proofs.Rows.{rows_start, rows_end, rows-turn, before-start, row_is, one_more}
+use Rattle.norm_spread.specs.Spread.{stored_before, spread_row_at}
+use Rattle.norm_spread.proofs.Rows.{rows_start, rows_end, rows_turn, before_start, row_is, one_more}
 use Rattle.norm_spread.proofs.spread_row.Statement.{statement}
 use Rattle.norm_spread.proofs.spread_row.Tie as tie
 
 abbrev invariant-loop : tie.invariant-loop
 invariant-loop s labels n start out₀ k at₀ label₀ i₀ out at label i =
-    (i ≤ n) × (at ≡ start + 8 * storedBefore s labels i) × (storedBefore s labels i ≤ i) × (label ≡ labels + 24 * i) × (length out ≡ length out₀)
-    × (sets out₀ k (rows_of (spreadRowAt s labels start) 0 n) ≡ sets out (k + i) (rows_of (spreadRowAt s labels start) i (n - i)))
+    (i ≤ n) × (at ≡ start + 8 * stored_before s labels i) × (stored_before s labels i ≤ i) × (label ≡ labels + 24 * i) × (length out ≡ length out₀)
+    × (sets out₀ k (rows_of (spread_row_at s labels start) 0 n) ≡ sets out (k + i) (rows_of (spread_row_at s labels start) i (n - i)))
 
 abbrev decreases-loop : tie.decreases-loop
 decreases-loop s labels n start out₀ k at₀ label₀ i₀ out at label i = n - i
@@ -25,7 +25,7 @@ decreases-loop s labels n start out₀ k at₀ label₀ i₀ out at label i = n 
 loop-holds : tie.Need-loop-init invariant-loop decreases-loop
 loop-holds c =
     let a = c.before.args in
-    let z = before-start a.s.now a.labels 0 in
+    let z = before_start a.s.now a.labels 0 in
     (omega arith, omega (arith, z), omega (arith, z), omega arith, refl, rows_start _ _ _ _)
 
 add-read-u32 : tie.Need-overflow-add-read-u32 invariant-loop decreases-loop
@@ -78,8 +78,8 @@ loop-again c =
       omega (arith, l.invariant.2, more, c.counted.ensures.1),
       omega (arith, l.invariant.3),
       length-set l.out _ _ ∙ l.invariant.4,
-      l.invariant.5 ∙ rows-turn (spreadRowAt a.s.now a.labels a.start) l.out a.n l.i a.k (omega arith)
-          ∙ ap (λ v. sets (set l.out (a.k + l.i) v) (a.k + (l.i + 1)) (rows_of (spreadRowAt a.s.now a.labels a.start) (l.i + 1) (a.n - (l.i + 1)))) (sym x),
+      l.invariant.5 ∙ rows_turn (spread_row_at a.s.now a.labels a.start) l.out a.n l.i a.k (omega arith)
+          ∙ ap (λ v. sets (set l.out (a.k + l.i) v) (a.k + (l.i + 1)) (rows_of (spread_row_at a.s.now a.labels a.start) (l.i + 1) (a.n - (l.i + 1)))) (sym x),
     )
 
 same_length : tie.Need-same-length invariant-loop decreases-loop

@@ -2,9 +2,9 @@
 -- Assumes nothing.
 use mathlib.Core.Path.{sym, ap, ◌∙◌}
 use Rattle.refusal.specs.First.{answered}
-use Rattle.refusal.proofs.Firsts.{number-given}
-use Rattle.refusal.specs.Told.{toldVerdict}
-use Rattle.norm_state.proofs.Numbers.{held-judged, held-state}
+use Rattle.refusal.proofs.Firsts.{number_given}
+use Rattle.refusal.specs.Told.{told_verdict}
+use Rattle.norm_state.proofs.Numbers.{held_judged, held_state}
 use borrow.Author.Rules.{rules}
 use Rattle.norm_state.proofs.judge_held.Statement.{statement}
 use Rattle.norm_state.proofs.judge_held.Tie as tie
@@ -22,12 +22,12 @@ judge-state-requires : tie.Need-judge-state-requires
 judge-state-requires c κs = search rules
 
 returns : tie.Need-returns
-returns c = held-judged _ _ c.before.refusal.given.0.0 (sym c.before.before.before.judge.ensures ∙ ap toldVerdict c.before.refusal.given.1)
+returns c = held_judged _ _ c.before.refusal.given.0.0 (sym c.before.before.before.judge.ensures ∙ ap told_verdict c.before.refusal.given.1)
 
 returns-2 : tie.Need-returns-2
 returns-2 c =
     c.judge-state.ensures
-    ∙ ap (λ k. answered k tt) (held-state _ _ (number-given _ tt (sym c.before.before.before.judge.ensures ∙ ap toldVerdict c.before.enum_told.given.1)))
+    ∙ ap (λ k. answered k tt) (held_state _ _ (number_given _ tt (sym c.before.before.before.judge.ensures ∙ ap told_verdict c.before.enum_told.given.1)))
 
 pub judge-held-spec : {M : Type 1} → statement M
 judge-held-spec =

@@ -4,7 +4,7 @@ use borrow.Author.Rules.{rules}
 use native.Mathlib.Omega.{arith}
 use lib.ListN.{length-map}
 use Rattle.take_state.specs.State.{state_of}
-use Rattle.norm_state.proofs.Laid.{arc-laid, state-laid}
+use Rattle.norm_state.proofs.Laid.{arc_laid, state_laid}
 use Rattle.norm_state.proofs.put_file.Statement.{statement}
 use Rattle.norm_state.proofs.put_file.Tie as tie
 
@@ -49,9 +49,9 @@ returns c =
       arc.write-u322.ensures,
       count.write-u32.ensures,
       accepted.accepted.ensures.0,
-      arc-laid a.out.now a.h.settings.arc,
+      arc_laid a.out.now a.h.settings.arc,
     )
-    (state-laid a.h (state_of a.matrix.now a.rights.now a.t) (omega (arith, start.requires.0.0)) a.out.now)
+    (state_laid a.h (state_of a.matrix.now a.rights.now a.t) (omega (arith, start.requires.0.0)) a.out.now)
 
 pub put-file-spec : {M : Type 1} → statement M
 put-file-spec =

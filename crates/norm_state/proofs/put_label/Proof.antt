@@ -3,7 +3,7 @@
 use borrow.Author.Rules.{rules}
 use mir.Syntax.{w64}
 use mir.ValLaws.{to_z-of_z}
-use Rattle.norm_state.proofs.Laid.{label-laid}
+use Rattle.norm_state.proofs.Laid.{label_laid}
 use Rattle.norm_state.proofs.put_label.Statement.{statement}
 use Rattle.norm_state.proofs.put_label.Tie as tie
 
@@ -46,7 +46,7 @@ returns c =
     let name = c.before.before.before.before.before.before.before in let arc = arc-of-name name in let start = start-of-arc arc in
     let l = start.args.l in
     let back = to_z-of_z w64 l.estimate (record { sfits = c.before.before.before.struct_told.given.1.1.1.0.1 }) in
-    rw (c.before.before.write-i64.ensures, name.put-name.ensures, arc.arc-for.ensures, back) (label-laid _ _ _ l)
+    rw (c.before.before.write-i64.ensures, name.put-name.ensures, arc.arc-for.ensures, back) (label_laid _ _ _ l)
 
 pub put-label-spec : {M : Type 1} → statement M
 put-label-spec =

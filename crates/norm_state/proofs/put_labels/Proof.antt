@@ -9,16 +9,16 @@ use lib.ListN.{length, length-map}
 use Rattle.num_whole.specs.Lists.{rest}
 use Rattle.num_whole.proofs.Walks.{rest_end, rest_more}
 use Rattle.byte_words.specs.Words.{lay}
-use Rattle.byte_words.proofs.Words.{length-lay}
+use Rattle.byte_words.proofs.Words.{length_lay}
 use Rattle.byte_section.specs.Section.{encoded}
 use Rattle.byte_section.proofs.Laid.{laid_none, laid_one}
 use Rattle.arc_limits.specs.Limits.{no_label}
-use Rattle.arc_heading.specs.Judge.{labelsOf}
-use Rattle.norm_kinds.specs.Kinds.{normalLabelBytes}
+use Rattle.arc_heading.specs.Judge.{labels_of}
+use Rattle.norm_kinds.specs.Kinds.{normal_label_bytes}
 use Rattle.norm_kinds.proofs.Records.{length_label}
-use Rattle.norm_put.proofs.Laid.{section-laid}
-use Rattle.norm_state.proofs.Laid.{labels-long}
-use Rattle.norm_state.specs.OfState.{labelOfArc}
+use Rattle.norm_put.proofs.Laid.{section_laid}
+use Rattle.norm_state.proofs.Laid.{labels_long}
+use Rattle.norm_state.specs.OfState.{label_of_arc}
 use Rattle.norm_state.proofs.put_labels.Statement.{statement}
 use Rattle.norm_state.proofs.put_labels.Tie as tie
 
@@ -28,7 +28,7 @@ invariant-loop out₀ start h n s at₀ i₀ out at i =
     × (length h.labels ≡ 50)
     × (length out ≡ length out₀)
     × (at ≡ start + 4 + 24 * i)
-    × (lay out₀ (start + 4) (encoded normalLabelBytes (map (labelOfArc h.settings.arc) (labelsOf h))) ≡ lay out at (encoded normalLabelBytes (map (labelOfArc h.settings.arc) (rest h.labels n i))))
+    × (lay out₀ (start + 4) (encoded normal_label_bytes (map (label_of_arc h.settings.arc) (labels_of h))) ≡ lay out at (encoded normal_label_bytes (map (label_of_arc h.settings.arc) (rest h.labels n i))))
 
 abbrev decreases-loop : tie.decreases-loop
 decreases-loop out₀ start h n s at₀ i₀ out at i = n - i
@@ -47,7 +47,7 @@ add_at : tie.Need-overflow-add-at invariant-loop decreases-loop
 add_at c = search rules
 
 loop-holds : tie.Need-loop-init invariant-loop decreases-loop
-unfolding labelsOf rest
+unfolding labels_of rest
 loop-holds c = (omega arith, simp length-map at c.before.before.before.before.before.before.well-formed.0.1.1.1.1.1.0.1.0.1, refl, omega arith, refl)
 
 mul-l : tie.Need-overflow-mul-l invariant-loop decreases-loop
@@ -74,9 +74,9 @@ loop-again c =
     let e = c.before.before.put-label.ensures in (
       omega arith,
       l.invariant.1,
-      rw e (length-lay _ _ _ ∙ l.invariant.2),
+      rw e (length_lay _ _ _ ∙ l.invariant.2),
       omega arith,
-      rw e (l.invariant.4 ∙ laid_one normalLabelBytes _ length_label _ _ (ap (map _) (rest_more _ _ _ no_label (omega arith) (omega arith)))),
+      rw e (l.invariant.4 ∙ laid_one normal_label_bytes _ length_label _ _ (ap (map _) (rest_more _ _ _ no_label (omega arith) (omega arith)))),
     )
 
 same_length : tie.Need-same-length invariant-loop decreases-loop
@@ -86,9 +86,9 @@ returns : tie.Need-returns invariant-loop decreases-loop
 returns c =
     let l = c.before.loop in
     let h = (start-of-turn c.before).args.t1 in
-    let none = ap (map (labelOfArc h.settings.arc)) (rest_end h.labels h.parameters l.i (omega arith)) in
-    sym (l.invariant.4 ∙ laid_none normalLabelBytes _ length_label _ _ none)
-    ∙ section-laid normalLabelBytes _ _ _ _ _ c.before.before.before.before.write-u32.ensures (labels-long h (omega (arith, l.invariant.1)))
+    let none = ap (map (label_of_arc h.settings.arc)) (rest_end h.labels h.parameters l.i (omega arith)) in
+    sym (l.invariant.4 ∙ laid_none normal_label_bytes _ length_label _ _ none)
+    ∙ section_laid normal_label_bytes _ _ _ _ _ c.before.before.before.before.write-u32.ensures (labels_long h (omega (arith, l.invariant.1)))
 
 pub put-labels-spec : {M : Type 1} → statement M
 put-labels-spec =

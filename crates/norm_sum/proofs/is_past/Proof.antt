@@ -10,7 +10,7 @@ use native.Mathlib.Omega.{arith}
 use mir.Syntax.{w64}
 use mir.Val.{SFits, to_z, of_z}
 use mir.ValLaws.{to_z-of_z}
-use Rattle.num_packed.proofs.Tests.{neg-fits, lower, lower-back, test_of, chosen, other}
+use Rattle.num_packed.proofs.Tests.{neg_fits, lower, lower_back, test_of, chosen, other}
 use Rattle.norm_sum.specs.Sums.{past}
 use borrow.Author.Rules.{rules}
 use Rattle.norm_sum.proofs.is_past.Statement.{statement}
@@ -30,11 +30,11 @@ unfolding past
 returns c = sym (chosen _ _ _ (above c.before true c.if1.true))
 
 sub-result : tie.Need-overflow-sub-result
-sub-result c = rw (lower _ (bits c.before)) (neg-fits _ (le_z_yes (le→leb 0 c.before.args.bound zero-le)) (bits c.before))
+sub-result c = rw (lower _ (bits c.before)) (neg_fits _ (le_z_yes (le→leb 0 c.before.args.bound zero-le)) (bits c.before))
 
 returns-2 : tie.Need-returns-2
 unfolding past
-returns-2 c = ap₂ lt_z (to_z-of_z w64 _ c.before.ranges.x) (lower-back _ (le_z_yes (le→leb 0 c.before.args.bound zero-le)) (bits c.before)) ∙ sym (other _ _ _ (above c.before false c.if1.false))
+returns-2 c = ap₂ lt_z (to_z-of_z w64 _ c.before.ranges.x) (lower_back _ (le_z_yes (le→leb 0 c.before.args.bound zero-le)) (bits c.before)) ∙ sym (other _ _ _ (above c.before false c.if1.false))
 
 pub is-past-spec : {M : Type 1} → statement M
 is-past-spec = tie.close (tie.spec cast-b returns sub-result returns-2)

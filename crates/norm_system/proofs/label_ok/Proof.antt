@@ -2,15 +2,15 @@
 -- Assumes nothing.
 use mathlib.Core.Path.{sym, ◌∙◌}
 use native.Mathlib.Omega.{arith}
-use Rattle.num_whole.proofs.Cases.{holds, fails, is-upTo, not-upTo}
-use Rattle.norm_system.specs.System.{normalLabelOk}
+use Rattle.num_whole.proofs.Cases.{holds, fails, is_up_to, not_up_to}
+use Rattle.norm_system.specs.System.{normal_label_ok}
 use borrow.Author.Rules.{rules}
 use Rattle.norm_system.proofs.label_ok.Statement.{statement}
 use Rattle.norm_system.proofs.label_ok.Tie as tie
 
 returns : tie.Need-returns
-unfolding normalLabelOk
-returns c = fails _ _ (not-upTo _ _ (omega arith))
+unfolding normal_label_ok
+returns c = fails _ _ (not_up_to _ _ (omega arith))
 
 index-ok-requires : tie.Need-index-ok-requires
 index-ok-requires c κs = search rules
@@ -19,12 +19,12 @@ arc-fits-requires : tie.Need-arc-fits-requires
 arc-fits-requires c κs = search rules
 
 returns-2 : tie.Need-returns-2
-unfolding normalLabelOk
-returns-2 c = holds _ _ (is-upTo _ _ (omega arith)) (holds _ _ (sym c.before.before.index_ok.ensures ∙ c.before.if2.true) c.arc-fits.ensures)
+unfolding normal_label_ok
+returns-2 c = holds _ _ (is_up_to _ _ (omega arith)) (holds _ _ (sym c.before.before.index_ok.ensures ∙ c.before.if2.true) c.arc_fits.ensures)
 
 returns-3 : tie.Need-returns-3
-unfolding normalLabelOk
-returns-3 c = holds _ _ (is-upTo _ _ (omega arith)) (fails _ _ (sym c.before.index_ok.ensures ∙ c.if2.false))
+unfolding normal_label_ok
+returns-3 c = holds _ _ (is_up_to _ _ (omega arith)) (fails _ _ (sym c.before.index_ok.ensures ∙ c.if2.false))
 
 pub label-ok-spec : {M : Type 1} → statement M
 label-ok-spec =

@@ -2,7 +2,7 @@
 -- Assumes nothing.
 use native.Mathlib.Omega.{arith}
 use lib.ListN.{length-set}
-use Rattle.norm_unpack.proofs.Laid.{heads-laid}
+use Rattle.norm_unpack.proofs.Laid.{heads_laid}
 use borrow.Author.Rules.{rules}
 use Rattle.norm_unpack.proofs.fill_heads.Statement.{statement}
 use Rattle.norm_unpack.proofs.fill_heads.Tie as tie
@@ -57,7 +57,7 @@ same_length : tie.Need-same-length
 same_length c = simp length-set (search rules)
 
 returns : tie.Need-returns
-returns c = rw (c.before.before.before.before.fill-labels.ensures, (arcs-of-labels c.before.before.before.before).load-arcs.ensures) (heads-laid _ _ _ _ _ _ _ c.before.read_u64.ensures c.read-u642.ensures)
+returns c = rw (c.before.before.before.before.fill-labels.ensures, (arcs-of-labels c.before.before.before.before).load-arcs.ensures) (heads_laid _ _ _ _ _ _ _ c.before.read_u64.ensures c.read-u642.ensures)
 
 pub fill-heads-spec : {M : Type 1} → statement M
 fill-heads-spec =

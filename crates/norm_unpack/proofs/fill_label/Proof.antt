@@ -2,7 +2,7 @@
 -- Assumes nothing.
 use native.Mathlib.Omega.{arith}
 use lib.ListN.{length-set}
-use Rattle.norm_unpack.proofs.Laid.{label-laid}
+use Rattle.norm_unpack.proofs.Laid.{label_laid}
 use borrow.Author.Rules.{rules}
 use Rattle.norm_unpack.proofs.fill_label.Statement.{statement}
 use Rattle.norm_unpack.proofs.fill_label.Tie as tie
@@ -93,7 +93,7 @@ same_length c = search rules
 
 returns : tie.Need-returns
 returns c =
-    label-laid _ _ _ _ _ _ _ _ _ c.before.before.before.before.read-u16.ensures c.before.before.before.read-u162.ensures c.before.before.read_u32.ensures c.before.read-u322.ensures c.read_u64.ensures (record { fits = search rules })
+    label_laid _ _ _ _ _ _ _ _ _ c.before.before.before.before.read-u16.ensures c.before.before.before.read-u162.ensures c.before.before.read_u32.ensures c.before.read-u322.ensures c.read_u64.ensures (record { fits = search rules })
 
 pub fill-label-spec : {M : Type 1} → statement M
 fill-label-spec =

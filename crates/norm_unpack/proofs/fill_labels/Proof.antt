@@ -7,9 +7,9 @@ use native.Mathlib.Omega.{arith}
 use borrow.Author.Rules.{rules}
 use lib.ListN.{length}
 use Rattle.byte_words.specs.Words.{lay}
-use Rattle.byte_words.proofs.Words.{length-lay}
-use Rattle.norm_unpack.specs.Parts.{labelNumbersFrom}
-use Rattle.norm_unpack.proofs.Laid.{labels-end, labels-turn}
+use Rattle.byte_words.proofs.Words.{length_lay}
+use Rattle.norm_unpack.specs.Parts.{label_numbers_from}
+use Rattle.norm_unpack.proofs.Laid.{labels_end, labels_turn}
 use Rattle.norm_unpack.proofs.fill_labels.Statement.{statement}
 use Rattle.norm_unpack.proofs.fill_labels.Tie as tie
 
@@ -19,7 +19,7 @@ invariant-loop s start n heads₀ first at₀ k₀ i₀ heads at k i =
     × (at ≡ start + 24 * i)
     × (k ≡ first + 5 * i)
     × (length heads ≡ length heads₀)
-    × (lay heads₀ first (labelNumbersFrom s n start) ≡ lay heads k (labelNumbersFrom s (n - i) at))
+    × (lay heads₀ first (label_numbers_from s n start) ≡ lay heads k (label_numbers_from s (n - i) at))
 
 abbrev decreases-loop : tie.decreases-loop
 decreases-loop s start n heads₀ first at₀ k₀ i₀ heads at k i = n - i
@@ -49,15 +49,15 @@ loop-again c =
       omega arith,
       omega arith,
       omega arith,
-      rw e (length-lay _ _ _ ∙ l.invariant.3),
-      rw e (l.invariant.4 ∙ labels-turn _ l.heads _ l.i l.at l.k (omega arith)),
+      rw e (length_lay _ _ _ ∙ l.invariant.3),
+      rw e (l.invariant.4 ∙ labels_turn _ l.heads _ l.i l.at l.k (omega arith)),
     )
 
 same_length : tie.Need-same-length invariant-loop decreases-loop
 same_length c = search rules
 
 returns : tie.Need-returns invariant-loop decreases-loop
-returns c = sym (c.before.loop.invariant.4 ∙ labels-end _ _ _ _ _ _ (omega arith))
+returns c = sym (c.before.loop.invariant.4 ∙ labels_end _ _ _ _ _ _ (omega arith))
 
 pub fill-labels-spec : {M : Type 1} → statement M
 fill-labels-spec =

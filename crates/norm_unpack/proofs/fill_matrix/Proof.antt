@@ -5,7 +5,7 @@ use native.Mathlib.Omega.{arith}
 use borrow.Author.Rules.{rules}
 use lib.Seq.{sets}
 use Rattle.num_whole.proofs.Cases.{yes, no}
-use Rattle.norm_sum.specs.Sums.{sumsAt}
+use Rattle.norm_sum.specs.Sums.{sums_at}
 use Rattle.norm_unpack.proofs.fill_matrix.Statement.{statement}
 use Rattle.norm_unpack.proofs.fill_matrix.Tie as tie
 
@@ -35,7 +35,7 @@ returns-2 : tie.Need-returns-2
 returns-2 c =
     let a = c.before.before.before.before.before.before.args in
     c.before.fill-sums.ensures
-    ∙ ap (λ n. sets a.out.now 0 (sumsAt a.s.now a.start n)) c.before.before.before.triangle.ensures.0
+    ∙ ap (λ n. sets a.out.now 0 (sums_at a.s.now a.start n)) c.before.before.before.triangle.ensures.0
     ∙ ap (sets a.out.now 0) (no _ _ _ c.before.before.before.before.if1.false refl)
 
 pub fill-matrix-spec : {M : Type 1} → statement M

@@ -5,7 +5,7 @@ use native.Mathlib.Omega.{arith}
 use borrow.Author.Rules.{rules}
 use lib.Seq.{sets}
 use Rattle.num_whole.proofs.Cases.{yes, no}
-use Rattle.norm_sum.specs.Sums.{sumsAt}
+use Rattle.norm_sum.specs.Sums.{sums_at}
 use Rattle.norm_unpack.proofs.fill_rights.Statement.{statement}
 use Rattle.norm_unpack.proofs.fill_rights.Tie as tie
 

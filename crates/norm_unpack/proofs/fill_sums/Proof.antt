@@ -9,15 +9,15 @@ use lib.ListN.{length, set, length-set}
 use lib.Seq.{sets}
 use mir.Syntax.{w64}
 use mir.ValLaws.{to_z-of_z}
-use Rattle.byte_words.specs.Words.{signedWord}
-use Rattle.norm_sum.specs.Sums.{sumsAt}
-use Rattle.byte_words.proofs.Stands.{put-end, put-turn}
+use Rattle.byte_words.specs.Words.{signed_word}
+use Rattle.norm_sum.specs.Sums.{sums_at}
+use Rattle.byte_words.proofs.Stands.{put_end, put_turn}
 use Rattle.norm_unpack.proofs.fill_sums.Statement.{statement}
 use Rattle.norm_unpack.proofs.fill_sums.Tie as tie
 
 abbrev invariant-loop : tie.invariant-loop
 invariant-loop s start n out₀ at₀ i₀ out at i =
-    (i ≤ n) × (at ≡ start + 8 * i) × (length out ≡ length out₀) × (sets out₀ 0 (sumsAt s start n) ≡ sets out i (sumsAt s at (n - i)))
+    (i ≤ n) × (at ≡ start + 8 * i) × (length out ≡ length out₀) × (sets out₀ 0 (sums_at s start n) ≡ sets out i (sums_at s at (n - i)))
 
 abbrev decreases-loop : tie.decreases-loop
 decreases-loop s start n out₀ at₀ i₀ out at i = n - i
@@ -51,15 +51,15 @@ loop-again c =
       omega arith,
       omega arith,
       length-set l.out l.i _ ∙ l.invariant.2,
-      l.invariant.3 ∙ put-turn (signedWord w64 s.s.now) 8 l.out s.n l.i l.at (omega arith)
-          ∙ ap (λ v. sets (set l.out l.i v) (l.i + 1) (sumsAt s.s.now (l.at + 8) (s.n - (l.i + 1)))) (sym x),
+      l.invariant.3 ∙ put_turn (signed_word w64 s.s.now) 8 l.out s.n l.i l.at (omega arith)
+          ∙ ap (λ v. sets (set l.out l.i v) (l.i + 1) (sums_at s.s.now (l.at + 8) (s.n - (l.i + 1)))) (sym x),
     )
 
 same_length : tie.Need-same-length invariant-loop decreases-loop
 same_length c = search rules
 
 returns : tie.Need-returns invariant-loop decreases-loop
-returns c = sym (c.before.loop.invariant.3 ∙ put-end _ _ _ _ _ _ (omega arith))
+returns c = sym (c.before.loop.invariant.3 ∙ put_end _ _ _ _ _ _ (omega arith))
 
 pub fill-sums-spec : {M : Type 1} → statement M
 fill-sums-spec =

@@ -1,10 +1,10 @@
 -- `norm_unpack::unpack` meets its contract: what was read is unpacked, and a refusal stands.
 -- Assumes nothing.
 use mathlib.Core.Path.{sym, ap, ◌∙◌}
-use Rattle.norm_read.specs.Normal.{shownNormal}
-use Rattle.norm_room.specs.Room.{headsOf}
-use Rattle.norm_unpack.specs.Unpack.{matrixOf, rightsOf}
-use Rattle.norm_unpack.proofs.Taken.{taken, refused, unpack-refused, left-refused}
+use Rattle.norm_read.specs.Normal.{shown_normal}
+use Rattle.norm_room.specs.Room.{heads_of}
+use Rattle.norm_unpack.specs.Unpack.{matrix_of, rights_of}
+use Rattle.norm_unpack.proofs.Taken.{taken, refused, unpack_refused, left_refused}
 use borrow.Author.Rules.{rules}
 use Rattle.norm_unpack.proofs.unpack.Statement.{statement}
 use Rattle.norm_unpack.proofs.unpack.Tie as tie
@@ -37,8 +37,8 @@ returns-2 : tie.Need-returns-2
 returns-2 c =
     let read = c.before.before.read in
     let f = refused _ read.result read.ensures _ _ c.enum-told2.given.1 in
-    let e = unpack-refused _ _ _ _ _ _ f in
-    (read.ensures ∙ ap shownNormal (f ∙ sym e), (left-refused headsOf _ e _, (left-refused matrixOf _ e _, left-refused rightsOf _ e _)))
+    let e = unpack_refused _ _ _ _ _ _ f in
+    (read.ensures ∙ ap shown_normal (f ∙ sym e), (left_refused heads_of _ e _, (left_refused matrix_of _ e _, left_refused rights_of _ e _)))
 
 pub unpack-spec : {M : Type 1} → statement M
 unpack-spec =

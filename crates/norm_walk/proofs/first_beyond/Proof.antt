@@ -1,8 +1,8 @@
 -- `norm_walk::first_beyond` meets its contract: the right sides, then the totals.
 -- Assumes nothing.
 use mathlib.Core.Path.{sym, ap, ◌∙◌}
-use Rattle.norm_walk.proofs.Wheres.{beyond-right, beyond-totals}
-use Rattle.num_packed.specs.Found.{toldWalked}
+use Rattle.norm_walk.proofs.Wheres.{beyond_right, beyond_totals}
+use Rattle.num_packed.specs.Found.{told_walked}
 use borrow.Author.Rules.{rules}
 use Rattle.norm_walk.proofs.first_beyond.Statement.{statement}
 use Rattle.norm_walk.proofs.first_beyond.Tie as tie
@@ -23,10 +23,10 @@ judge-totals-requires : tie.Need-judge-totals-requires
 judge-totals-requires c κs = search rules
 
 returns : tie.Need-returns
-returns c = beyond-right _ _ _ _ _ _ _ c.before.before.before.before.bound_of.ensures.0 _ (sym c.before.before.before.first-side.ensures ∙ ap toldWalked c.before.k.given.1)
+returns c = beyond_right _ _ _ _ _ _ _ c.before.before.before.before.bound_of.ensures.0 _ (sym c.before.before.before.first-side.ensures ∙ ap told_walked c.before.k.given.1)
 
 returns-2 : tie.Need-returns-2
-returns-2 c = c.judge-totals.ensures ∙ beyond-totals _ _ _ _ _ _ _ c.before.before.before.before.bound_of.ensures.0 (sym c.before.before.before.first-side.ensures ∙ ap toldWalked c.before.enum_told.given.1)
+returns-2 c = c.judge-totals.ensures ∙ beyond_totals _ _ _ _ _ _ _ c.before.before.before.before.bound_of.ensures.0 (sym c.before.before.before.first-side.ensures ∙ ap told_walked c.before.enum_told.given.1)
 
 pub first-beyond-spec : {M : Type 1} → statement M
 first-beyond-spec =

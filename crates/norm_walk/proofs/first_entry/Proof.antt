@@ -12,21 +12,21 @@ use lib.IntN.{pos}
 use mir.Syntax.{w64}
 use mir.ValLaws.{to_z-of_z}
 use Rattle.num_packed.specs.Triangle.{tri}
-use Rattle.norm_system.specs.System.{breaksIn}
+use Rattle.norm_system.specs.System.{breaks_in}
 use Rattle.num_packed.specs.declared.Walked.TheVariants.{Sound}
-use Rattle.num_packed.proofs.Places.{tri-next, tri-within}
-use Rattle.num_packed.specs.Found.{Found, at, firstFrom, columnsFrom, toldWalked}
-use Rattle.num_packed.proofs.Found.{first-end, first-here, first_on, columns-end, columns-here, columns-on}
-use Rattle.norm_sum.specs.Sums.{sumsAt}
+use Rattle.num_packed.proofs.Places.{tri_next, tri_within}
+use Rattle.num_packed.specs.Found.{Found, at, first_from, columns_from, told_walked}
+use Rattle.num_packed.proofs.Found.{first_end, first_here, first_on, columns_end, columns_here, columns_on}
+use Rattle.norm_sum.specs.Sums.{sums_at}
 use Rattle.norm_walk.proofs.first_entry.Statement.{statement}
 use Rattle.norm_walk.proofs.first_entry.Tie as tie
 
 -- the test of the entries, and the walk over a column from row i on, n rows
 abbrev entries : Bool → List ℕ → ℕ → ℕ → ℕ → ℕ → ℕ → Bool
-entries small s start p bound = breaksIn small (pos bound) (sumsAt s start (tri p))
+entries small s start p bound = breaks_in small (pos bound) (sums_at s start (tri p))
 
 abbrev column : Bool → List ℕ → ℕ → ℕ → ℕ → ℕ → ℕ → ℕ → Found
-column small s start p bound j i n = firstFrom (λ v. entries small s start p bound v j) i n
+column small s start p bound j i n = first_from (λ v. entries small s start p bound v j) i n
 
 abbrev invariant-loop : tie.invariant-loop
 invariant-loop s start p bound small least found₀ j silent i₀ found i = (i ≤ j + 1) × (found ≡ found₀) × (column small s start p bound j 0 (j + 1) ≡ column small s start p bound j i (j + 1 - i))
@@ -35,7 +35,7 @@ abbrev decreases-loop : tie.decreases-loop
 decreases-loop s start p bound small least found₀ j silent i₀ found i = j + 1 - i
 
 abbrev invariant-all : tie.invariant-all
-invariant-all s start p bound small least found₀ j₀ found j = (j ≤ p) × (found ≡ Sound) × (columnsFrom (entries small s start p bound) 0 p ≡ columnsFrom (entries small s start p bound) j (p - j))
+invariant-all s start p bound small least found₀ j₀ found j = (j ≤ p) × (found ≡ Sound) × (columns_from (entries small s start p bound) 0 p ≡ columns_from (entries small s start p bound) j (p - j))
 
 abbrev decreases-all : tie.decreases-all
 decreases-all s start p bound small least found₀ j₀ found j = p - j
@@ -50,15 +50,15 @@ least-of-loop-turn c = (all-of-loop-turn c).before
 abbrev start-of-loop-turn : tie.At-loop invariant-loop decreases-loop invariant-all decreases-all → tie.Start invariant-loop decreases-loop invariant-all decreases-all
 start-of-loop-turn c = (least-of-loop-turn c).before.before
 
-test : (c : tie.After-is-broken invariant-loop decreases-loop invariant-all decreases-all) (t : Bool) → c.is-broken.result ≡ t
+test : (c : tie.After-is-broken invariant-loop decreases-loop invariant-all decreases-all) (t : Bool) → c.is_broken.result ≡ t
     → let a = (start-of-loop-turn c.before.before).args in
-    entries a.is-small a.s.now a.start a.p a.bound c.before.before.loop.i (all-of-loop-turn c.before.before).all.j ≡ t
+    entries a.is_small_lem a.s.now a.start a.p a.bound c.before.before.loop.i (all-of-loop-turn c.before.before).all.j ≡ t
 test c t e =
     let a = (start-of-loop-turn c.before.before).args in
     let j = (all-of-loop-turn c.before.before).all.j in
     let o = (least-of-loop-turn c.before.before).least-of in
     let low = to_z-of_z w64 o.result (record { sfits = o.ok }) ∙ o.ensures in
-    sym (c.is-broken.ensures a.is-small _ low (omega (arith, tri-next j, tri-within j a.p (omega arith)))) ∙ e
+    sym (c.is_broken.ensures a.is_small_lem _ low (omega (arith, tri_next j, tri_within j a.p (omega arith)))) ∙ e
 
 least-of-requires : tie.Need-least-of-requires invariant-loop decreases-loop invariant-all decreases-all
 least-of-requires c κs = search rules
@@ -70,7 +70,7 @@ is-silent-at-requires : tie.Need-is-silent-at-requires invariant-loop decreases-
 is-silent-at-requires c κs =
     let a = c.before.before.before.before.args in
     let j = c.before.all.j in
-    (omega arith, omega (arith, tri-next j, tri-within j a.p (omega arith)))
+    (omega arith, omega (arith, tri_next j, tri_within j a.p (omega arith)))
 
 loop-holds : tie.Need-loop-init invariant-loop decreases-loop invariant-all decreases-all
 loop-holds c = (search rules, refl, rw sub-zero)
@@ -79,7 +79,7 @@ is-broken-requires : tie.Need-is-broken-requires invariant-loop decreases-loop i
 is-broken-requires c κs =
     let a = (start-of-loop-turn c.before).args in
     let j = (all-of-loop-turn c.before).all.j in
-    (omega arith, (omega (arith, tri-next j, tri-within j a.p (omega arith)), (omega arith, c.before.before.is-silent-at.ensures)))
+    (omega arith, (omega (arith, tri_next j, tri_within j a.p (omega arith)), (omega arith, c.before.before.is-silent-at.ensures)))
 
 place-requires : tie.Need-place-requires invariant-loop decreases-loop invariant-all decreases-all
 place-requires c κs = omega arith
@@ -95,7 +95,7 @@ loop-again c =
     let l = c.before.before.before.loop in
     let j = (all-of-loop-turn c.before.before.before).all.j in
     let a = (start-of-loop-turn c.before.before.before).args in
-    let f = entries a.is-small a.s.now a.start a.p a.bound in
+    let f = entries a.is_small_lem a.s.now a.start a.p a.bound in
     (omega arith, l.invariant.1, l.invariant.2 ∙ first_on (λ v. f v j) (j + 1) l.i (omega arith) (test c.before _ c.if1.false))
 
 add-j : tie.Need-overflow-add-j invariant-loop decreases-loop invariant-all decreases-all
@@ -109,25 +109,25 @@ all-again c =
     let l = c.before.loop in
     let w = (all-of-loop-turn c.before).all in
     let a = (start-of-loop-turn c.before).args in
-    let f = entries a.is-small a.s.now a.start a.p a.bound in (
+    let f = entries a.is_small_lem a.s.now a.start a.p a.bound in (
       omega arith,
       l.invariant.1 ∙ w.inv.1,
-      w.inv.2 ∙ columns-on f _ w.j (omega arith) (l.invariant.2 ∙ first-end (λ v. f v w.j) (w.j + 1) l.i (omega arith)),
+      w.inv.2 ∙ columns_on f _ w.j (omega arith) (l.invariant.2 ∙ first_end (λ v. f v w.j) (w.j + 1) l.i (omega arith)),
     )
 
 returns : tie.Need-returns invariant-loop decreases-loop invariant-all decreases-all
 returns c =
     let w = c.before.all in
-    ap toldWalked w.invariant.1 ∙ sym (w.invariant.2 ∙ columns-end _ _ w.j (omega arith))
+    ap told_walked w.invariant.1 ∙ sym (w.invariant.2 ∙ columns_end _ _ w.j (omega arith))
 
 returns-2 : tie.Need-returns-2 invariant-loop decreases-loop invariant-all decreases-all
 returns-2 c =
     let l = c.before.before.before.before.loop in
     let w = (all-of-loop-turn c.before.before.before.before).all in
     let a = (start-of-loop-turn c.before.before.before.before).args in
-    let f = entries a.is-small a.s.now a.start a.p a.bound in
-    let found = l.invariant.2 ∙ first-here (λ v. f v w.j) (w.j + 1) l.i (omega arith) (test c.before.before _ c.before.if1.true) in
-    ap at c.place.ensures ∙ sym (w.inv.2 ∙ columns-here f _ w.j (omega arith) l.i found)
+    let f = entries a.is_small_lem a.s.now a.start a.p a.bound in
+    let found = l.invariant.2 ∙ first_here (λ v. f v w.j) (w.j + 1) l.i (omega arith) (test c.before.before _ c.before.if1.true) in
+    ap at c.place.ensures ∙ sym (w.inv.2 ∙ columns_here f _ w.j (omega arith) l.i found)
 
 pub first-entry-spec : {M : Type 1} → statement M
 first-entry-spec =

@@ -9,20 +9,20 @@ use Prim.Native.Nat.{ℕ, ◌-◌, ◌≤◌}
 use native.Mathlib.Nat.{sub-zero}
 use lib.IntN.{pos}
 use Rattle.num_packed.specs.Triangle.{tri}
-use Rattle.num_packed.specs.Sound.{breaksSide}
-use Rattle.num_packed.proofs.Places.{tri-next, tri-within}
-use Rattle.num_packed.specs.Found.{firstFrom}
-use Rattle.num_packed.proofs.Found.{first-end, first-here, first_on}
-use Rattle.norm_sum.specs.Sums.{sumsAt}
+use Rattle.num_packed.specs.Sound.{breaks_side}
+use Rattle.num_packed.proofs.Places.{tri_next, tri_within}
+use Rattle.num_packed.specs.Found.{first_from}
+use Rattle.num_packed.proofs.Found.{first_end, first_here, first_on}
+use Rattle.norm_sum.specs.Sums.{sums_at}
 use Rattle.norm_walk.proofs.first_side.Statement.{statement}
 use Rattle.norm_walk.proofs.first_side.Tie as tie
 
 -- the test of the right sides
 abbrev sides : List ℕ → ℕ → ℕ → ℕ → ℕ → ℕ → Bool
-sides s matrix rights p bound = breaksSide (pos bound) (sumsAt s matrix (tri p)) (sumsAt s rights p)
+sides s matrix rights p bound = breaks_side (pos bound) (sums_at s matrix (tri p)) (sums_at s rights p)
 
 abbrev invariant-loop : tie.invariant-loop
-invariant-loop s matrix rights p bound i₀ i = (i ≤ p) × (firstFrom (sides s matrix rights p bound) 0 p ≡ firstFrom (sides s matrix rights p bound) i (p - i))
+invariant-loop s matrix rights p bound i₀ i = (i ≤ p) × (first_from (sides s matrix rights p bound) 0 p ≡ first_from (sides s matrix rights p bound) i (p - i))
 
 abbrev decreases-loop : tie.decreases-loop
 decreases-loop s matrix rights p bound i₀ i = p - i
@@ -33,7 +33,7 @@ test : (c : tie.After-is-broken-side invariant-loop decreases-loop) (t : Bool) �
 test c t e =
     let a = c.before.before.before.before.args in
     let i = c.before.before.loop.i in
-    sym (c.is-broken-side.ensures _ _ (omega (arith, tri-next i, tri-within i a.p (omega arith))) (omega arith)) ∙ e
+    sym (c.is-broken-side.ensures _ _ (omega (arith, tri_next i, tri_within i a.p (omega arith))) (omega arith)) ∙ e
 
 loop-holds : tie.Need-loop-init invariant-loop decreases-loop
 loop-holds c = (search rules, rw sub-zero)
@@ -42,12 +42,12 @@ is-broken-side-requires : tie.Need-is-broken-side-requires invariant-loop decrea
 is-broken-side-requires c κs =
     let a = c.before.before.before.args in
     let i = c.before.loop.i in
-    (omega arith, ((omega (arith, tri-next i, tri-within i a.p (omega arith)), omega arith), omega arith))
+    (omega arith, ((omega (arith, tri_next i, tri_within i a.p (omega arith)), omega arith), omega arith))
 
 returns : tie.Need-returns invariant-loop decreases-loop
 returns c =
     let l = c.before.before.before.loop in
-    sym (l.invariant.1 ∙ first-here _ _ l.i (omega arith) (test c.before _ c.if1.true))
+    sym (l.invariant.1 ∙ first_here _ _ l.i (omega arith) (test c.before _ c.if1.true))
 
 add-i : tie.Need-overflow-add-i invariant-loop decreases-loop
 add-i c = search rules
@@ -63,7 +63,7 @@ loop-again c =
 returns-2 : tie.Need-returns-2 invariant-loop decreases-loop
 returns-2 c =
     let l = c.before.loop in
-    sym (l.invariant.1 ∙ first-end _ _ l.i (omega arith))
+    sym (l.invariant.1 ∙ first_end _ _ l.i (omega arith))
 
 pub first-side-spec : {M : Type 1} → statement M
 first-side-spec =

@@ -1,8 +1,8 @@
 -- `norm_walk::first_unsound` meets its contract: the matrix sums, then what follows them.
 -- Assumes nothing.
 use mathlib.Core.Path.{sym, ap, ◌∙◌}
-use Rattle.norm_walk.proofs.Wheres.{unsound-matrix, unsound-beyond}
-use Rattle.num_packed.specs.Found.{toldWalked}
+use Rattle.norm_walk.proofs.Wheres.{unsound_matrix, unsound_beyond}
+use Rattle.num_packed.specs.Found.{told_walked}
 use borrow.Author.Rules.{rules}
 use Rattle.norm_walk.proofs.first_unsound.Statement.{statement}
 use Rattle.norm_walk.proofs.first_unsound.Tie as tie
@@ -33,13 +33,13 @@ first-beyond-requires c κs = search rules
 
 returns : tie.Need-returns
 returns c =
-    let found = sym c.before.before.before.first_entry.ensures ∙ ap toldWalked c.before.k.given.1 in
-    unsound-matrix _ _ _ _ _ _ _ _ c.before.before.before.before.before.read-u642.result _ c.before.before.before.before.before.before.read_u64.ensures c.before.before.before.before.before.read-u642.ensures c.before.before.before.before.bound_of.ensures.0 _ found
+    let found = sym c.before.before.before.first_entry.ensures ∙ ap told_walked c.before.k.given.1 in
+    unsound_matrix _ _ _ _ _ _ _ _ c.before.before.before.before.before.read-u642.result _ c.before.before.before.before.before.before.read_u64.ensures c.before.before.before.before.before.read-u642.ensures c.before.before.before.before.bound_of.ensures.0 _ found
 
 returns-2 : tie.Need-returns-2
 returns-2 c =
-    let none = sym c.before.before.before.first_entry.ensures ∙ ap toldWalked c.before.enum_told.given.1 in
-    c.first-beyond.ensures ∙ unsound-beyond _ _ _ _ _ _ _ _ _ _ c.before.before.before.before.before.before.read_u64.ensures c.before.before.before.before.before.read-u642.ensures c.before.before.before.before.bound_of.ensures.0 none
+    let none = sym c.before.before.before.first_entry.ensures ∙ ap told_walked c.before.enum_told.given.1 in
+    c.first-beyond.ensures ∙ unsound_beyond _ _ _ _ _ _ _ _ _ _ c.before.before.before.before.before.before.read_u64.ensures c.before.before.before.before.before.read-u642.ensures c.before.before.before.before.bound_of.ensures.0 none
 
 pub first-unsound-spec : {M : Type 1} → statement M
 first-unsound-spec =

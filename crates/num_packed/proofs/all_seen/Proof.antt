@@ -10,7 +10,7 @@ use Rattle.num_whole.specs.Tests.{below}
 use Rattle.num_whole.proofs.Tables.{below_fails}
 use Rattle.num_packed.specs.Plain.{seen_at}
 use Rattle.num_packed.proofs.Plain.{none_yet, one_more}
-use Rattle.num_packed.proofs.Places.{tri-next, tri-within}
+use Rattle.num_packed.proofs.Places.{tri_next, tri_within}
 use Rattle.num_packed.proofs.all_seen.Statement.{statement}
 use Rattle.num_packed.proofs.all_seen.Tie as tie
 
@@ -27,7 +27,7 @@ is-seen-requires : tie.Need-is-seen-requires invariant-loop decreases-loop
 is-seen-requires c κs =
     let s = c.before.before in
     let i = c.before.loop.i in
-    (omega arith, omega (arith, tri-next i, tri-within i s.args.p (omega arith)))
+    (omega arith, omega (arith, tri_next i, tri_within i s.args.p (omega arith)))
 
 add-i : tie.Need-overflow-add-i invariant-loop decreases-loop
 add-i c = search rules

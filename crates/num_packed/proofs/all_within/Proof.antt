@@ -11,20 +11,20 @@ use mir.Val.{to_z, of_z}
 use mir.ValLaws.{to_z-of_z}
 use Rattle.num_whole.specs.Tests.{below}
 use Rattle.num_whole.proofs.Tables.{below_fails}
-use Rattle.num_packed.specs.Plain.{withinAt}
+use Rattle.num_packed.specs.Plain.{within_at}
 use Rattle.num_packed.proofs.Plain.{none_yet, one_more}
 use Rattle.num_packed.proofs.all_within.Statement.{statement}
 use Rattle.num_packed.proofs.all_within.Tie as tie
 
 abbrev invariant-loop : tie.invariant-loop
-invariant-loop s n bound k₀ k = (k ≤ n) × (below (withinAt (to_z w64 bound) s) k ≡ true)
+invariant-loop s n bound k₀ k = (k ≤ n) × (below (within_at (to_z w64 bound) s) k ≡ true)
 
 abbrev decreases-loop : tie.decreases-loop
 decreases-loop s n bound k₀ k = n - k
 
 -- the bound's bits are the bound
-plain : (s : tie.Start invariant-loop decreases-loop) → below (withinAt (to_z w64 (of_z w64 s.args.bound)) s.args.s.now) s.args.n ≡ below (withinAt s.args.bound s.args.s.now) s.args.n
-plain s = ap (λ b. below (withinAt b s.args.s.now) s.args.n) (to_z-of_z w64 s.args.bound s.ranges.bound)
+plain : (s : tie.Start invariant-loop decreases-loop) → below (within_at (to_z w64 (of_z w64 s.args.bound)) s.args.s.now) s.args.n ≡ below (within_at s.args.bound s.args.s.now) s.args.n
+plain s = ap (λ b. below (within_at b s.args.s.now) s.args.n) (to_z-of_z w64 s.args.bound s.ranges.bound)
 
 loop-holds : tie.Need-loop-init invariant-loop decreases-loop
 loop-holds c = (omega arith, none_yet _)
@@ -54,7 +54,7 @@ returns-2 : tie.Need-returns-2 invariant-loop decreases-loop
 returns-2 c =
     let l = c.before.loop in
     let a = c.before.before.args in
-    sym (subst (λ n. below (withinAt (to_z w64 (of_z w64 a.bound)) a.s.now) n ≡ true) (le_antisymm l.invariant.0 (omega arith)) l.invariant.1) ∙ plain c.before.before
+    sym (subst (λ n. below (within_at (to_z w64 (of_z w64 a.bound)) a.s.now) n ≡ true) (le_antisymm l.invariant.0 (omega arith)) l.invariant.1) ∙ plain c.before.before
 
 pub all-within-spec : {M : Type 1} → statement M
 all-within-spec =

@@ -10,7 +10,7 @@ use mir.Val.{to_z, of_z}
 use mir.ValLaws.{to_z-of_z}
 use borrow.Author.Rules.{rules}
 use Rattle.num_packed.specs.Plain.{seen_at}
-use Rattle.num_packed.proofs.Places.{tri-next}
+use Rattle.num_packed.proofs.Places.{tri_next}
 use Rattle.num_packed.proofs.is_seen.Statement.{statement}
 use Rattle.num_packed.proofs.is_seen.Tie as tie
 
@@ -18,10 +18,10 @@ place-requires : tie.Need-place-requires
 place-requires c κs = search rules
 
 mul-d : tie.Need-overflow-mul-d
-mul-d c = omega (arith, tri-next c.before.args.i)
+mul-d c = omega (arith, tri_next c.before.args.i)
 
 shared-slice-copy-out-d : tie.Need-shared-slice-copy-out-d
-shared-slice-copy-out-d c = omega (arith, tri-next c.before.args.i)
+shared-slice-copy-out-d c = omega (arith, tri_next c.before.args.i)
 
 returns : tie.Need-returns
 unfolding seen_at

@@ -4,7 +4,7 @@ use borrow.Author.Rules.{rules}
 use native.Mathlib.Omega.{arith}
 use native.Mathlib.Nat.{mul-le-mul}
 use Prim.Native.Nat.{◌+◌, ◌*◌, ◌≤◌}
-use Rattle.num_packed.proofs.Places.{tri-twice}
+use Rattle.num_packed.proofs.Places.{tri_twice}
 use Rattle.num_packed.proofs.triangle.Statement.{statement}
 use Rattle.num_packed.proofs.triangle.Tie as tie
 
@@ -18,7 +18,7 @@ mul-result : tie.Need-overflow-mul-result
 mul-result c = let most = few c in omega arith
 
 returns : tie.Need-returns
-returns c = let most = few c in (omega (arith, tri-twice c.args.p), omega arith)
+returns c = let most = few c in (omega (arith, tri_twice c.args.p), omega arith)
 
 pub triangle-spec : {M : Type 1} → statement M
 triangle-spec = tie.close (tie.spec add-result mul-result returns)

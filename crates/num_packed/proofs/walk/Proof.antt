@@ -13,15 +13,15 @@ use mir.Val.{to_z, of_z}
 use mir.ValLaws.{to_z-of_z}
 use Rattle.num_packed.specs.declared.Walked.TheVariants.{Sound}
 use Rattle.num_packed.specs.Sound.{breaks}
-use Rattle.num_packed.specs.Found.{Found, at, firstFrom, columnsFrom, toldWalked}
-use Rattle.num_packed.proofs.Places.{tri-next, tri-within}
-use Rattle.num_packed.proofs.Found.{first-end, first-here, first_on, columns-end, columns-here, columns-on}
+use Rattle.num_packed.specs.Found.{Found, at, first_from, columns_from, told_walked}
+use Rattle.num_packed.proofs.Places.{tri_next, tri_within}
+use Rattle.num_packed.proofs.Found.{first_end, first_here, first_on, columns_end, columns_here, columns_on}
 use Rattle.num_packed.proofs.walk.Statement.{statement}
 use Rattle.num_packed.proofs.walk.Tie as tie
 
 -- the walk over a column from row i on, n rows
 abbrev column : List ℤ → ℕ → ℕ → ℕ → ℕ → Found
-column s bound j i n = firstFrom (λ v. breaks (to_z w64 bound) s v j) i n
+column s bound j i n = first_from (λ v. breaks (to_z w64 bound) s v j) i n
 
 abbrev invariant-loop : tie.invariant-loop
 invariant-loop s p bound found₀ j i₀ found i = (i ≤ j + 1) × (found ≡ found₀) × (column s bound j 0 (j + 1) ≡ column s bound j i (j + 1 - i))
@@ -30,15 +30,15 @@ abbrev decreases-loop : tie.decreases-loop
 decreases-loop s p bound found₀ j i₀ found i = j + 1 - i
 
 abbrev invariant-all : tie.invariant-all
-invariant-all s p bound found₀ j₀ found j = (j ≤ p) × (found ≡ Sound) × (columnsFrom (breaks (to_z w64 bound) s) 0 p ≡ columnsFrom (breaks (to_z w64 bound) s) j (p - j))
+invariant-all s p bound found₀ j₀ found j = (j ≤ p) × (found ≡ Sound) × (columns_from (breaks (to_z w64 bound) s) 0 p ≡ columns_from (breaks (to_z w64 bound) s) j (p - j))
 
 abbrev decreases-all : tie.decreases-all
 decreases-all s p bound found₀ j₀ found j = p - j
 
 -- the walk at the bound's bits is the walk at the bound
 plain : (s : tie.Start invariant-loop decreases-loop invariant-all decreases-all)
-    → columnsFrom (breaks (to_z w64 (of_z w64 s.args.bound)) s.args.s.now) 0 s.args.p ≡ columnsFrom (breaks s.args.bound s.args.s.now) 0 s.args.p
-plain s = ap (λ b. columnsFrom (breaks b s.args.s.now) 0 s.args.p) (to_z-of_z w64 s.args.bound s.ranges.bound)
+    → columns_from (breaks (to_z w64 (of_z w64 s.args.bound)) s.args.s.now) 0 s.args.p ≡ columns_from (breaks s.args.bound s.args.s.now) 0 s.args.p
+plain s = ap (λ b. columns_from (breaks b s.args.s.now) 0 s.args.p) (to_z-of_z w64 s.args.bound s.ranges.bound)
 
 all-holds : tie.Need-all-init invariant-loop decreases-loop invariant-all decreases-all
 all-holds c = (omega arith, refl, rw sub-zero)
@@ -50,7 +50,7 @@ is-broken-requires : tie.Need-is-broken-requires invariant-loop decreases-loop i
 is-broken-requires c κs =
     let s = c.before.before.before.before in
     let j = c.before.before.before.all.j in
-    (omega arith, (omega (arith, tri-next j, tri-within j s.args.p (omega arith), s.requires.0.1), rw (to_z-of_z w64 s.args.bound s.ranges.bound) s.requires.1))
+    (omega arith, (omega (arith, tri_next j, tri_within j s.args.p (omega arith), s.requires.0.1), rw (to_z-of_z w64 s.args.bound s.ranges.bound) s.requires.1))
 
 place-requires : tie.Need-place-requires invariant-loop decreases-loop invariant-all decreases-all
 place-requires c κs = omega arith
@@ -64,7 +64,7 @@ loop-less c = omega arith
 loop-again : tie.Need-loop-preserved invariant-loop decreases-loop invariant-all decreases-all
 loop-again c =
     let l = c.before.before.before.loop in
-    (omega arith, l.invariant.1, l.invariant.2 ∙ first_on _ _ l.i (omega arith) (sym c.before.is-broken.ensures ∙ c.if1.false))
+    (omega arith, l.invariant.1, l.invariant.2 ∙ first_on _ _ l.i (omega arith) (sym c.before.is_broken.ensures ∙ c.if1.false))
 
 add-j : tie.Need-overflow-add-j invariant-loop decreases-loop invariant-all decreases-all
 add-j c = omega arith
@@ -76,19 +76,19 @@ all-again : tie.Need-all-preserved invariant-loop decreases-loop invariant-all d
 all-again c =
     let l = c.before.loop in
     let a = c.before.before.before.all in
-    (omega arith, l.invariant.1 ∙ a.invariant.1, a.invariant.2 ∙ columns-on _ _ a.j (omega arith) (l.invariant.2 ∙ first-end _ _ l.i (omega arith)))
+    (omega arith, l.invariant.1 ∙ a.invariant.1, a.invariant.2 ∙ columns_on _ _ a.j (omega arith) (l.invariant.2 ∙ first_end _ _ l.i (omega arith)))
 
 returns : tie.Need-returns invariant-loop decreases-loop invariant-all decreases-all
 returns c =
     let a = c.before.all in
-    ap toldWalked a.invariant.1 ∙ sym (a.invariant.2 ∙ columns-end _ _ a.j (omega arith)) ∙ plain c.before.before
+    ap told_walked a.invariant.1 ∙ sym (a.invariant.2 ∙ columns_end _ _ a.j (omega arith)) ∙ plain c.before.before
 
 returns-2 : tie.Need-returns-2 invariant-loop decreases-loop invariant-all decreases-all
 returns-2 c =
     let l = c.before.before.before.before.loop in
     let a = c.before.before.before.before.before.before.all in
-    let found = l.invariant.2 ∙ first-here _ _ l.i (omega arith) (sym c.before.before.is-broken.ensures ∙ c.before.if1.true) in
-    ap at c.place.ensures ∙ sym (a.invariant.2 ∙ columns-here _ _ a.j (omega arith) l.i found) ∙ plain c.before.before.before.before.before.before.before
+    let found = l.invariant.2 ∙ first_here _ _ l.i (omega arith) (sym c.before.before.is_broken.ensures ∙ c.before.if1.true) in
+    ap at c.place.ensures ∙ sym (a.invariant.2 ∙ columns_here _ _ a.j (omega arith) l.i found) ∙ plain c.before.before.before.before.before.before.before
 
 pub walk-spec : {M : Type 1} → statement M
 walk-spec =

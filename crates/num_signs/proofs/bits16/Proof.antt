@@ -1,21 +1,21 @@
 -- `num_signs::bits16` meets its contract, by the laws over the width.
 -- Assumes nothing.
 use mir.Syntax.{w16}
-use Rattle.num_signs.proofs.Bits.{turned-fits, turned-small, turned-back, kept-fits, kept_back}
+use Rattle.num_signs.proofs.Bits.{turned_fits, turned_small, turned_back, kept_fits, kept_back}
 use Rattle.num_signs.proofs.bits16.Statement.{statement}
 use Rattle.num_signs.proofs.bits16.Tie as tie
 
 cast-result : tie.Need-overflow-cast-result
-cast-result c = turned-fits w16 c.before.args.z c.before.ranges.z c.if1.true
+cast-result c = turned_fits w16 c.before.args.z c.before.ranges.z c.if1.true
 
 sub-result : tie.Need-overflow-sub-result
-sub-result c = turned-small w16 c.before.args.z c.before.ranges.z c.if1.true
+sub-result c = turned_small w16 c.before.args.z c.before.ranges.z c.if1.true
 
 cast-result-2 : tie.Need-overflow-cast-result-2
-cast-result-2 c = kept-fits w16 c.before.args.z c.before.ranges.z c.if1.false
+cast-result-2 c = kept_fits w16 c.before.args.z c.before.ranges.z c.if1.false
 
 returns : tie.Need-returns
-returns c = turned-back w16 c.before.args.z c.before.ranges.z c.if1.true
+returns c = turned_back w16 c.before.args.z c.before.ranges.z c.if1.true
 
 returns-2 : tie.Need-returns-2
 returns-2 c = kept_back w16 c.before.args.z c.before.ranges.z c.if1.false

@@ -12,30 +12,30 @@ use lib.Signed.{lt_z}
 use mir.Syntax.{w64}
 use mir.Val.{SFits, to_z, of_z}
 use mir.ValLaws.{to_z-of_z}
-use Rattle.num_whole.proofs.Ints.{fits-within}
-use Rattle.num_signs.proofs.Bits.{turned-fits, turned-small, turned-back, kept-fits}
+use Rattle.num_whole.proofs.Ints.{fits_within}
+use Rattle.num_signs.proofs.Bits.{turned_fits, turned_small, turned_back, kept_fits}
 use Rattle.num_signs.proofs.magnitude.Statement.{statement}
 use Rattle.num_signs.proofs.magnitude.Tie as tie
 
 -- one more than the bits turned over is the size of a number below 0
-below-size : (z : ℤ) → SFits w64 z → lt_z (to_z w64 (of_z w64 z)) (pos 0) ≡ true → nat_abs (to_z w64 (18446744073709551615 - of_z w64 z)) + 1 ≡ nat_abs z
-below-size (pos n) f e = absurd (not-suc-le-zero (ltb-true n 0 (rw (to_z-of_z w64 (pos n) f) at e)))
-below-size (negsuc n) f e = omega (arith, turned-small w64 (negsuc n) f e, turned-back w64 (negsuc n) f e, f.sfits)
+below_size : (z : ℤ) → SFits w64 z → lt_z (to_z w64 (of_z w64 z)) (pos 0) ≡ true → nat_abs (to_z w64 (18446744073709551615 - of_z w64 z)) + 1 ≡ nat_abs z
+below_size (pos n) f e = absurd (not-suc-le-zero (ltb-true n 0 (rw (to_z-of_z w64 (pos n) f) at e)))
+below_size (negsuc n) f e = omega (arith, turned_small w64 (negsuc n) f e, turned_back w64 (negsuc n) f e, f.sfits)
 
 cast-result : tie.Need-overflow-cast-result
-cast-result c = turned-fits w64 c.before.args.z c.before.ranges.z c.if1.true
+cast-result c = turned_fits w64 c.before.args.z c.before.ranges.z c.if1.true
 
 add-result : tie.Need-overflow-add-result
 add-result c =
     let z = c.before.args.z in
     let f = c.before.ranges.z in
-    rw (below-size z f c.if1.true) (record { fits = omega (arith, fits-within w64 z f) })
+    rw (below_size z f c.if1.true) (record { fits = omega (arith, fits_within w64 z f) })
 
 cast-result-2 : tie.Need-overflow-cast-result-2
-cast-result-2 c = kept-fits w64 c.before.args.z c.before.ranges.z c.if1.false
+cast-result-2 c = kept_fits w64 c.before.args.z c.before.ranges.z c.if1.false
 
 returns : tie.Need-returns
-returns c = below-size c.before.args.z c.before.ranges.z c.if1.true
+returns c = below_size c.before.args.z c.before.ranges.z c.if1.true
 
 returns-2 : tie.Need-returns-2
 returns-2 c = search rules

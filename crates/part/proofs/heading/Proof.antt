@@ -1,8 +1,8 @@
 -- `part::heading` meets its contract: 6, 1, or the heading.
 -- Assumes nothing.
 use mathlib.Core.Path.{◌≡◌, sym, ◌∙◌}
-use Rattle.part_open.proofs.Said.{opening-read, opening-refused}
-use Rattle.part.proofs.Stops.{headed, headed-not}
+use Rattle.part_open.proofs.Said.{opening_read, opening_refused}
+use Rattle.part.proofs.Stops.{headed, headed_not}
 use borrow.Author.Rules.{rules}
 use Rattle.part.proofs.heading.Statement.{statement}
 use Rattle.part.proofs.heading.Tie as tie
@@ -35,16 +35,16 @@ blank-requires-2 c κs = search rules
 returns : tie.Need-returns
 returns c =
     let sound = c.before.before in let judged = judged-of-sound sound in
-    headed (start-of-judged judged).args.p (sym judged.is-fair.ensures ∙ sound.before.if1.true) _ (sym (opening-read _ c.enum_told.given.1) ∙ judged.before.open_at.ensures.told)
+    headed (start-of-judged judged).args.p (sym judged.is-fair.ensures ∙ sound.before.if1.true) _ (sym (opening_read _ c.enum_told.given.1) ∙ judged.before.open_at.ensures.told)
 
 returns-2 : tie.Need-returns-2
 returns-2 c =
     let sound = c.before.before.before.before in let judged = judged-of-sound sound in
-    let v = headed (start-of-judged judged).args.p (sym judged.is-fair.ensures ∙ sound.before.if1.true) _ (sym (opening-refused _ c.before.before.answer.given.1) ∙ judged.before.open_at.ensures.told) in
+    let v = headed (start-of-judged judged).args.p (sym judged.is-fair.ensures ∙ sound.before.if1.true) _ (sym (opening_refused _ c.before.before.answer.given.1) ∙ judged.before.open_at.ensures.told) in
     (v.0, c.blank.ensures ∙ v.1)
 
 returns-3 : tie.Need-returns-3
-returns-3 c = let v = headed-not c.before.before.before.before.args.p (sym c.before.before.is-fair.ensures ∙ c.before.if1.false) in (v.0, c.blank2.ensures ∙ v.1)
+returns-3 c = let v = headed_not c.before.before.before.before.args.p (sym c.before.before.is-fair.ensures ∙ c.before.if1.false) in (v.0, c.blank2.ensures ∙ v.1)
 
 pub heading-spec : {M : Type 1} → statement M
 heading-spec =

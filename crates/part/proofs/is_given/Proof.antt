@@ -7,9 +7,9 @@ use lib.ListN.{length}
 use Rattle.num_whole.proofs.Cases.{holds, fails}
 use Rattle.num_packed.specs.Triangle.{tri}
 use Rattle.take_state.specs.State.{state_of}
-use Rattle.part_laws.specs.Entries.{position_of, soundBy, soundAt}
-use Rattle.part_laws.proofs.States.{parameters-most}
-use Rattle.part.proofs.Goes.{opened-roomy}
+use Rattle.part_laws.specs.Entries.{position_of, sound_by, sound_at}
+use Rattle.part_laws.proofs.States.{parameters_most_lem}
+use Rattle.part.proofs.Goes.{opened_roomy}
 use borrow.Author.Rules.{rules}
 use Rattle.part.proofs.is_given.Statement.{statement}
 use Rattle.part.proofs.is_given.Tie as tie
@@ -21,11 +21,11 @@ is-fair-requires : tie.Need-is-fair-requires
 is-fair-requires c κs = search rules
 
 is-sound-at-requires : tie.Need-is-sound-at-requires
-is-sound-at-requires c κs = let d = c.before.before.before in let a = d.args in let e = d.requires.0 in ((omega (arith, parameters-most (position_of a.p).kept), d.requires.1, d.requires.2), opened-roomy (position_of a.p).kept a.matrix.now a.rights.now _ c.before.before.open_at.ensures.told (subst (λ n. tri n ≤ length a.matrix.now) e d.requires.1) (subst (λ n. n ≤ length a.rights.now) e d.requires.2))
+is-sound-at-requires c κs = let d = c.before.before.before in let a = d.args in let e = d.requires.0 in ((omega (arith, parameters_most_lem (position_of a.p).kept), d.requires.1, d.requires.2), opened_roomy (position_of a.p).kept a.matrix.now a.rights.now _ c.before.before.open_at.ensures.told (subst (λ n. tri n ≤ length a.matrix.now) e d.requires.1) (subst (λ n. n ≤ length a.rights.now) e d.requires.2))
 
 returns : tie.Need-returns
-unfolding soundAt
-returns c = let d = c.before.before.before.before in let a = d.args in holds _ _ (sym c.before.before.is-fair.ensures ∙ c.before.if1.true) (c.is-sound-at.ensures ∙ ap₂ (λ n j. soundBy n a.p.taken (state_of a.matrix.now a.rights.now a.t) j) d.requires.0 c.before.before.before.open_at.ensures.told)
+unfolding sound_at
+returns c = let d = c.before.before.before.before in let a = d.args in holds _ _ (sym c.before.before.is-fair.ensures ∙ c.before.if1.true) (c.is-sound-at.ensures ∙ ap₂ (λ n j. sound_by n a.p.taken (state_of a.matrix.now a.rights.now a.t) j) d.requires.0 c.before.before.before.open_at.ensures.told)
 
 returns-2 : tie.Need-returns-2
 returns-2 c = fails _ _ (sym c.before.is-fair.ensures ∙ c.if1.false)

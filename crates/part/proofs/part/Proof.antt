@@ -10,13 +10,13 @@ use lib.Seq.{length-take-le}
 use Rattle.num_packed.specs.Triangle.{tri}
 use Rattle.take_state.specs.State.{state_of}
 use Rattle.part_laws.specs.Beginning.{opened, done}
-use Rattle.num_packed.specs.Room.{sumsRoomy}
-use Rattle.part_laws.specs.Entries.{position_of, parametersIn}
-use Rattle.part_laws.proofs.States.{parameters-most}
-use Rattle.part_open.specs.Told.{toldOpening}
-use Rattle.part_place.specs.Looks.{completedBy}
-use Rattle.part.proofs.Stops.{room-asked, room-given, stop-over, stop-room, stop-answers, stop-unsound, goes}
-use Rattle.part.proofs.Goes.{completed-is, front-room, front_fits, front-opens, all-long}
+use Rattle.num_packed.specs.Room.{sums_roomy}
+use Rattle.part_laws.specs.Entries.{position_of, parameters_in}
+use Rattle.part_laws.proofs.States.{parameters_most_lem}
+use Rattle.part_open.specs.Told.{told_opening}
+use Rattle.part_place.specs.Looks.{completed_by}
+use Rattle.part.proofs.Stops.{room_asked, room_given, stop_over, stop_room, stop_answers, stop_unsound, goes}
+use Rattle.part.proofs.Goes.{completed_is, front_room, front_fits, front_opens, all_long}
 use borrow.Author.Rules.{rules}
 use Rattle.part.proofs.part.Statement.{statement}
 use Rattle.part.proofs.part.Tie as tie
@@ -53,26 +53,26 @@ abbrev counted-of-judged : tie.After-is-given → tie.After-completed
 counted-of-judged c = c.before.before.before.before
 
 -- a slice's length leaves room for a position's bytes
-bytes-short : (c : tie.After-shared-slice-known) → length c.before.args.bytes.now + 1088 < 18446744073709551616
-bytes-short c = omega arith
+bytes_short : (c : tie.After-shared-slice-known) → length c.before.args.bytes.now + 1088 < 18446744073709551616
+bytes_short c = omega arith
 
 -- the room that is asked for
-room-is : (c : tie.After-is-roomy) → let a = (start-of-asked c).args in
-    sumsRoomy (parametersIn (position_of a.p).kept) (length a.matrix.now) (length a.rights.now) ≡ c.is-roomy.result
-room-is c =
+room_is : (c : tie.After-is-roomy) → let a = (start-of-asked c).args in
+    sums_roomy (parameters_in (position_of a.p).kept) (length a.matrix.now) (length a.rights.now) ≡ c.is-roomy.result
+room_is c =
     let a = (start-of-asked c).args in
-    sym (c.is-roomy.ensures ∙ room-asked _ _ a.matrix.now a.rights.now c.before.before.before.parameters-at.ensures (parameters-most (position_of a.p).kept))
+    sym (c.is-roomy.ensures ∙ room_asked _ _ a.matrix.now a.rights.now c.before.before.before.parameters-at.ensures (parameters_most_lem (position_of a.p).kept))
 
 roomy : (c : tie.After-is-roomy) → c.is-roomy.result ≡ true → let a = (start-of-asked c).args in
-    sumsRoomy (parametersIn (position_of a.p).kept) (length a.matrix.now) (length a.rights.now) ≡ true
-roomy c e = room-is c ∙ e
+    sums_roomy (parameters_in (position_of a.p).kept) (length a.matrix.now) (length a.rights.now) ≡ true
+roomy c e = room_is c ∙ e
 
 -- what was opened
 opens : (c : tie.After-open) → let a = (start-of-opened c).args in
-    toldOpening c.«open».result ≡ opened ((position_of a.p).kept ++ a.bytes.now)
+    told_opening c.«open».result ≡ opened ((position_of a.p).kept ++ a.bytes.now)
 opens c =
     let a = (start-of-opened c).args in
-    c.«open».ensures.0 ∙ front-opens a.p a.bytes.now _ (front-of-opened c).front_of.ensures
+    c.«open».ensures.0 ∙ front_opens a.p a.bytes.now _ (front-of-opened c).front_of.ensures
 
 -- how many records it completes
 many : (c : tie.After-completed) → let a = (start-of-counted c).args in
@@ -80,8 +80,8 @@ many : (c : tie.After-completed) → let a = (start-of-counted c).args in
 many c =
     let a = (start-of-counted c).args in
     let w = (front-of-counted c).front_of.ensures in
-    c.completed.ensures ∙ ap (completedBy a.p.taken _) (opens (opened-of-counted c))
-    ∙ completed-is a.p.taken _ ((position_of a.p).kept ++ a.bytes.now) (all-long a.p a.bytes.now _ w)
+    c.completed.ensures ∙ ap (completed_by a.p.taken _) (opens (opened-of-counted c))
+    ∙ completed_is a.p.taken _ ((position_of a.p).kept ++ a.bytes.now) (all_long a.p a.bytes.now _ w)
 
 stopped-requires : tie.Need-stopped-requires
 stopped-requires c κs = search rules
@@ -90,7 +90,7 @@ returns : tie.Need-returns
 returns c =
     let d = c.before.before.before.before in
     let a = d.args in
-    let v = stop-over a.p (state_of a.matrix.now a.rights.now a.t) a.bytes.now a.answers.now c.before.if1.true in
+    let v = stop_over a.p (state_of a.matrix.now a.rights.now a.t) a.bytes.now a.answers.now c.before.if1.true in
     let x = c.stopped in
     (x.ensures.0 ∙ v.says, (x.ensures.1 ∙ v.leads, (ap (state_of a.matrix.now a.rights.now) x.ensures.2 ∙ v.state, v.answers)))
 
@@ -106,7 +106,7 @@ front-of-requires c κs = search rules
 array-share-prefix-room : tie.Need-array-share-prefix-room
 array-share-prefix-room c =
     let front = c.before in let a = (start-of-front front).args in let w = front.front_of.ensures in
-    omega (arith, front-room a.p a.bytes.now _ w, front_fits a.p a.bytes.now _ w)
+    omega (arith, front_room a.p a.bytes.now _ w, front_fits a.p a.bytes.now _ w)
 
 slice-aggregate-open : tie.Need-slice-aggregate-open
 slice-aggregate-open c = sym (length-take-le _ _ (array-share-prefix-room c.before))
@@ -115,7 +115,7 @@ open-requires : tie.Need-open-requires
 open-requires c κs = search rules
 
 add-completed : tie.Need-overflow-add-completed
-add-completed c = let front = front-of-opened c.before in omega (arith, front.front_of.ensures.held, bytes-short (slices-of-asked (asked-of-front front)))
+add-completed c = let front = front-of-opened c.before in omega (arith, front.front_of.ensures.held, bytes_short (slices-of-asked (asked-of-front front)))
 
 completed-requires : tie.Need-completed-requires
 completed-requires c κs = search rules
@@ -124,7 +124,7 @@ is-given-requires : tie.Need-is-given-requires
 is-given-requires c κs =
     let front = front-of-counted c.before.before.before in let asked = asked-of-front front in let a = (start-of-asked asked).args in
     let e = asked.before.before.before.parameters-at.ensures in
-    let g = room-given _ _ _ (roomy asked front.before.if2.taken) in
+    let g = room_given _ _ _ (roomy asked front.before.if2.taken) in
     (e, subst (λ n. tri n ≤ length a.matrix.now) (sym e) g.0, subst (λ n. n ≤ length a.rights.now) (sym e) g.1)
 
 go-on-requires : tie.Need-go-on-requires
@@ -164,7 +164,7 @@ same-length-5 c = search rules
 returns-3 : tie.Need-returns-3
 returns-3 c =
     let judged = c.before.before in let counted = counted-of-judged judged in let front = front-of-counted counted in let asked = asked-of-front front in let a = (start-of-asked asked).args in
-    let v = stop-unsound a.p (state_of a.matrix.now a.rights.now a.t) a.bytes.now a.answers.now asked.before.before.before.before.if1.left (roomy asked front.before.if2.taken) (omega (arith, many counted, judged.before.before.before.if3.true)) (sym judged.is-given.ensures ∙ c.before.if4.false) in
+    let v = stop_unsound a.p (state_of a.matrix.now a.rights.now a.t) a.bytes.now a.answers.now asked.before.before.before.before.if1.left (roomy asked front.before.if2.taken) (omega (arith, many counted, judged.before.before.before.if3.true)) (sym judged.is-given.ensures ∙ c.before.if4.false) in
     let x = c.stopped2 in
     (x.ensures.0 ∙ v.says, (x.ensures.1 ∙ v.leads, (ap (state_of a.matrix.now a.rights.now) x.ensures.2 ∙ v.state, v.answers)))
 
@@ -180,7 +180,7 @@ same-length-7 c = search rules
 returns-4 : tie.Need-returns-4
 returns-4 c =
     let counted = c.before.before in let front = front-of-counted counted in let asked = asked-of-front front in let a = (start-of-asked asked).args in
-    let v = stop-answers a.p (state_of a.matrix.now a.rights.now a.t) a.bytes.now a.answers.now asked.before.before.before.before.if1.left (roomy asked front.before.if2.taken) (omega (arith, many counted, c.before.if3.false)) in
+    let v = stop_answers a.p (state_of a.matrix.now a.rights.now a.t) a.bytes.now a.answers.now asked.before.before.before.before.if1.left (roomy asked front.before.if2.taken) (omega (arith, many counted, c.before.if3.false)) in
     let x = c.stopped3 in
     (x.ensures.0 ∙ v.says, (x.ensures.1 ∙ v.leads, (ap (state_of a.matrix.now a.rights.now) x.ensures.2 ∙ v.state, v.answers)))
 
@@ -196,7 +196,7 @@ same-length-9 c = search rules
 returns-5 : tie.Need-returns-5
 returns-5 c =
     let asked = c.before.before in let a = (start-of-asked asked).args in
-    let v = stop-room a.p (state_of a.matrix.now a.rights.now a.t) a.bytes.now a.answers.now asked.before.before.before.before.if1.false (room-is asked ∙ c.before.if2.false) in
+    let v = stop_room a.p (state_of a.matrix.now a.rights.now a.t) a.bytes.now a.answers.now asked.before.before.before.before.if1.false (room_is asked ∙ c.before.if2.false) in
     let x = c.stopped4 in
     (x.ensures.0 ∙ v.says, (x.ensures.1 ∙ v.leads, (ap (state_of a.matrix.now a.rights.now) x.ensures.2 ∙ v.state, v.answers)))
 

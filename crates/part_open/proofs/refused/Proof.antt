@@ -3,7 +3,7 @@
 use mathlib.Core.Path.{refl, ap}
 use native.Mathlib.Omega.{arith}
 use Rattle.byte_section.specs.Section.{and_then}
-use Rattle.part_open.specs.Told.{toldOpening}
+use Rattle.part_open.specs.Told.{told_opening}
 use borrow.Author.Rules.{rules}
 use Rattle.part_open.proofs.refused.Statement.{statement}
 use Rattle.part_open.proofs.refused.Tie as tie
@@ -12,7 +12,7 @@ blank-requires : tie.Need-blank-requires
 blank-requires c κs = search rules
 
 returns : tie.Need-returns
-unfolding toldOpening and_then
+unfolding told_opening and_then
 returns c = (refl, omega (arith, ap (λ h. h.parameters) c.blank.ensures), omega arith, omega arith)
 
 pub refused-spec : {M : Type 1} → statement M

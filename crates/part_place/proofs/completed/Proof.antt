@@ -2,9 +2,9 @@
 -- Assumes nothing.
 use mathlib.Core.Path.{◌≡◌, sym, ap, ap₂, ◌∙◌}
 use Prim.Native.Nat.{◌+◌, ◌*◌, ◌/◌, min}
-use Rattle.part_open.proofs.Said.{opening-read, opening-refused}
+use Rattle.part_open.proofs.Said.{opening_read, opening_refused}
 use Rattle.part_laws.specs.Beginning.{size_of}
-use Rattle.part_place.specs.Looks.{completedBy}
+use Rattle.part_place.specs.Looks.{completed_by}
 use borrow.Author.Rules.{rules}
 use Rattle.part_place.proofs.completed.Statement.{statement}
 use Rattle.part_place.proofs.completed.Tie as tie
@@ -34,10 +34,10 @@ enum-told-2 : tie.Need-enum-told-2
 enum-told-2 c = search rules
 
 returns : tie.Need-returns
-returns c = let a = c.before.before.before.before.before.before.args in c.least.ensures ∙ ap₂ (λ x y. min x (y / (32 + 2 * a.new.heading.parameters))) c.before.before.left.ensures c.before.left2.ensures ∙ ap (completedBy a.taken a.long) (sym (opening-read a.new c.before.before.before.enum_told.given.1))
+returns c = let a = c.before.before.before.before.before.before.args in c.least.ensures ∙ ap₂ (λ x y. min x (y / (32 + 2 * a.new.heading.parameters))) c.before.before.left.ensures c.before.left2.ensures ∙ ap (completed_by a.taken a.long) (sym (opening_read a.new c.before.before.before.enum_told.given.1))
 
 returns-2 : tie.Need-returns-2
-returns-2 c = let a = c.before.before.before.args in ap (completedBy a.taken a.long) (sym (opening-refused a.new c.enum-told2.given.1))
+returns-2 c = let a = c.before.before.before.args in ap (completed_by a.taken a.long) (sym (opening_refused a.new c.enum-told2.given.1))
 
 pub completed-spec : {M : Type 1} → statement M
 completed-spec =

@@ -8,7 +8,7 @@ use lib.ListN.{length, take, length-map}
 use lib.Seq.{length-take-le}
 use Rattle.num_whole.specs.Lists.{padded}
 use Rattle.part_laws.specs.Entries.{position_of}
-use Rattle.part_place.proofs.Looks.{least-take, front_cut}
+use Rattle.part_place.proofs.Looks.{least_take, front_cut}
 use borrow.Author.Rules.{rules}
 use Rattle.part_place.proofs.front_of.Statement.{statement}
 use Rattle.part_place.proofs.front_of.Tie as tie
@@ -46,7 +46,7 @@ returns c =
     let a = d.before.before.before.args in
     let k = d.least in
     let n = c.before.before.before.least2 in
-    let same_bytes : take k.result a.p.kept ≡ (position_of a.p).kept = ap (λ m. take m a.p.kept) k.ensures ∙ least-take a.p.length 1088 a.p.kept (long d) in
+    let same_bytes : take k.result a.p.kept ≡ (position_of a.p).kept = ap (λ m. take m a.p.kept) k.ensures ∙ least_take a.p.length 1088 a.p.kept (long d) in
     let held-long : k.result ≡ length (take k.result a.p.kept) = slice-aggregate-keep c.before.before in
     let many : n.result ≡ min (1088 - length (take k.result a.p.kept)) (length a.bytes.now) = n.ensures ∙ ap (λ m. min (1088 - m) (length a.bytes.now)) held-long in
     record {

@@ -3,7 +3,7 @@
 use borrow.Author.Rules.{rules}
 use mathlib.Core.Path.{◌≡◌, sym, ◌∙◌}
 use Rattle.num_whole.proofs.Cases.{holds, fails}
-use Rattle.take_state.specs.State.{soundState}
+use Rattle.take_state.specs.State.{sound_state}
 use Rattle.part_place.proofs.is_empty.Statement.{statement}
 use Rattle.part_place.proofs.is_empty.Tie as tie
 
@@ -14,11 +14,11 @@ marks-sound-requires : tie.Need-marks-sound-requires
 marks-sound-requires c κs = search rules
 
 returns : tie.Need-returns
-unfolding soundState
+unfolding sound_state
 returns c = holds _ _ (sym c.before.before.sums-empty.ensures ∙ c.before.if1.true) c.marks-sound.ensures
 
 returns-2 : tie.Need-returns-2
-unfolding soundState
+unfolding sound_state
 returns-2 c = fails _ _ (sym c.before.sums-empty.ensures ∙ c.if1.false)
 
 pub is_empty_spec : {M : Type 1} → statement M

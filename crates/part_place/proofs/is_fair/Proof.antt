@@ -2,7 +2,7 @@
 -- Assumes nothing.
 use mathlib.Core.Path.{◌≡◌, sym, ◌∙◌}
 use lib.ListN.{length, length-map}
-use Rattle.part_place.proofs.Looks.{fair-over, fair-on, fair-not}
+use Rattle.part_place.proofs.Looks.{fair_over, fair_on, fair_not}
 use borrow.Author.Rules.{rules}
 use Rattle.part_place.proofs.is_fair.Statement.{statement}
 use Rattle.part_place.proofs.is_fair.Tie as tie
@@ -17,13 +17,13 @@ is-placed-requires : tie.Need-is-placed-requires
 is-placed-requires c κs = search rules
 
 returns : tie.Need-returns
-returns c = let d = c.before.before.before.before in fair-over d.args.p d.args.old (simp length-map at d.well-formed.0.1.1.0.1.0.1) d.requires (sym c.before.before.before.is-tidy.ensures ∙ c.before.before.if1.true) c.before.if2.true c.is-ended.ensures
+returns c = let d = c.before.before.before.before in fair_over d.args.p d.args.old (simp length-map at d.well-formed.0.1.1.0.1.0.1) d.requires (sym c.before.before.before.is-tidy.ensures ∙ c.before.before.if1.true) c.before.if2.true c.is-ended.ensures
 
 returns-2 : tie.Need-returns-2
-returns-2 c = let d = c.before.before.before.before in fair-on d.args.p d.args.old (simp length-map at d.well-formed.0.1.1.0.1.0.1) d.requires (sym c.before.before.before.is-tidy.ensures ∙ c.before.before.if1.true) c.before.if2.false c.is-placed.ensures
+returns-2 c = let d = c.before.before.before.before in fair_on d.args.p d.args.old (simp length-map at d.well-formed.0.1.1.0.1.0.1) d.requires (sym c.before.before.before.is-tidy.ensures ∙ c.before.before.if1.true) c.before.if2.false c.is-placed.ensures
 
 returns-3 : tie.Need-returns-3
-returns-3 c = fair-not _ (sym c.before.is-tidy.ensures ∙ c.if1.false)
+returns-3 c = fair_not _ (sym c.before.is-tidy.ensures ∙ c.if1.false)
 
 pub is-fair-spec : {M : Type 1} → statement M
 is-fair-spec =

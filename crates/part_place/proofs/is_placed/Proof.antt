@@ -1,8 +1,8 @@
 -- `part_place::is_placed` meets its contract.
 -- Assumes nothing.
 use native.Mathlib.Omega.{arith}
-use Rattle.part_open.proofs.Said.{opening-read, opening-refused}
-use Rattle.part_place.proofs.Places.{placed-yes, placed-no, placed_first}
+use Rattle.part_open.proofs.Said.{opening_read, opening_refused}
+use Rattle.part_place.proofs.Places.{placed_yes, placed_no, placed_first}
 use borrow.Author.Rules.{rules}
 use Rattle.part_place.proofs.is_placed.Statement.{statement}
 use Rattle.part_place.proofs.is_placed.Tie as tie
@@ -29,13 +29,13 @@ first-only-requires : tie.Need-first-only-requires
 first-only-requires c κs = search rules
 
 returns : tie.Need-returns
-returns c = placed-yes _ _ _ _ _ (opening-read _ c.before.before.enum_told.given.1) (omega arith) c.limit.ensures.0
+returns c = placed_yes _ _ _ _ _ (opening_read _ c.before.before.enum_told.given.1) (omega arith) c.limit.ensures.0
 
 returns-2 : tie.Need-returns-2
-returns-2 c = placed-no _ _ _ _ (opening-read _ c.before.enum_told.given.1) (omega arith)
+returns-2 c = placed_no _ _ _ _ (opening_read _ c.before.enum_told.given.1) (omega arith)
 
 returns-3 : tie.Need-returns-3
-returns-3 c = placed_first _ _ _ _ _ (opening-refused _ c.before.before.answer.given.1) c.first-only.ensures
+returns-3 c = placed_first _ _ _ _ _ (opening_refused _ c.before.before.answer.given.1) c.first-only.ensures
 
 pub is-placed-spec : {M : Type 1} → statement M
 is-placed-spec =

@@ -6,8 +6,8 @@ use mathlib.Core.Path.{◌≡◌, refl, sym, ◌∙◌}
 use lib.ListN.{length, length-map}
 use Rattle.num_whole.specs.Tests.{same}
 use Rattle.num_whole.specs.Lists.{all, rest}
-use Rattle.num_whole.proofs.Cases.{holds, fails, is_same, not_same, is-upTo, not-upTo}
-use Rattle.num_whole.proofs.Walks.{all_end, all_pass, all-fail}
+use Rattle.num_whole.proofs.Cases.{holds, fails, is_same, not_same, is_up_to, not_up_to}
+use Rattle.num_whole.proofs.Walks.{all_end, all_pass, all_fail}
 use Rattle.part_laws.specs.Entries.{tidy}
 use borrow.Author.Rules.{rules}
 use Rattle.part_place.proofs.is_tidy.Statement.{statement}
@@ -36,15 +36,15 @@ loop-again c = let l = c.before.before.before.loop in (l.invariant.0, l.invarian
 
 returns : tie.Need-returns invariant-loop decreases-loop
 unfolding tidy
-returns c = let l = c.before.before.before.loop in holds _ _ (is-upTo _ _ l.invariant.1) (sym (l.invariant.2 ∙ all-fail _ 1088 l.i (λ b. same b 0) 0 (omega (arith, l.invariant.0)) (omega arith) (not_same _ _ c.if2.false)))
+returns c = let l = c.before.before.before.loop in holds _ _ (is_up_to _ _ l.invariant.1) (sym (l.invariant.2 ∙ all_fail _ 1088 l.i (λ b. same b 0) 0 (omega (arith, l.invariant.0)) (omega arith) (not_same _ _ c.if2.false)))
 
 returns-2 : tie.Need-returns-2 invariant-loop decreases-loop
 unfolding tidy
-returns-2 c = let l = c.before.loop in holds _ _ (is-upTo _ _ l.invariant.1) (sym (l.invariant.2 ∙ all_end _ 1088 l.i (λ b. same b 0) (omega arith)))
+returns-2 c = let l = c.before.loop in holds _ _ (is_up_to _ _ l.invariant.1) (sym (l.invariant.2 ∙ all_end _ 1088 l.i (λ b. same b 0) (omega arith)))
 
 returns-3 : tie.Need-returns-3 invariant-loop decreases-loop
 unfolding tidy
-returns-3 c = fails _ _ (not-upTo _ _ (omega arith))
+returns-3 c = fails _ _ (not_up_to _ _ (omega arith))
 
 pub is-tidy-spec : {M : Type 1} → statement M
 is-tidy-spec =

@@ -3,7 +3,7 @@
 use mathlib.Core.Path.{◌≡◌, sym, ap, ◌∙◌}
 use Rattle.byte_words.specs.Words.{lay}
 use lib.ListN.{length, replicate}
-use Rattle.part_place.proofs.Looks.{kept-so}
+use Rattle.part_place.proofs.Looks.{kept_so}
 use borrow.Author.Rules.{rules}
 use Rattle.part_place.proofs.keep.Statement.{statement}
 use Rattle.part_place.proofs.keep.Tie as tie
@@ -30,7 +30,7 @@ put-run-requires-2 c κs = search rules
 returns : tie.Need-returns
 returns c =
     let others = c.before in let first = first-of-others others in let d = start-of-first first in let a = d.args in
-    kept-so 1088 _ a.first.now a.others.now d.pre (others.put-run2.ensures ∙ ap (λ z. lay z (length a.first.now) a.others.now) first.put-run.ensures)
+    kept_so 1088 _ a.first.now a.others.now d.pre (others.put-run2.ensures ∙ ap (λ z. lay z (length a.first.now) a.others.now) first.put-run.ensures)
 
 pub keep_spec : {M : Type 1} → statement M
 keep_spec =

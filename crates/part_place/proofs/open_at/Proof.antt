@@ -5,7 +5,7 @@ use mathlib.Core.Path.{◌≡◌, sym, ap, ◌∙◌}
 use lib.ListN.{length, take, length-map}
 use lib.Seq.{length-take-le}
 use Rattle.part_laws.specs.Beginning.{opened}
-use Rattle.part_place.proofs.Looks.{least-take}
+use Rattle.part_place.proofs.Looks.{least_take}
 use borrow.Author.Rules.{rules}
 use Rattle.part_place.proofs.open_at.Statement.{statement}
 use Rattle.part_place.proofs.open_at.Tie as tie
@@ -31,7 +31,7 @@ returns c =
     let o = c.«open» in
     let n = c.before.before.least in
     record {
-      told = o.ensures.0 ∙ ap opened (ap (λ k. take k p.kept) n.ensures ∙ least-take p.length 1088 p.kept (long c.before.before));
+      told = o.ensures.0 ∙ ap opened (ap (λ k. take k p.kept) n.ensures ∙ least_take p.length 1088 p.kept (long c.before.before));
       few = o.ensures.1;
       start = omega (arith, o.ensures.2, slice-aggregate-open c.before, n.ensures);
       count = o.ensures.3;

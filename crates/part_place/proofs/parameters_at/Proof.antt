@@ -4,8 +4,8 @@ use native.Mathlib.Omega.{arith}
 use mathlib.Core.Path.{◌≡◌, sym, ap, ◌∙◌}
 use lib.ListN.{length, take, length-map}
 use lib.Seq.{length-take-le}
-use Rattle.part_laws.specs.Entries.{parametersIn}
-use Rattle.part_place.proofs.Looks.{least-take}
+use Rattle.part_laws.specs.Entries.{parameters_in}
+use Rattle.part_place.proofs.Looks.{least_take}
 use borrow.Author.Rules.{rules}
 use Rattle.part_place.proofs.parameters_at.Statement.{statement}
 use Rattle.part_place.proofs.parameters_at.Tie as tie
@@ -29,7 +29,7 @@ returns : tie.Need-returns
 returns c =
     let p = c.before.before.before.before.args.p in
     let n = c.before.before.least in
-    c.parameters-in.ensures ∙ ap parametersIn (ap (λ k. take k p.kept) n.ensures ∙ least-take p.length 1088 p.kept (long c.before.before))
+    c.parameters-in.ensures ∙ ap parameters_in (ap (λ k. take k p.kept) n.ensures ∙ least_take p.length 1088 p.kept (long c.before.before))
 
 pub parameters-at-spec : {M : Type 1} → statement M
 parameters-at-spec =

@@ -1,9 +1,9 @@
 -- `part_place::parameters_in` meets its contract.
 -- Assumes nothing.
 use mathlib.Core.Path.{sym, ap, ◌∙◌}
-use Rattle.byte_section.specs.Section.{toldCount}
-use Rattle.arc_kinds.specs.Told.{toldSettings}
-use Rattle.part_place.proofs.Heads.{parameters-are, parameters-not, settings-not}
+use Rattle.byte_section.specs.Section.{told_count}
+use Rattle.arc_kinds.specs.Told.{told_settings}
+use Rattle.part_place.proofs.Heads.{parameters_are, parameters_not, settings_not}
 use borrow.Author.Rules.{rules}
 use Rattle.part_place.proofs.parameters_in.Statement.{statement}
 use Rattle.part_place.proofs.parameters_in.Tie as tie
@@ -27,13 +27,13 @@ enum-told-3 : tie.Need-enum-told-3
 enum-told-3 c = search rules
 
 returns : tie.Need-returns
-returns c = parameters-are _ _ _ (sym c.before.before.before.before.before.before.read-settings.ensures ∙ ap toldSettings c.before.before.before.before.enum_told.given.1) (sym c.before.before.before.read_count.ensures ∙ ap toldCount c.before.n.given.1)
+returns c = parameters_are _ _ _ (sym c.before.before.before.before.before.before.read-settings.ensures ∙ ap told_settings c.before.before.before.before.enum_told.given.1) (sym c.before.before.before.read_count.ensures ∙ ap told_count c.before.n.given.1)
 
 returns-2 : tie.Need-returns-2
-returns-2 c = parameters-not _ _ _ _ (sym c.before.before.before.before.before.read-settings.ensures ∙ ap toldSettings c.before.before.before.enum_told.given.1) (sym c.before.before.read_count.ensures ∙ ap toldCount c.enum-told2.given.1)
+returns-2 c = parameters_not _ _ _ _ (sym c.before.before.before.before.before.read-settings.ensures ∙ ap told_settings c.before.before.before.enum_told.given.1) (sym c.before.before.read_count.ensures ∙ ap told_count c.enum-told2.given.1)
 
 returns-3 : tie.Need-returns-3
-returns-3 c = settings-not _ _ _ (sym c.before.before.read-settings.ensures ∙ ap toldSettings c.enum-told3.given.1)
+returns-3 c = settings_not _ _ _ (sym c.before.before.read-settings.ensures ∙ ap told_settings c.enum-told3.given.1)
 
 pub parameters-in-spec : {M : Type 1} → statement M
 parameters-in-spec =

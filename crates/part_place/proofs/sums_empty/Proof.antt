@@ -3,12 +3,12 @@
 use mathlib.Core.Path.{◌≡◌, sym, ap, ◌∙◌}
 use lib.ListN.{length, length-map}
 use lib.IntN.{pos}
-use Rattle.num_packed.specs.Found.{toldWalked, firstFrom, columnsFrom}
-use Rattle.num_packed.specs.Sound.{breaks, breaksSide}
+use Rattle.num_packed.specs.Found.{told_walked, first_from, columns_from}
+use Rattle.num_packed.specs.Sound.{breaks, breaks_side}
 use Rattle.num_packed.specs.declared.Walked.TheVariants.{Sound, Unsound}
 use Rattle.take_state.specs.State.{state_of}
-use Rattle.take_state.proofs.Judged.{matrix-pass, matrix-fail, rights-pass, rights-fail}
-use Rattle.part_place.proofs.Heads.{empty-yes, empty-no, empty-not}
+use Rattle.take_state.proofs.Judged.{matrix_pass, matrix_fail, rights_pass, rights_fail}
+use Rattle.part_place.proofs.Heads.{empty_yes, empty_no, empty_not}
 use borrow.Author.Rules.{rules}
 use Rattle.part_place.proofs.sums_empty.Statement.{statement}
 use Rattle.part_place.proofs.sums_empty.Tie as tie
@@ -50,20 +50,20 @@ enum-told-4 c = search rules
 returns : tie.Need-returns
 returns c =
     let sides = c.before.before in let sums = sums-of-sides sides in let tally = tally-of-sums sums in let d = start-of-tally tally in let a = d.args in
-    empty-yes a.parameters (state_of a.matrix.now a.rights.now a.t) (long d) (sym tally.tally-sound.ensures ∙ sums.before.if1.taken) (matrix-pass _ _ _ (sym sums.first-unsound.ensures ∙ ap toldWalked sides.before.enum_told.given.1)) (sym (rights-pass _ _ _ _ (sym sides.first-broken-side.ensures ∙ ap toldWalked c.enum-told2.given.1)))
+    empty_yes a.parameters (state_of a.matrix.now a.rights.now a.t) (long d) (sym tally.tally-sound.ensures ∙ sums.before.if1.taken) (matrix_pass _ _ _ (sym sums.first-unsound.ensures ∙ ap told_walked sides.before.enum_told.given.1)) (sym (rights_pass _ _ _ _ (sym sides.first-broken-side.ensures ∙ ap told_walked c.enum-told2.given.1)))
 
 returns-2 : tie.Need-returns-2
 returns-2 c =
     let sides = c.before.before in let sums = sums-of-sides sides in let tally = tally-of-sums sums in let d = start-of-tally tally in let a = d.args in
-    empty-yes a.parameters (state_of a.matrix.now a.rights.now a.t) (long d) (sym tally.tally-sound.ensures ∙ sums.before.if1.taken) (matrix-pass _ _ _ (sym sums.first-unsound.ensures ∙ ap toldWalked sides.before.enum_told.given.1)) (sym (rights-fail _ _ _ _ _ (sym sides.first-broken-side.ensures ∙ ap toldWalked c.enum-told3.given.1)))
+    empty_yes a.parameters (state_of a.matrix.now a.rights.now a.t) (long d) (sym tally.tally-sound.ensures ∙ sums.before.if1.taken) (matrix_pass _ _ _ (sym sums.first-unsound.ensures ∙ ap told_walked sides.before.enum_told.given.1)) (sym (rights_fail _ _ _ _ _ (sym sides.first-broken-side.ensures ∙ ap told_walked c.enum-told3.given.1)))
 
 returns-3 : tie.Need-returns-3
 returns-3 c =
     let sums = c.before.before in let tally = tally-of-sums sums in let d = start-of-tally tally in let a = d.args in
-    empty-no a.parameters (state_of a.matrix.now a.rights.now a.t) (long d) (sym tally.tally-sound.ensures ∙ sums.before.if1.true) (matrix-fail _ _ _ _ (sym sums.first-unsound.ensures ∙ ap toldWalked c.enum-told4.given.1))
+    empty_no a.parameters (state_of a.matrix.now a.rights.now a.t) (long d) (sym tally.tally-sound.ensures ∙ sums.before.if1.true) (matrix_fail _ _ _ _ (sym sums.first-unsound.ensures ∙ ap told_walked c.enum-told4.given.1))
 
 returns-4 : tie.Need-returns-4
-returns-4 c = let d = start-of-tally c.before in let a = d.args in empty-not a.parameters (state_of a.matrix.now a.rights.now a.t) (long d) (sym c.before.tally-sound.ensures ∙ c.if1.false)
+returns-4 c = let d = start-of-tally c.before in let a = d.args in empty_not a.parameters (state_of a.matrix.now a.rights.now a.t) (long d) (sym c.before.tally-sound.ensures ∙ c.if1.false)
 
 pub sums-empty-spec : {M : Type 1} → statement M
 sums-empty-spec =

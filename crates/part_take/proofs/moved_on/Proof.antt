@@ -8,10 +8,10 @@ use mathlib.Core.List.{List, ◌++◌}
 use lib.ListN.{length, take, drop, length-drop}
 use lib.Seq.{take_all, length-take-le}
 use Rattle.num_whole.specs.Lists.{padded}
-use Rattle.arc_kinds.specs.Kinds.{recordSize}
-use Rattle.part_laws.specs.Entries.{positionMost}
+use Rattle.arc_kinds.specs.Kinds.{record_size}
+use Rattle.part_laws.specs.Entries.{position_most}
 use Rattle.part_place.proofs.Ends.{small}
-use Rattle.part_take.proofs.Moves.{goes-surplus, goes_none, more, rest-fits, goes_some}
+use Rattle.part_take.proofs.Moves.{goes_surplus, goes_none, more, rest_fits, goes_some}
 use borrow.Author.Rules.{rules}
 use Rattle.part_take.proofs.moved_on.Statement.{statement}
 use Rattle.part_take.proofs.moved_on.Tie as tie
@@ -50,7 +50,7 @@ ended-requires : tie.Need-ended-requires
 ended-requires c κs = search rules
 
 returns : tie.Need-returns
-returns c = let d = c.before.before.before.before in let a = d.args in let q = d.requires.1 in let v = goes-surplus a.h a.count a.start a.t4 a.len a.taken a.n a.bytes.now d.requires.0 (room d) q.0 q.2 (omega arith) in (v.0, c.ended.ensures ∙ v.1)
+returns c = let d = c.before.before.before.before in let a = d.args in let q = d.requires.1 in let v = goes_surplus a.h a.count a.start a.t4 a.len a.taken a.n a.bytes.now d.requires.0 (room d) q.0 q.2 (omega arith) in (v.0, c.ended.ensures ∙ v.1)
 
 returns-2 : tie.Need-returns-2
 returns-2 c = let d = c.before.before.before.before in let a = d.args in let q = d.requires.1 in goes_none a.h a.count a.start a.t4 a.len a.taken a.n a.bytes.now d.requires.0 (room d) q.0 q.2 (omega arith) (omega arith)
@@ -83,7 +83,7 @@ part-keep-end : tie.Need-slice-bounds-keep-end
 part-keep-end c = search rules
 
 keep-requires : tie.Need-keep-requires
-keep-requires c κs = let d = c.before.before.before.before.before.before in let a = d.args in let q = d.requires.1 in let upto = a.start + a.n * recordSize a.h.parameters - a.len in omega (arith, rest-fits a.h a.count a.start a.t4 a.len a.taken a.n a.bytes.now d.requires.0 (room d) q.0 q.2 (omega arith) (omega arith), ap length (rest_all a.bytes.now upto), slice-aggregate-keep c.before)
+keep-requires c κs = let d = c.before.before.before.before.before.before in let a = d.args in let q = d.requires.1 in let upto = a.start + a.n * record_size a.h.parameters - a.len in omega (arith, rest_fits a.h a.count a.start a.t4 a.len a.taken a.n a.bytes.now d.requires.0 (room d) q.0 q.2 (omega arith) (omega arith), ap length (rest_all a.bytes.now upto), slice-aggregate-keep c.before)
 
 add-t18 : tie.Need-overflow-add-t18
 add-t18 c = search rules
@@ -93,11 +93,11 @@ returns-3 c =
     let d = c.before.before.before.before.before.before.before in
     let a = d.args in
     let q = d.requires.1 in
-    let upto = a.start + a.n * recordSize a.h.parameters - a.len in
+    let upto = a.start + a.n * record_size a.h.parameters - a.len in
     let v = goes_some a.h a.count a.start a.t4 a.len a.taken a.n a.bytes.now d.requires.0 (room d) q.0 q.2 (omega arith) (omega arith) in (
       v.0,
       ap₂ (λ k z. record { kept = z; length = a.start + k; taken = a.taken + a.n; over = false })
-          (sym (length-drop upto a.bytes.now)) (c.keep.ensures ∙ ap (λ z. padded positionMost 0 (take a.start a.t4 ++ z)) (rest_all a.bytes.now upto))
+          (sym (length-drop upto a.bytes.now)) (c.keep.ensures ∙ ap (λ z. padded position_most 0 (take a.start a.t4 ++ z)) (rest_all a.bytes.now upto))
           ∙ v.1,
     )
 

@@ -5,13 +5,13 @@ use Prim.Native.Nat.{ℕ, suc, ◌+◌, ◌-◌, ◌*◌, ◌≤◌}
 use mathlib.Core.Path.{◌≡◌, refl, sym, ap, ap₂, ◌∙◌}
 use mathlib.Core.List.{[], ◌∷◌}
 use lib.ListN.{length, take, drop, length-map, length-take, length-drop}
-use Rattle.arc_kinds.specs.Kinds.{recordSize}
+use Rattle.arc_kinds.specs.Kinds.{record_size}
 use Rattle.byte_words.specs.Words.{lay}
 use Rattle.take_state.specs.State.{state_of}
 use Rattle.take_laws.specs.Machine.{run, answers}
-use Rattle.take_laws.specs.Taking.{frame_of, recordAnswer, recordStep, cut}
-use Rattle.take_lent.proofs.Entries.{few-parameters}
-use Rattle.part_take.proofs.Dones.{low, inside-others, none_done, some-done}
+use Rattle.take_laws.specs.Taking.{frame_of, record_answer, record_step, cut}
+use Rattle.take_lent.proofs.Entries.{few_parameters}
+use Rattle.part_take.proofs.Dones.{low, inside_others, none_done, some_done}
 use borrow.Author.Rules.{rules}
 use Rattle.part_take.proofs.take_done.Statement.{statement}
 use Rattle.part_take.proofs.take_done.Tie as tie
@@ -27,7 +27,7 @@ some-of-taken c = c.before.before.before.before.before.before.before
 record Numbers (c : tie.After-struct-known) : Type 0 where
   few : (start-of-some c).args.h.parameters ≤ 50
   start : (start-of-some c).args.start ≤ 956
-  rest : (start-of-some c).args.start + (((start-of-some c).args.n - 1) * recordSize (start-of-some c).args.h.parameters + recordSize (start-of-some c).args.h.parameters) ≤ (start-of-some c).args.len + length (start-of-some c).args.bytes.now
+  rest : (start-of-some c).args.start + (((start-of-some c).args.n - 1) * record_size (start-of-some c).args.h.parameters + record_size (start-of-some c).args.h.parameters) ≤ (start-of-some c).args.len + length (start-of-some c).args.bytes.now
 
 room : (c : tie.After-struct-known) → length (start-of-some c).args.t4 ≡ 1088
 room c = (start-of-some c).well-formed.1.1.1.0.1.0.1
@@ -37,9 +37,9 @@ numbers c =
     let a = (start-of-some c).args in
     let pre = (start-of-some c).requires in
     record {
-      few = few-parameters a.h (state_of a.matrix.now a.rights.now a.t) pre.0;
+      few = few_parameters a.h (state_of a.matrix.now a.rights.now a.t) pre.0;
       start = low a.h a.count a.start a.t4 a.len a.taken a.n a.bytes.now pre.1.0 (room c);
-      rest = inside-others a.h a.count a.start a.t4 a.len a.taken a.n a.bytes.now pre.1.0 (room c) (a.n - 1) (omega arith);
+      rest = inside_others a.h a.count a.start a.t4 a.len a.taken a.n a.bytes.now pre.1.0 (room c) (a.n - 1) (omega arith);
     }
 
 returns : tie.Need-returns
@@ -47,8 +47,8 @@ unfolding run answers lay
 returns c =
     let a = c.before.before.before.args in
     let e = none_done a.h a.count a.start a.t4 a.len a.taken a.n a.bytes.now c.before.before.before.requires.1.0 c.before.before.before.well-formed.1.1.1.0.1.0.1 (omega arith) in (
-      ap (run (recordStep (frame_of a.h)) (state_of a.matrix.now a.rights.now a.t)) e,
-      ap (λ x. lay a.answers.now 0 (answers (recordStep (frame_of a.h)) (recordAnswer (frame_of a.h)) (state_of a.matrix.now a.rights.now a.t) x)) e,
+      ap (run (record_step (frame_of a.h)) (state_of a.matrix.now a.rights.now a.t)) e,
+      ap (λ x. lay a.answers.now 0 (answers (record_step (frame_of a.h)) (record_answer (frame_of a.h)) (state_of a.matrix.now a.rights.now a.t) x)) e,
     )
 
 mul-size : tie.Need-overflow-mul-size
@@ -106,16 +106,16 @@ returns-2 : tie.Need-returns-2
 returns-2 c =
     let taken = c.before.before.before.before in let some = some-of-taken taken in let d = start-of-some some in let a = d.args in
     let m = numbers some in
-    let size = recordSize a.h.parameters in
+    let size = record_size a.h.parameters in
     let k = a.n - 1 in
     let s = state_of a.matrix.now a.rights.now a.t in
     let one : a.start + size - a.start ≡ size = omega arith in
     let others : a.start + size - a.len + k * size - (a.start + size - a.len) ≡ k * size = omega arith in
     let e = ap₂ (λ i j. take i (drop a.start a.t4) ∷ cut size k (take j (drop (a.start + size - a.len) a.bytes.now))) one others
-    ∙ some-done a.h a.count a.start a.t4 a.len a.taken a.n a.bytes.now d.pre.1.0 (room some) k (omega (arith, some.before.if1.left)) m.few in
+    ∙ some_done a.h a.count a.start a.t4 a.len a.taken a.n a.bytes.now d.pre.1.0 (room some) k (omega (arith, some.before.if1.left)) m.few in
     let r = taken.take-records in (
-      r.ensures.0 ∙ ap (run (recordStep (frame_of a.h)) s) e,
-      r.ensures.1 ∙ ap (λ x. lay a.answers.now 0 (answers (recordStep (frame_of a.h)) (recordAnswer (frame_of a.h)) s x)) e,
+      r.ensures.0 ∙ ap (run (record_step (frame_of a.h)) s) e,
+      r.ensures.1 ∙ ap (λ x. lay a.answers.now 0 (answers (record_step (frame_of a.h)) (record_answer (frame_of a.h)) s x)) e,
     )
 
 pub take-done-spec : {M : Type 1} → statement M

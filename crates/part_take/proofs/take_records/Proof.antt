@@ -7,7 +7,7 @@ use lib.ListN.{length, take, length-map}
 use lib.Seq.{length-take-le}
 use Rattle.take_state.specs.State.{state_of}
 use Rattle.take_laws.proofs.Guarded.{Held}
-use Rattle.part_take.proofs.Taken.{one_none, others-none, two-states, two-answers, two-room}
+use Rattle.part_take.proofs.Taken.{one_none, others_none, two_states, two_answers, two_room}
 use borrow.Author.Rules.{rules}
 use Rattle.part_take.proofs.take_records.Statement.{statement}
 use Rattle.part_take.proofs.take_records.Tie as tie
@@ -56,7 +56,7 @@ part-run-sound-end c = search rules
 run-sound-requires-2 : tie.Need-run-sound-requires-2
 run-sound-requires-2 c κs =
     let first = first-of-lent c in let d = start-of-first first in let a = d.args in let o = first.run_sound in
-    others-none a.h a.one.now a.run.now a.n _ (held d) d.pre.1.0 d.pre.1.1 _ _ _ (single d) (two-room a.h a.one.now a.run.now a.n _ (held d) d.pre.1.0 d.pre.1.1 a.answers.now _ d.pre.1.2 o.ensures.1) o.ensures.0
+    others_none a.h a.one.now a.run.now a.n _ (held d) d.pre.1.0 d.pre.1.1 _ _ _ (single d) (two_room a.h a.one.now a.run.now a.n _ (held d) d.pre.1.0 d.pre.1.1 a.answers.now _ d.pre.1.2 o.ensures.1) o.ensures.0
 
 same_length : tie.Need-same-length
 same_length c = search rules
@@ -74,8 +74,8 @@ returns c =
     let v = held d in
     let one = first.run_sound in
     let two = others.run-sound2 in (
-      two-states a.h a.one.now a.run.now a.n _ v pre.1.0 pre.1.1 _ _ _ _ (single d) (two-room a.h a.one.now a.run.now a.n _ v pre.1.0 pre.1.1 a.answers.now _ pre.1.2 one.ensures.1) one.ensures.0 two.ensures.0,
-      two-answers a.h a.one.now a.run.now a.n _ v pre.1.0 pre.1.1 a.answers.now _ _ _ _ pre.1.2 (single d) one.ensures.0 one.ensures.1 two.ensures.1,
+      two_states a.h a.one.now a.run.now a.n _ v pre.1.0 pre.1.1 _ _ _ _ (single d) (two_room a.h a.one.now a.run.now a.n _ v pre.1.0 pre.1.1 a.answers.now _ pre.1.2 one.ensures.1) one.ensures.0 two.ensures.0,
+      two_answers a.h a.one.now a.run.now a.n _ v pre.1.0 pre.1.1 a.answers.now _ _ _ _ pre.1.2 (single d) one.ensures.0 one.ensures.1 two.ensures.1,
     )
 
 pub take-records-spec : {M : Type 1} → statement M

@@ -3,8 +3,8 @@
 use mathlib.Core.Path.{sym, ap, ◌∙◌}
 use Rattle.take_state.specs.State.{state_of}
 use Rattle.refusal.specs.First.{answered}
-use Rattle.refusal.proofs.Firsts.{answered-by}
-use Rattle.take.proofs.Answers.{none-by, some-by, sound-answer, sound-step, refused-answer, refused-step}
+use Rattle.refusal.proofs.Firsts.{answered_by}
+use Rattle.take.proofs.Answers.{none_by, some_by, sound_answer, sound_step, refused_answer, refused_step}
 use borrow.Author.Rules.{rules}
 use Rattle.take.proofs.take.Statement.{statement}
 use Rattle.take.proofs.take.Tie as tie
@@ -20,7 +20,7 @@ enum_told : tie.Need-enum-told
 enum_told c = search rules
 
 take-sound-requires : tie.Need-take-sound-requires
-take-sound-requires c κs = none-by _ _ c.before.before.before.before.judge-state.ensures c.before.before.enum_told.given.1
+take-sound-requires c κs = none_by _ _ c.before.before.before.before.judge-state.ensures c.before.before.enum_told.given.1
 
 enum-known-e : tie.Need-enum-known-e
 enum-known-e c = search rules
@@ -35,8 +35,8 @@ returns : tie.Need-returns
 returns c =
     let a = (start-of-sound c.before.before.before.before.before).args in
     let s = state_of a.matrix.now a.rights.now a.t in
-    let e = none-by _ _ c.before.before.before.before.before.before.before.judge-state.ensures c.before.before.before.before.before.enum_told.given.1 in
-    (c.before.before.take-sound.ensures.0 ∙ ap (λ k. answered k tt) (sym (sound-answer a.h a.bytes.now s e)), c.before.before.take-sound.ensures.1 ∙ sym (sound-step a.h a.bytes.now s e))
+    let e = none_by _ _ c.before.before.before.before.before.before.before.judge-state.ensures c.before.before.before.before.before.enum_told.given.1 in
+    (c.before.before.take-sound.ensures.0 ∙ ap (λ k. answered k tt) (sym (sound_answer a.h a.bytes.now s e)), c.before.before.take-sound.ensures.1 ∙ sym (sound_step a.h a.bytes.now s e))
 
 same-length-3 : tie.Need-same-length-3
 same-length-3 c = search rules
@@ -49,8 +49,8 @@ returns-2 c =
     let a = c.before.before.before.before.before.before.before.args in
     let s = state_of a.matrix.now a.rights.now a.t in
     let r = c.before.e.given.0.0 in
-    let e = some-by _ _ r c.before.before.before.judge-state.ensures c.before.e.given.1 in
-    (answered-by _ tt r (refused-answer a.h a.bytes.now s r e), sym (refused-step a.h a.bytes.now s r e))
+    let e = some_by _ _ r c.before.before.before.judge-state.ensures c.before.e.given.1 in
+    (answered_by _ tt r (refused_answer a.h a.bytes.now s r e), sym (refused_step a.h a.bytes.now s r e))
 
 pub take_spec : {M : Type 1} → statement M
 take_spec =

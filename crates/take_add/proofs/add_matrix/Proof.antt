@@ -11,23 +11,23 @@ use borrow.Author.Rules.{rules}
 use lib.IntN.{ℤ, pos, ◌*ℤ◌}
 use lib.ListN.{length, get_or, take, set}
 use lib.Seq.{take_all}
-use Rattle.take_marks.specs.Marks.{withMark, marksWith}
-use Rattle.take_marks.proofs.Lists.{marks-length}
-use Rattle.take_marks.proofs.Partials.{marks-none, marks-more}
+use Rattle.take_marks.specs.Marks.{with_mark, marks_with}
+use Rattle.take_marks.proofs.Lists.{marks_length}
+use Rattle.take_marks.proofs.Partials.{marks_none, marks_more}
 use borrow.Rule.Slice.PartMut.{mid_len}
 use mir.Syntax.{w16, w64}
 use mir.Val.{to_z, of_z}
 use mir.ValLaws.{to_z-of_z}
 use Rattle.num_whole.specs.Sums.{plus}
-use Rattle.num_packed.specs.Triangle.{triangleTerms, columns, tri}
-use Rattle.take_add.proofs.Lists.{Adding, columns-start, columns-turn, columns-end, part-within}
-use Rattle.num_packed.proofs.Places.{tri-next, tri-within}
+use Rattle.num_packed.specs.Triangle.{triangle_terms, columns, tri}
+use Rattle.take_add.proofs.Lists.{Adding, columns_start, columns_turn, columns_end, part_within}
+use Rattle.num_packed.proofs.Places.{tri_next, tri_within}
 use Rattle.take_add.proofs.add_matrix.Statement.{statement}
 use Rattle.take_add.proofs.add_matrix.Tie as tie
 
 abbrev invariant-loop : tie.invariant-loop
 invariant-loop sums₀ a w marks₀ row j₀ k₀ sums marks j k =
-    (j ≤ length a) × ((k ≡ tri j) × Adding (plus sums₀ (triangleTerms (pos w) a)) sums₀ sums k (columns (pos w) a j (length a - j))) × (marks ≡ marksWith row (take j a) marks₀)
+    (j ≤ length a) × ((k ≡ tri j) × Adding (plus sums₀ (triangle_terms (pos w) a)) sums₀ sums k (columns (pos w) a j (length a - j))) × (marks ≡ marks_with row (take j a) marks₀)
 
 abbrev decreases-loop : tie.decreases-loop
 decreases-loop sums₀ a w marks₀ row j₀ k₀ sums marks j k = length a - j
@@ -47,7 +47,7 @@ inside-of-partial c = inside-of-scale (scale-of-partial c)
 
 loop-holds : tie.Need-loop-init invariant-loop decreases-loop
 unfolding tri
-loop-holds c = let a = c.before.args in (omega arith, (refl, columns-start (pos a.w) a.a.now a.sums.now), sym (marks-none a.row a.a.now a.marks.now))
+loop-holds c = let a = c.before.args in (omega arith, (refl, columns_start (pos a.w) a.a.now a.sums.now), sym (marks_none a.row a.a.now a.marks.now))
 
 mul-x : tie.Need-overflow-mul-x invariant-loop decreases-loop
 mul-x c = omega arith
@@ -56,19 +56,19 @@ shared-slice-copy-out-x : tie.Need-shared-slice-copy-out-x invariant-loop decrea
 shared-slice-copy-out-x c = omega arith
 
 -- one partial more: its mark
-marked : (row : ℕ) (a : List ℤ) (marks m : List ℕ) (j : ℕ) → m ≡ marksWith row (take j a) marks → j < length a → j < length marks → (r : ℕ)
-    → r ≡ pick (is_zero (get_or a j (pos 0))) (get_or m j 0) (withMark (get_or m j 0) row) → set m j r ≡ marksWith row (take (j + 1) a) marks
+marked : (row : ℕ) (a : List ℤ) (marks m : List ℕ) (j : ℕ) → m ≡ marks_with row (take j a) marks → j < length a → j < length marks → (r : ℕ)
+    → r ≡ pick (is_zero (get_or a j (pos 0))) (get_or m j 0) (with_mark (get_or m j 0) row) → set m j r ≡ marks_with row (take (j + 1) a) marks
 marked row a marks m j e h g r v =
     ap (set m j) v
-    ∙ ap (λ n. set n j (pick (is_zero (get_or a j (pos 0))) (get_or n j 0) (withMark (get_or n j 0) row))) e
-    ∙ marks-more row a marks j h g ∙ ap (λ n. marksWith row (take n a) marks) (sym (add-one j))
+    ∙ ap (λ n. set n j (pick (is_zero (get_or a j (pos 0))) (get_or n j 0) (with_mark (get_or n j 0) row))) e
+    ∙ marks_more row a marks j h g ∙ ap (λ n. marks_with row (take n a) marks) (sym (add-one j))
 
 -- the place of a partial is one of the marks'
-marks-long : (c : tie.In-loop invariant-loop decreases-loop) → length c.before.loop.marks ≡ length (start-of-inside c).args.marks.now
-marks-long c = ap length c.before.loop.invariant.2 ∙ marks-length _ _ _
+marks_long : (c : tie.In-loop invariant-loop decreases-loop) → length c.before.loop.marks ≡ length (start-of-inside c).args.marks.now
+marks_long c = ap length c.before.loop.invariant.2 ∙ marks_length _ _ _
 
 few : (c : tie.In-loop invariant-loop decreases-loop) → c.before.loop.j < length c.before.loop.marks
-few c = omega (arith, marks-long c, (start-of-inside c).requires.1.1.0.0)
+few c = omega (arith, marks_long c, (start-of-inside c).requires.1.1.0.0)
 
 fifty : (c : tie.In-loop invariant-loop decreases-loop) → c.before.loop.j < 50
 fifty c = omega (arith, (start-of-inside c).requires.1.0.1)
@@ -100,7 +100,7 @@ factor c =
 room : (c : tie.In-loop invariant-loop decreases-loop) → c.before.loop.k + c.before.loop.j + 1 ≤ length c.before.loop.sums
 room c =
     let s = start-of-inside c in
-    omega (arith, s.pre.0, tri-within c.before.loop.j (length s.args.a.now) (omega arith))
+    omega (arith, s.pre.0, tri_within c.before.loop.j (length s.args.a.now) (omega arith))
 
 scale-requires : tie.Need-scale-requires invariant-loop decreases-loop
 scale-requires c κs = (start-of-inside c.before).pre.1.0.0
@@ -130,7 +130,7 @@ add-times-requires c κs =
       rw (mid_len l.k (l.k + l.j + 1) l.sums (room inside)) (omega arith),
       (
         rw (to_z-of_z w64 scaled.scale.result (search rules)) scaled.scale.ensures.1,
-        part-within (plus s.args.sums.now (triangleTerms (pos s.args.w) s.args.a.now)) s.args.sums.now l.sums l.k (l.k + l.j + 1 - l.k) (2 ^ 62) (columns (pos s.args.w) s.args.a.now l.j (length s.args.a.now - l.j)) l.inv.1.1 s.pre.1.1.1,
+        part_within (plus s.args.sums.now (triangle_terms (pos s.args.w) s.args.a.now)) s.args.sums.now l.sums l.k (l.k + l.j + 1 - l.k) (2 ^ 62) (columns (pos s.args.w) s.args.a.now l.j (length s.args.a.now - l.j)) l.inv.1.1 s.pre.1.1.1,
       ),
     )
 
@@ -146,26 +146,26 @@ loop-again c =
     let s = start-of-inside inside in (
       omega arith,
       (
-        omega (arith, tri-next l.j),
-        columns-turn (pos s.args.w) s.args.a.now _ s.args.sums.now l.sums l.j l.k (to_z w64 (of_z w64 scaled.scale.result)) added.add_times.new.0
+        omega (arith, tri_next l.j),
+        columns_turn (pos s.args.w) s.args.a.now _ s.args.sums.now l.sums l.j l.k (to_z w64 (of_z w64 scaled.scale.result)) added.add_times.new.0
             (omega arith) (room inside) (factor scaled) added.add_times.ensures l.inv.1.1,
       ),
       marked s.args.row s.args.a.now s.args.marks.now l.marks l.j l.inv.2 (omega arith) (omega (arith, s.pre.1.1.0.0)) _
-          (partial.with-partial.ensures ∙ ap (λ x. pick (is_zero x) (get_or l.marks l.j 0) (withMark (get_or l.marks l.j 0) s.args.row)) (to_z-of_z w16 (get_or s.args.a.now l.j (pos 0)) (search rules))),
+          (partial.with-partial.ensures ∙ ap (λ x. pick (is_zero x) (get_or l.marks l.j 0) (with_mark (get_or l.marks l.j 0) s.args.row)) (to_z-of_z w16 (get_or s.args.a.now l.j (pos 0)) (search rules))),
     )
 
 same_length : tie.Need-same-length invariant-loop decreases-loop
 same_length c = c.before.loop.invariant.1.1.0
 
 same-length-2 : tie.Need-same-length-2 invariant-loop decreases-loop
-same-length-2 c = ap length c.before.loop.invariant.2 ∙ marks-length _ _ _
+same-length-2 c = ap length c.before.loop.invariant.2 ∙ marks_length _ _ _
 
 returns : tie.Need-returns invariant-loop decreases-loop
 returns c =
     let l = c.before.loop in
     let s = c.before.before.before in (
-      columns-end (pos s.args.w) s.args.a.now _ s.args.sums.now l.sums l.j l.k (omega arith) l.invariant.1.1,
-      l.invariant.2 ∙ ap (λ x. marksWith s.args.row x s.args.marks.now) (take_all l.j s.args.a.now (omega arith)),
+      columns_end (pos s.args.w) s.args.a.now _ s.args.sums.now l.sums l.j l.k (omega arith) l.invariant.1.1,
+      l.invariant.2 ∙ ap (λ x. marks_with s.args.row x s.args.marks.now) (take_all l.j s.args.a.now (omega arith)),
     )
 
 pub add-matrix-spec : {M : Type 1} → statement M

@@ -10,7 +10,7 @@ use mir.Val.{to_z, of_z}
 use mir.ValLaws.{to_z-of_z}
 use Rattle.num_whole.specs.Sums.{plus}
 use Rattle.num_packed.specs.Triangle.{times}
-use Rattle.take_add.proofs.Lists.{Adding, adding-starts, adding-small, adding-full, times-turn}
+use Rattle.take_add.proofs.Lists.{Adding, adding_starts, adding_small, adding_full, times_turn}
 use Rattle.take_add.proofs.add_times.Statement.{statement}
 use Rattle.take_add.proofs.add_times.Tie as tie
 
@@ -25,7 +25,7 @@ abbrev start-of-turn : tie.At-loop invariant-loop decreases-loop → tie.Start i
 start-of-turn c = c.before
 
 loop-holds : tie.Need-loop-init invariant-loop decreases-loop
-loop-holds c = (omega arith, adding-starts c.args.part.now (times (to_z w64 (of_z w64 c.args.f)) c.args.a.now))
+loop-holds c = (omega arith, adding_starts c.args.part.now (times (to_z w64 (of_z w64 c.args.f)) c.args.a.now))
 
 sub-loop : tie.Need-overflow-sub-loop invariant-loop decreases-loop
 sub-loop c = omega arith
@@ -34,7 +34,7 @@ add-at-requires : tie.Need-add-at-requires invariant-loop decreases-loop
 add-at-requires c κs =
     let l = c.before.before.loop in
     let s = c.before.before.before in
-    ((omega arith, omega arith), (rw (to_z-of_z w64 s.args.f s.ranges.f) s.requires.1.0, adding-small (2 ^ 62) _ s.args.part.now l.part l.i _ l.invariant.1 s.requires.1.1))
+    ((omega arith, omega arith), (rw (to_z-of_z w64 s.args.f s.ranges.f) s.requires.1.0, adding_small (2 ^ 62) _ s.args.part.now l.part l.i _ l.invariant.1 s.requires.1.1))
 
 -- after the first place of a turn
 first : (c : tie.After-add-at-arg2 invariant-loop decreases-loop) → let l = c.before.before.before.before.before.loop in let s = c.before.before.before.before.before.before in let f = to_z w64 (of_z w64 s.args.f) in
@@ -42,7 +42,7 @@ first : (c : tie.After-add-at-arg2 invariant-loop decreases-loop) → let l = c.
 first c =
     let l = c.before.before.before.before.before.loop in
     let s = c.before.before.before.before.before.before in
-    times-turn (to_z w64 (of_z w64 s.args.f)) s.args.a.now _ s.args.part.now l.part c.before.before.add_at.new.0 l.i (omega arith) (omega arith) c.before.before.add_at.ensures l.invariant.1
+    times_turn (to_z w64 (of_z w64 s.args.f)) s.args.a.now _ s.args.part.now l.part c.before.before.add_at.new.0 l.i (omega arith) (omega arith) c.before.before.add_at.ensures l.invariant.1
 
 add-add-at : tie.Need-overflow-add-add-at invariant-loop decreases-loop
 add-add-at c = omega arith
@@ -51,7 +51,7 @@ add-at-requires-2 : tie.Need-add-at-requires-2 invariant-loop decreases-loop
 add-at-requires-2 c κs =
     let l = c.before.before.before.before.before.loop in
     let s = c.before.before.before.before.before.before in
-    ((omega (arith, (first c).0), omega arith), (rw (to_z-of_z w64 s.args.f s.ranges.f) s.requires.1.0, adding-small (2 ^ 62) _ s.args.part.now c.before.before.add_at.new.0 (l.i + 1) _ (first c) s.requires.1.1))
+    ((omega (arith, (first c).0), omega arith), (rw (to_z-of_z w64 s.args.f s.ranges.f) s.requires.1.0, adding_small (2 ^ 62) _ s.args.part.now c.before.before.add_at.new.0 (l.i + 1) _ (first c) s.requires.1.1))
 
 add-i : tie.Need-overflow-add-i invariant-loop decreases-loop
 add-i c = omega arith
@@ -65,7 +65,7 @@ loop-again c =
     let s = start-of-turn c.before.before.before.before.before.before.before in
     let f = to_z w64 (of_z w64 s.args.f) in
     let one = first c.before.before in
-    let both = times-turn f s.args.a.now _ s.args.part.now c.before.before.before.before.add_at.new.0 c.before.add-at2.new.0 (l.i + 1) (omega arith) (omega (arith, one.0)) c.before.add-at2.ensures one in
+    let both = times_turn f s.args.a.now _ s.args.part.now c.before.before.before.before.add_at.new.0 c.before.add-at2.new.0 (l.i + 1) (omega arith) (omega (arith, one.0)) c.before.add-at2.ensures one in
     let next : l.i + 1 + 1 ≡ l.i + 2 = omega arith in
     (omega arith, subst (λ k. Adding (plus s.args.part.now (times f s.args.a.now)) s.args.part.now c.before.add-at2.new.0 k (times f (drop k s.args.a.now))) next both)
 
@@ -73,7 +73,7 @@ add-at-requires-3 : tie.Need-add-at-requires-3 invariant-loop decreases-loop
 add-at-requires-3 c κs =
     let l = c.before.before.before.loop in
     let s = c.before.before.before.before in
-    ((omega arith, omega arith), (rw (to_z-of_z w64 s.args.f s.ranges.f) s.requires.1.0, adding-small (2 ^ 62) _ s.args.part.now l.part l.i _ l.invariant.1 s.requires.1.1))
+    ((omega arith, omega arith), (rw (to_z-of_z w64 s.args.f s.ranges.f) s.requires.1.0, adding_small (2 ^ 62) _ s.args.part.now l.part l.i _ l.invariant.1 s.requires.1.1))
 
 -- after the last place, where one is left
 last : (c : tie.After-part3 invariant-loop decreases-loop) → let l = c.before.before.before.before.before.loop in let s = c.before.before.before.before.before.before in let f = to_z w64 (of_z w64 s.args.f) in
@@ -81,7 +81,7 @@ last : (c : tie.After-part3 invariant-loop decreases-loop) → let l = c.before.
 last c =
     let l = c.before.before.before.before.before.loop in
     let s = c.before.before.before.before.before.before in
-    times-turn (to_z w64 (of_z w64 s.args.f)) s.args.a.now _ s.args.part.now l.part c.before.add-at3.new.0 l.i (omega arith) (omega arith) c.before.add-at3.ensures l.invariant.1
+    times_turn (to_z w64 (of_z w64 s.args.f)) s.args.a.now _ s.args.part.now l.part c.before.add-at3.new.0 l.i (omega arith) (omega arith) c.before.add-at3.ensures l.invariant.1
 
 same_length : tie.Need-same-length invariant-loop decreases-loop
 same_length c = (last c).0
@@ -90,7 +90,7 @@ returns : tie.Need-returns invariant-loop decreases-loop
 returns c =
     let l = c.before.before.before.before.before.loop in
     let s = c.before.before.before.before.before.before in
-    adding-full _ s.args.part.now c.before.add-at3.new.0 (l.i + 1) _ (omega (arith, (last c).0)) (last c)
+    adding_full _ s.args.part.now c.before.add-at3.new.0 (l.i + 1) _ (omega (arith, (last c).0)) (last c)
     ∙ ap (λ f. plus s.args.part.now (times f s.args.a.now)) (to_z-of_z w64 s.args.f s.ranges.f)
 
 same-length-2 : tie.Need-same-length-2 invariant-loop decreases-loop
@@ -100,7 +100,7 @@ returns-2 : tie.Need-returns-2 invariant-loop decreases-loop
 returns-2 c =
     let l = c.before.before.loop in
     let s = c.before.before.before in
-    adding-full _ s.args.part.now l.part l.i _ (omega arith) l.invariant.1
+    adding_full _ s.args.part.now l.part l.i _ (omega arith) l.invariant.1
     ∙ ap (λ f. plus s.args.part.now (times f s.args.a.now)) (to_z-of_z w64 s.args.f s.ranges.f)
 
 pub add-times-spec : {M : Type 1} → statement M

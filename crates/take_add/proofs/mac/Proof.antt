@@ -5,7 +5,7 @@ use mir.Syntax.{w16, w64}
 use mir.Val.{SFits}
 use mir.ValLaws.{to_z-of_z}
 use mir.Facts.{sfits_widen}
-use Rattle.num_whole.proofs.Ints.{*-within, +-within, within-fits, fits-within}
+use Rattle.num_whole.proofs.Ints.{*-within, +-within, within_fits, fits_within}
 use Rattle.take_add.proofs.mac.Statement.{statement}
 use Rattle.take_add.proofs.mac.Tie as tie
 
@@ -14,11 +14,11 @@ module _ (c : tie.Start) where
   wide = sfits_widen {w = w16} tt c.ranges.x
 
   prod : SFits w64 (c.args.f *ℤ c.args.x)
-  prod = within-fits w64 (c.args.f *ℤ c.args.x) (*-within c.args.f c.args.x c.requires.1 (fits-within w16 c.args.x c.ranges.x)) tt
+  prod = within_fits w64 (c.args.f *ℤ c.args.x) (*-within c.args.f c.args.x c.requires.1 (fits_within w16 c.args.x c.ranges.x)) tt
 
   sum : SFits w64 (c.args.s +ℤ c.args.f *ℤ c.args.x)
-  sum = within-fits w64 (c.args.s +ℤ c.args.f *ℤ c.args.x)
-      (+-within c.args.s (c.args.f *ℤ c.args.x) c.requires.0 (*-within c.args.f c.args.x c.requires.1 (fits-within w16 c.args.x c.ranges.x))) tt
+  sum = within_fits w64 (c.args.s +ℤ c.args.f *ℤ c.args.x)
+      (+-within c.args.s (c.args.f *ℤ c.args.x) c.requires.0 (*-within c.args.f c.args.x c.requires.1 (fits_within w16 c.args.x c.ranges.x))) tt
 
 cast-result : tie.Need-overflow-cast-result
 cast-result c = rw (to_z-of_z w16 c.args.x c.ranges.x) (wide c)

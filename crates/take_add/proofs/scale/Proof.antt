@@ -9,7 +9,7 @@ use mir.Syntax.{w16, w64}
 use mir.Val.{SFits, to_z}
 use mir.ValLaws.{to_z-of_z, to_z_pos}
 use mir.Facts.{sfits_widen}
-use Rattle.num_whole.proofs.Ints.{*-within, within-fits, fits-within}
+use Rattle.num_whole.proofs.Ints.{*-within, within_fits, fits_within}
 use Rattle.take_add.proofs.scale.Statement.{statement}
 use Rattle.take_add.proofs.scale.Tie as tie
 
@@ -21,10 +21,10 @@ module _ (c : tie.Start) where
   weight = to_z_pos w64 c.args.w (omega arith)
 
   small : nat_abs (pos c.args.w *ℤ c.args.x) ≤ 65536 * 2 ^ 15
-  small = *-within (pos c.args.w) c.args.x c.requires (fits-within w16 c.args.x c.ranges.x)
+  small = *-within (pos c.args.w) c.args.x c.requires (fits_within w16 c.args.x c.ranges.x)
 
   prod : SFits w64 (pos c.args.w *ℤ c.args.x)
-  prod = within-fits w64 (pos c.args.w *ℤ c.args.x) small tt
+  prod = within_fits w64 (pos c.args.w *ℤ c.args.x) small tt
 
 cast-result : tie.Need-overflow-cast-result
 cast-result c = search rules

@@ -7,7 +7,7 @@ use mathlib.Core.Path.{◌≡◌}
 use native.Mathlib.Omega.{arith}
 use lib.ListN.{length, drop}
 use Rattle.take_counts.specs.Counts.{sum_of, Few}
-use Rattle.take_counts.proofs.Totals.{sum-end, sum_more}
+use Rattle.take_counts.proofs.Totals.{sum_end, sum_more}
 use Rattle.take_counts.proofs.accepted.Statement.{statement}
 use Rattle.take_counts.proofs.accepted.Tie as tie
 
@@ -57,7 +57,7 @@ loop-again c =
 returns : tie.Need-returns invariant-loop decreases-loop
 returns c =
     let l = c.before.loop in
-    (omega (arith, l.invariant.4, sum-end c.before.before.args.t1 l.station (omega arith)), λ few. omega (arith, l.invariant.3 few))
+    (omega (arith, l.invariant.4, sum_end c.before.before.args.t1 l.station (omega arith)), λ few. omega (arith, l.invariant.3 few))
 
 pub accepted-spec : {M : Type 1} → statement M
 accepted-spec =

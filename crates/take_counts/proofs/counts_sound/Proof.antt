@@ -7,7 +7,7 @@ use lib.ListN.{length, get_or}
 use borrow.Author.Count.{below_none, below_more}
 use borrow.Author.Rules.{rules}
 use Rattle.num_whole.specs.Tests.{less, pick}
-use Rattle.take_counts.proofs.Totals.{counts-pass, counts-fail}
+use Rattle.take_counts.proofs.Totals.{counts_pass, counts_fail}
 use Rattle.take_counts.proofs.counts_sound.Statement.{statement}
 use Rattle.take_counts.proofs.counts_sound.Tie as tie
 
@@ -30,7 +30,7 @@ array-read-if1 : tie.Need-array-read-if1 invariant-loop decreases-loop
 array-read-if1 c = search rules
 
 returns : tie.Need-returns invariant-loop decreases-loop
-returns c = let l = c.before.before.before.loop in sym (counts-fail _ _ l.i (omega arith) (omega (arith, c.before.count-limit.ensures)))
+returns c = let l = c.before.before.before.loop in sym (counts_fail _ _ l.i (omega arith) (omega (arith, c.before.count-limit.ensures)))
 
 add-i : tie.Need-overflow-add-i invariant-loop decreases-loop
 add-i c = search rules
@@ -42,7 +42,7 @@ loop-again : tie.Need-loop-preserved invariant-loop decreases-loop
 loop-again c = let l = c.before.before.before.loop in (search rules, l.invariant.1, below_more _ l.i l.invariant.2 (omega (arith, c.before.count-limit.ensures)))
 
 returns-2 : tie.Need-returns-2 invariant-loop decreases-loop
-returns-2 c = sym (counts-pass _ _ (λ k h. c.before.loop.invariant.2 k (omega arith)))
+returns-2 c = sym (counts_pass _ _ (λ k h. c.before.loop.invariant.2 k (omega arith)))
 
 pub counts-sound-spec : {M : Type 1} → statement M
 counts-sound-spec =

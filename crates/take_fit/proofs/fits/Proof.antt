@@ -2,7 +2,7 @@
 -- Assumes nothing.
 use mathlib.Core.Path.{sym, ◌∙◌}
 use native.Mathlib.Omega.{arith}
-use Rattle.take_fit.proofs.Steps.{too_short, too_long, whole-fit}
+use Rattle.take_fit.proofs.Steps.{too_short, too_long, whole_fit}
 use borrow.Author.Rules.{rules}
 use Rattle.take_fit.proofs.fits.Statement.{statement}
 use Rattle.take_fit.proofs.fits.Tie as tie
@@ -26,7 +26,7 @@ fit-record-requires : tie.Need-fit-record-requires
 fit-record-requires c κs = search rules
 
 returns-3 : tie.Need-returns-3
-returns-3 c = c.fit-record.ensures _ _ c.before.decode.ensures ∙ sym (whole-fit _ _ (omega arith))
+returns-3 c = c.fit-record.ensures _ _ c.before.decode.ensures ∙ sym (whole_fit _ _ (omega arith))
 
 pub fits-spec : {M : Type 1} → statement M
 fits-spec =

@@ -8,10 +8,10 @@ use lib.IntN.{pos, nat_abs, ◌*ℤ◌}
 use mir.Syntax.{w64}
 use mir.Val.{to_z, of_z}
 use mir.ValLaws.{to_z-of_z, to_z_pos}
-use Rattle.num_whole.proofs.Ints.{within-fits, natAbs-*}
-use Rattle.take_rules.specs.Rules.{weightOf}
-use Rattle.take_rules.proofs.Bounds.{weighted-bound, square-bound}
-use Rattle.take_judge.specs.Judged.{termsBy}
+use Rattle.num_whole.proofs.Ints.{within_fits, nat_abs_*}
+use Rattle.take_rules.specs.Rules.{weight_of}
+use Rattle.take_rules.proofs.Bounds.{weighted_bound, square_bound}
+use Rattle.take_judge.specs.Judged.{terms_by}
 use Rattle.take_judge.proofs.Late.{scaled_fits}
 use borrow.Author.Rules.{rules}
 use Rattle.take_judge.proofs.terms_of.Statement.{statement}
@@ -32,7 +32,7 @@ scaled c =
 mul-scaled : tie.Need-overflow-mul-scaled
 mul-scaled c =
     let s = c.before in
-    rw (scaled c) (within-fits w64 (s.args.residual *ℤ pos s.args.factor) (scaled_fits s.args.residual s.args.factor s.requires.0.3 s.requires.0.2) tt)
+    rw (scaled c) (within_fits w64 (s.args.residual *ℤ pos s.args.factor) (scaled_fits s.args.residual s.args.factor s.requires.0.3 s.requires.0.2) tt)
 
 magnitude-requires : tie.Need-magnitude-requires
 magnitude-requires c κs = search rules
@@ -45,24 +45,24 @@ cast-t7 c = search rules
 
 -- the machine's w·R is w·R
 side : (c : tie.After-magnitude) → let a = c.before.before.args in
-    to_z w64 c.before.weight.result *ℤ to_z w64 (of_z w64 (to_z w64 (of_z w64 a.residual) *ℤ to_z w64 a.factor)) ≡ pos (weightOf a.sigma) *ℤ (a.residual *ℤ pos a.factor)
+    to_z w64 c.before.weight.result *ℤ to_z w64 (of_z w64 (to_z w64 (of_z w64 a.residual) *ℤ to_z w64 a.factor)) ≡ pos (weight_of a.sigma) *ℤ (a.residual *ℤ pos a.factor)
 side c =
     let w = c.before.weight in
     ap₂ (λ x y. x *ℤ y) (to_z_pos w64 w.result (omega (arith, w.ensures.1)) ∙ ap pos w.ensures.0) (to_z-of_z w64 _ (mul-scaled c.before) ∙ scaled c.before)
 
-side-small : (c : tie.After-magnitude) → let a = c.before.before.args in nat_abs (pos (weightOf a.sigma) *ℤ (a.residual *ℤ pos a.factor)) ≤ 2 ^ 28
-side-small c =
+side_small : (c : tie.After-magnitude) → let a = c.before.before.args in nat_abs (pos (weight_of a.sigma) *ℤ (a.residual *ℤ pos a.factor)) ≤ 2 ^ 28
+side_small c =
     let s = c.before.before in
     let r = s.args.residual *ℤ pos s.args.factor in
-    let h : weightOf s.args.sigma * nat_abs r ≤ 2 ^ 28 = weighted-bound s.args.sigma (nat_abs r) s.requires.0.0 s.requires.0.1 s.requires.1 in
-    omega (arith, natAbs-* (pos (weightOf s.args.sigma)) r)
+    let h : weight_of s.args.sigma * nat_abs r ≤ 2 ^ 28 = weighted_bound s.args.sigma (nat_abs r) s.requires.0.0 s.requires.0.1 s.requires.1 in
+    omega (arith, nat_abs_* (pos (weight_of s.args.sigma)) r)
 
 -- the size of R
 size : (c : tie.After-magnitude) → let a = c.before.before.args in c.magnitude.result ≡ nat_abs (a.residual *ℤ pos a.factor)
 size c = c.magnitude.ensures ∙ ap nat_abs (to_z-of_z w64 _ (mul-scaled c.before) ∙ scaled c.before)
 
 mul-t9 : tie.Need-overflow-mul-t9
-mul-t9 c = rw (side c) (within-fits w64 _ (side-small c) tt)
+mul-t9 c = rw (side c) (within_fits w64 _ (side_small c) tt)
 
 mul-t10 : tie.Need-overflow-mul-t10
 mul-t10 c =
@@ -73,11 +73,11 @@ mul-t10 c =
 mul-t11 : tie.Need-overflow-mul-t11
 mul-t11 c =
     let s = c.before.before in
-    let h : weightOf s.args.sigma * (c.magnitude.result * c.magnitude.result) ≤ 2 ^ 40 = square-bound s.args.sigma c.magnitude.result s.requires.0.0 s.requires.0.1 (rw (size c) s.requires.1) in
+    let h : weight_of s.args.sigma * (c.magnitude.result * c.magnitude.result) ≤ 2 ^ 40 = square_bound s.args.sigma c.magnitude.result s.requires.0.0 s.requires.0.1 (rw (size c) s.requires.1) in
     rw c.before.weight.ensures.0 (record { fits = omega arith })
 
 returns : tie.Need-returns
-unfolding termsBy
+unfolding terms_by
 returns c =
     λ i. record {
       weight = c.before.weight.ensures.0 i;

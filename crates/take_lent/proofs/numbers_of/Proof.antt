@@ -7,23 +7,23 @@ use mathlib.Core.List.{map}
 use lib.ListN.{length, drop, length-set, length-map}
 use lib.Seq.{sets}
 use borrow.Author.Rules.{rules}
-use Rattle.arc_heading.specs.Judge.{numbersOf}
-use Rattle.arc_limits.specs.Limits.{stationKey, noStation}
-use Rattle.take_lent.proofs.Copies.{copy_start, copy-turn, copy-end}
+use Rattle.arc_heading.specs.Judge.{numbers_of}
+use Rattle.arc_limits.specs.Limits.{station_key, no_station}
+use Rattle.take_lent.proofs.Copies.{copy_start, copy_turn, copy_end}
 use Rattle.take_lent.proofs.numbers_of.Statement.{statement}
 use Rattle.take_lent.proofs.numbers_of.Tie as tie
 
 abbrev invariant-loop : tie.invariant-loop
-invariant-loop h a₀ i₀ a i = (i ≤ 16) × (length h.listed ≡ 16) × (length a ≡ 16) × (sets a i (map stationKey (drop i h.listed)) ≡ numbersOf h.listed)
+invariant-loop h a₀ i₀ a i = (i ≤ 16) × (length h.listed ≡ 16) × (length a ≡ 16) × (sets a i (map station_key (drop i h.listed)) ≡ numbers_of h.listed)
 
 abbrev decreases-loop : tie.decreases-loop
 decreases-loop h a₀ i₀ a i = 16 - i
 
 loop-holds : tie.Need-loop-init invariant-loop decreases-loop
-unfolding numbersOf
+unfolding numbers_of
 loop-holds c =
     let long : length c.args.t1.listed ≡ 16 = simp length-map at c.well-formed.0.1.1.1.1.1.1.0.1.0.1 in
-    (omega arith, long, refl, copy_start stationKey c.args.t1.listed _ (sym long))
+    (omega arith, long, refl, copy_start station_key c.args.t1.listed _ (sym long))
 
 mul-t : tie.Need-overflow-mul-t invariant-loop decreases-loop
 mul-t c = search rules
@@ -44,17 +44,17 @@ loop-less : tie.Need-loop-smaller invariant-loop decreases-loop
 loop-less c = search rules
 
 loop-again : tie.Need-loop-preserved invariant-loop decreases-loop
-unfolding stationKey
+unfolding station_key
 loop-again c =
     let l = c.before.before.loop in
     let h = c.before.before.before.args.t1 in
-    (omega arith, l.invariant.1, rw length-set l.invariant.2, sym (copy-turn stationKey h.listed l.a l.i noStation (omega arith)) ∙ l.invariant.3)
+    (omega arith, l.invariant.1, rw length-set l.invariant.2, sym (copy_turn station_key h.listed l.a l.i no_station (omega arith)) ∙ l.invariant.3)
 
 returns : tie.Need-returns invariant-loop decreases-loop
-unfolding numbersOf
+unfolding numbers_of
 returns c =
     let l = c.before.loop in
-    sym (copy-end stationKey c.before.before.args.t1.listed l.a l.i (omega (arith, l.invariant.1))) ∙ c.before.loop.invariant.3
+    sym (copy_end station_key c.before.before.args.t1.listed l.a l.i (omega (arith, l.invariant.1))) ∙ c.before.loop.invariant.3
 
 pub numbers-of-spec : {M : Type 1} → statement M
 numbers-of-spec =

@@ -3,12 +3,12 @@
 use mathlib.Core.Path.{◌≡◌, refl}
 use native.Mathlib.Omega.{arith}
 use lib.Count.{ones-le}
-use Rattle.take_marks.specs.Marks.{markCount}
+use Rattle.take_marks.specs.Marks.{mark_count}
 use Rattle.take_marks.proofs.count.Statement.{statement}
 use Rattle.take_marks.proofs.count.Tie as tie
 
 returns : tie.Need-returns
-unfolding markCount
+unfolding mark_count
 returns c = (refl, ones-le 16 c.args.word (omega arith))
 
 pub count_spec : {M : Type 1} → statement M

@@ -6,26 +6,26 @@ use Prim.Native.Nat.{ℕ, ◌≤◌, ◌+◌, ◌-◌}
 use mathlib.Core.List.{List}
 use lib.ListN.{get_or}
 use Rattle.num_whole.specs.Tests.{less, pick}
-use Rattle.take_marks.specs.Marks.{withMark}
+use Rattle.take_marks.specs.Marks.{with_mark}
 use native.Mathlib.Omega.{arith}
 use native.Mathlib.Numerals.{add-one}
 use native.Mathlib.Nat.{le_antisymm}
-use Rattle.take_marks.specs.Parts.{heardWord}
+use Rattle.take_marks.specs.Parts.{heard_word}
 use Rattle.take_marks.proofs.heard.Statement.{statement}
 use Rattle.take_marks.proofs.heard.Tie as tie
 
 abbrev invariant-loop : tie.invariant-loop
-invariant-loop counts word₀ k₀ word k = (k ≤ 16) × (word ≡ heardWord counts k)
+invariant-loop counts word₀ k₀ word k = (k ≤ 16) × (word ≡ heard_word counts k)
 
 abbrev decreases-loop : tie.decreases-loop
 decreases-loop counts word₀ k₀ word k = 16 - k
 
 loop-holds : tie.Need-loop-init invariant-loop decreases-loop
-unfolding heardWord
+unfolding heard_word
 loop-holds c = (omega arith, refl)
 
-next : (counts : List ℕ) (k : ℕ) → pick (less 0 (get_or counts k 0)) (withMark (heardWord counts k) k) (heardWord counts k) ≡ heardWord counts (k + 1)
-unfolding heardWord
+next : (counts : List ℕ) (k : ℕ) → pick (less 0 (get_or counts k 0)) (with_mark (heard_word counts k) k) (heard_word counts k) ≡ heard_word counts (k + 1)
+unfolding heard_word
 next counts k = rw (add-one k) refl
 
 cast-with-count : tie.Need-overflow-cast-with-count invariant-loop decreases-loop
@@ -50,12 +50,12 @@ loop-again : tie.Need-loop-preserved invariant-loop decreases-loop
 loop-again c =
     let l = c.before.before.loop in
     let counts = c.before.before.before.args.t1 in
-    (omega arith, c.with-count.ensures ∙ ap (λ w. pick (less 0 (get_or counts l.k 0)) (withMark w l.k) w) l.invariant.1 ∙ next counts l.k)
+    (omega arith, c.with-count.ensures ∙ ap (λ w. pick (less 0 (get_or counts l.k 0)) (with_mark w l.k) w) l.invariant.1 ∙ next counts l.k)
 
 returns : tie.Need-returns invariant-loop decreases-loop
 returns c =
     let l = c.before.loop in
-    l.invariant.1 ∙ ap (heardWord c.before.before.args.t1) (le_antisymm l.invariant.0 (omega arith))
+    l.invariant.1 ∙ ap (heard_word c.before.before.args.t1) (le_antisymm l.invariant.0 (omega arith))
 
 pub heard-spec : {M : Type 1} → statement M
 heard-spec =

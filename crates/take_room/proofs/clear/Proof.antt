@@ -8,7 +8,7 @@ use native.Mathlib.Omega.{arith}
 use lib.ListN.{length, take, drop, length-set}
 use borrow.Author.Rules.{rules}
 use Rattle.take_room.specs.Room.{cleared}
-use Rattle.take_room.proofs.Cleared.{clear-end, clear-turn}
+use Rattle.take_room.proofs.Cleared.{clear_end, clear_turn}
 use Rattle.take_room.proofs.clear.Statement.{statement}
 use Rattle.take_room.proofs.clear.Tie as tie
 
@@ -36,13 +36,13 @@ loop-less c = search rules
 loop-again : tie.Need-loop-preserved invariant-loop decreases-loop
 loop-again c =
     let l = c.before.loop in
-    (omega arith, simp length-set l.invariant.1, l.invariant.2 ∙ clear-turn l.room c.before.before.args.n l.i (omega arith) (omega arith))
+    (omega arith, simp length-set l.invariant.1, l.invariant.2 ∙ clear_turn l.room c.before.before.args.n l.i (omega arith) (omega arith))
 
 same_length : tie.Need-same-length invariant-loop decreases-loop
 same_length c = search rules
 
 returns : tie.Need-returns invariant-loop decreases-loop
-returns c = let l = c.before.loop in sym (l.invariant.2 ∙ clear-end l.room c.before.before.args.n l.i (omega arith))
+returns c = let l = c.before.loop in sym (l.invariant.2 ∙ clear_end l.room c.before.before.args.n l.i (omega arith))
 
 pub clear_spec : {M : Type 1} → statement M
 clear_spec =

@@ -7,8 +7,8 @@ use Prim.Native.Nat.{min}
 use native.Mathlib.Nat.{add-zero}
 use Rattle.num_whole.specs.Tests.{up_to}
 use Rattle.num_packed.specs.Triangle.{tri}
-use Rattle.num_packed.specs.Room.{sumsRoomy}
-use Rattle.num_whole.proofs.Cases.{holds, fails, is-upTo, not-upTo, by-upTo}
+use Rattle.num_packed.specs.Room.{sums_roomy}
+use Rattle.num_whole.proofs.Cases.{holds, fails, is_up_to, not_up_to, by_up_to}
 use borrow.Author.Rules.{rules}
 use Rattle.take_room.proofs.is_roomy.Statement.{statement}
 use Rattle.take_room.proofs.is_roomy.Tie as tie
@@ -24,14 +24,14 @@ entry : (c : tie.After-place) → c.place.result ≡ tri (min c.before.before.ar
 entry c = c.place.ensures ∙ add-zero _ ∙ ap tri c.before.least.ensures
 
 returns : tie.Need-returns
-unfolding sumsRoomy
+unfolding sums_roomy
 returns c =
-    holds _ _ (is-upTo _ _ (omega (arith, entry c.before)))
-    (by-upTo _ _ ∙ ap (λ p. up_to p (length c.before.before.before.args.rights.now)) c.before.before.least.ensures)
+    holds _ _ (is_up_to _ _ (omega (arith, entry c.before)))
+    (by_up_to _ _ ∙ ap (λ p. up_to p (length c.before.before.before.args.rights.now)) c.before.before.least.ensures)
 
 returns-2 : tie.Need-returns-2
-unfolding sumsRoomy
-returns-2 c = fails _ _ (not-upTo _ _ (omega (arith, entry c.before)))
+unfolding sums_roomy
+returns-2 c = fails _ _ (not_up_to _ _ (omega (arith, entry c.before)))
 
 pub is-roomy-spec : {M : Type 1} → statement M
 is-roomy-spec = tie.close (tie.spec least-requires place-requires returns returns-2)

@@ -10,9 +10,9 @@ use lib.Signed.{le_z}
 use mir.Syntax.{w64}
 use mir.Val.{to_z}
 use mir.ValLaws.{to_z-of_z, to_z_pos}
-use Rattle.days_leap.specs.Leap.{dayStart}
-use Rattle.days_leap.specs.Parts.{startMost}
-use Rattle.take_rules.specs.Rules.{inWindow}
+use Rattle.days_leap.specs.Leap.{day_start}
+use Rattle.days_leap.specs.Parts.{start_most}
+use Rattle.take_rules.specs.Rules.{in_window}
 use Rattle.take_rules.proofs.between_ends.Statement.{statement}
 use Rattle.take_rules.proofs.between_ends.Tie as tie
 
@@ -32,24 +32,24 @@ cast-result : tie.Need-overflow-cast-result
 cast-result c = search rules
 
 -- a start as the machine has it
-signed : (d n : ℕ) → (n ≡ dayStart d) × (n ≤ startMost) → to_z w64 n ≡ pos (dayStart d)
+signed : (d n : ℕ) → (n ≡ day_start d) × (n ≤ start_most) → to_z w64 n ≡ pos (day_start d)
 signed d n s = to_z_pos w64 n (omega (arith, s.1)) ∙ ap pos s.0
 
 returns : tie.Need-returns
-unfolding inWindow
+unfolding in_window
 returns c =
     let a = c.before.before.before.args in
     let from = signed a.first _ c.before.before.start.ensures in
     let end = signed (a.first + a.days) _ c.before.start2.ensures in
-    let begins : le_z (pos (dayStart a.first)) a.t ≡ true = rw (from, to_z-of_z w64 a.t c.before.before.before.ranges.t) at c.if1.true in
+    let begins : le_z (pos (day_start a.first)) a.t ≡ true = rw (from, to_z-of_z w64 a.t c.before.before.before.ranges.t) at c.if1.true in
     rw (to_z-of_z w64 a.t c.before.before.before.ranges.t, end, begins)
 
 returns-2 : tie.Need-returns-2
-unfolding inWindow
+unfolding in_window
 returns-2 c =
     let a = c.before.before.before.args in
     let from = signed a.first _ c.before.before.start.ensures in
-    let begins : le_z (pos (dayStart a.first)) a.t ≡ false = rw (from, to_z-of_z w64 a.t c.before.before.before.ranges.t) at c.if1.false in
+    let begins : le_z (pos (day_start a.first)) a.t ≡ false = rw (from, to_z-of_z w64 a.t c.before.before.before.ranges.t) at c.if1.false in
     rw begins
 
 pub between-ends-spec : {M : Type 1} → statement M

@@ -8,8 +8,8 @@ use native.Mathlib.Nat.{mul-le-mul}
 use lib.IntN.{nat_abs}
 use mir.Syntax.{w64}
 use mir.ValLaws.{to_z-of_z}
-use Rattle.num_whole.proofs.Cases.{by-upTo}
-use Rattle.take_rules.specs.Rules.{passesEdit}
+use Rattle.num_whole.proofs.Cases.{by_up_to}
+use Rattle.take_rules.specs.Rules.{passes_edit}
 use Rattle.take_rules.proofs.passes_edit.Statement.{statement}
 use Rattle.take_rules.proofs.passes_edit.Tie as tie
 
@@ -36,8 +36,8 @@ mul-result-3 : tie.Need-overflow-mul-result-3
 mul-result-3 c = omega (arith, mul-le-mul (product c) c.before.requires.0)
 
 returns : tie.Need-returns
-unfolding passesEdit
-returns c = rw (size c) (by-upTo _ _)
+unfolding passes_edit
+returns c = rw (size c) (by_up_to _ _)
 
 pub passes-edit-spec : {M : Type 1} → statement M
 passes-edit-spec =

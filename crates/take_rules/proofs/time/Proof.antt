@@ -9,31 +9,31 @@ use mir.Syntax.{w32, w64}
 use mir.Val.{SFits, to_z, of_z}
 use mir.Facts.{sfits_widen}
 use mir.ValLaws.{to_z-of_z, to_z_pos}
-use Rattle.num_whole.proofs.Ints.{+-within, within-fits, fits-within}
-use Rattle.days_leap.specs.Leap.{dayStart, lastMs}
-use Rattle.days_leap.specs.Parts.{startMost}
-use Rattle.days_leap.proofs.Days.{last-between}
-use Rattle.take_rules.specs.Rules.{timeOf}
+use Rattle.num_whole.proofs.Ints.{+-within, within_fits, fits_within}
+use Rattle.days_leap.specs.Leap.{day_start, last_ms}
+use Rattle.days_leap.specs.Parts.{start_most}
+use Rattle.days_leap.proofs.Days.{last_between}
+use Rattle.take_rules.specs.Rules.{time_of}
 use Rattle.take_rules.proofs.time.Statement.{statement}
 use Rattle.take_rules.proofs.time.Tie as tie
 
 -- the two summands as the machine has them: the clock's time, from a start of the day, and the correction
-module _ (day ms n : ℕ) (e : n ≡ dayStart day) (low : n ≤ startMost) (inside : ms ≤ lastMs day) (k : ℤ) (fits : SFits w32 k) where
-  clock-small : n + ms ≤ 4733769628000
-  clock-small = omega (arith, low, inside, last-between day)
+module _ (day ms n : ℕ) (e : n ≡ day_start day) (low : n ≤ start_most) (inside : ms ≤ last_ms day) (k : ℤ) (fits : SFits w32 k) where
+  clock_small : n + ms ≤ 4733769628000
+  clock_small = omega (arith, low, inside, last_between day)
 
   wide : SFits w64 k
   wide = sfits_widen {w = w32} tt fits
 
-  same : to_z w64 (n + ms) +ℤ to_z w64 (of_z w64 (to_z w32 (of_z w32 k))) ≡ pos (dayStart day + ms) +ℤ k
+  same : to_z w64 (n + ms) +ℤ to_z w64 (of_z w64 (to_z w32 (of_z w32 k))) ≡ pos (day_start day + ms) +ℤ k
   same =
-      ap₂ (λ x y. x +ℤ y) (to_z_pos w64 (n + ms) (omega (arith, clock-small)) ∙ ap (λ m. pos (m + ms)) e)
+      ap₂ (λ x y. x +ℤ y) (to_z_pos w64 (n + ms) (omega (arith, clock_small)) ∙ ap (λ m. pos (m + ms)) e)
       (ap (λ z. to_z w64 (of_z w64 z)) (to_z-of_z w32 k fits) ∙ to_z-of_z w64 k wide)
 
-  sum_fits : SFits w64 (pos (dayStart day + ms) +ℤ k)
+  sum_fits : SFits w64 (pos (day_start day + ms) +ℤ k)
   sum_fits =
-      let early : nat_abs (pos (dayStart day + ms)) ≤ 4733769628000 = omega (arith, clock-small, e) in
-      within-fits w64 (pos (dayStart day + ms) +ℤ k) (+-within (pos (dayStart day + ms)) k early (fits-within w32 k fits)) tt
+      let early : nat_abs (pos (day_start day + ms)) ≤ 4733769628000 = omega (arith, clock_small, e) in
+      within_fits w64 (pos (day_start day + ms) +ℤ k) (+-within (pos (day_start day + ms)) k early (fits_within w32 k fits)) tt
 
 start-requires : tie.Need-start-requires
 start-requires c κs = search rules
@@ -42,13 +42,13 @@ add-clock : tie.Need-overflow-add-clock
 add-clock c =
     let a = c.before.args in
     let s = c.start.ensures in
-    omega (arith, clock-small a.day a.ms _ s.0 s.1 c.before.requires.1 a.correction c.before.ranges.correction)
+    omega (arith, clock_small a.day a.ms _ s.0 s.1 c.before.requires.1 a.correction c.before.ranges.correction)
 
 cast-result : tie.Need-overflow-cast-result
 cast-result c =
     let a = c.before.args in
     let s = c.start.ensures in
-    let small = clock-small a.day a.ms _ s.0 s.1 c.before.requires.1 a.correction c.before.ranges.correction in
+    let small = clock_small a.day a.ms _ s.0 s.1 c.before.requires.1 a.correction c.before.ranges.correction in
     search rules
 
 cast-result-2 : tie.Need-overflow-cast-result-2
@@ -64,12 +64,12 @@ add-result c =
     (sum_fits a.day a.ms _ s.0 s.1 c.before.requires.1 a.correction c.before.ranges.correction)
 
 returns : tie.Need-returns
-unfolding timeOf
+unfolding time_of
 returns c =
     let a = c.before.args in
     let s = c.start.ensures in
     ap (λ z. to_z w64 (of_z w64 z)) (same a.day a.ms _ s.0 s.1 c.before.requires.1 a.correction c.before.ranges.correction)
-    ∙ to_z-of_z w64 (pos (dayStart a.day + a.ms) +ℤ a.correction) (sum_fits a.day a.ms _ s.0 s.1 c.before.requires.1 a.correction c.before.ranges.correction)
+    ∙ to_z-of_z w64 (pos (day_start a.day + a.ms) +ℤ a.correction) (sum_fits a.day a.ms _ s.0 s.1 c.before.requires.1 a.correction c.before.ranges.correction)
 
 pub time-spec : {M : Type 1} → statement M
 time-spec =

@@ -11,21 +11,21 @@ use lib.Signed.{le_z, lt_z}
 use mir.Syntax.{w64}
 use mir.ValLaws.{to_z-of_z, to_z_pos}
 use Rattle.num_whole.proofs.Cases.{apart}
-use Rattle.days_leap.specs.Leap.{dayStart}
-use Rattle.days_leap.proofs.Days.{start-around}
-use Rattle.take_rules.specs.Rules.{inWindow}
+use Rattle.days_leap.specs.Leap.{day_start}
+use Rattle.days_leap.proofs.Days.{start_around}
+use Rattle.take_rules.specs.Rules.{in_window}
 use Rattle.take_rules.proofs.well_inside.Statement.{statement}
 use Rattle.take_rules.proofs.well_inside.Tie as tie
 
 both_true : (a b : Bool) → a ≡ true → b ≡ true → (a && b) ≡ true
 both_true a b p q = rw (p, q)
 
-inside : (first days : ℕ) (t : ℤ) → le_z (pos (first * 86400000 + 27000)) t ≡ true → lt_z t (pos ((first + days) * 86400000)) ≡ true → inWindow first days t ≡ true
-unfolding inWindow
+inside : (first days : ℕ) (t : ℤ) → le_z (pos (first * 86400000 + 27000)) t ≡ true → lt_z t (pos ((first + days) * 86400000)) ≡ true → in_window first days t ≡ true
+unfolding in_window
 inside first days (pos n) p q =
     both_true _ _
-    (le-leb (dayStart first) n (omega (arith, leb-true (first * 86400000 + 27000) n p, (start-around first).1)))
-    (lt-ltb n (dayStart (first + days)) (omega (arith, ltb-true n ((first + days) * 86400000) q, (start-around (first + days)).0)))
+    (le-leb (day_start first) n (omega (arith, leb-true (first * 86400000 + 27000) n p, (start_around first).1)))
+    (lt-ltb n (day_start (first + days)) (omega (arith, ltb-true n ((first + days) * 86400000) q, (start_around (first + days)).0)))
 inside first days (negsuc n) p q = absurd (apart (sym p))
 
 mul-from : tie.Need-overflow-mul-from

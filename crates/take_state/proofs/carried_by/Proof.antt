@@ -4,17 +4,17 @@ use Prim.Native.Nat.{◌<◌}
 use mathlib.Core.Path.{◌≡◌, sym, ap, ◌∙◌}
 use native.Mathlib.Omega.{arith}
 use Rattle.num_whole.specs.Answer.{given}
-use Rattle.refusal.specs.Told.{toldVerdict}
-use Rattle.refusal.proofs.Firsts.{answered-given, answered-by}
-use Rattle.take_state.specs.State.{state_of, parameterNumber, carriersOf}
-use Rattle.take_state.proofs.Rooms.{by-given, by-refused, state-roomed, parameter-is}
+use Rattle.refusal.specs.Told.{told_verdict}
+use Rattle.refusal.proofs.Firsts.{answered_given, answered_by}
+use Rattle.take_state.specs.State.{state_of, parameter_number, carriers_of}
+use Rattle.take_state.proofs.Rooms.{by_given, by_refused, state_roomed, parameter_is}
 use borrow.Author.Rules.{rules}
 use Rattle.take_state.proofs.carried_by.Statement.{statement}
 use Rattle.take_state.proofs.carried_by.Tie as tie
 
 -- the state is accepted, and the parameter is one of the heading's
-found : (c : tie.After-enum-told) → let s = c.before.before.before.args in parameterNumber s.h (state_of s.matrix.now s.rights.now s.t2) s.i ≡ 0
-found c = by-given _ (sym (ap toldVerdict c.enum_told.given.1) ∙ c.before.before.judge-parameter.ensures)
+found : (c : tie.After-enum-told) → let s = c.before.before.before.args in parameter_number s.h (state_of s.matrix.now s.rights.now s.t2) s.i ≡ 0
+found c = by_given _ (sym (ap told_verdict c.enum_told.given.1) ∙ c.before.before.judge-parameter.ensures)
 
 judge-parameter-requires : tie.Need-judge-parameter-requires
 judge-parameter-requires c κs = search rules
@@ -26,7 +26,7 @@ enum_told : tie.Need-enum-told
 enum_told c = search rules
 
 few : (c : tie.After-enum-told) → c.before.before.before.args.i < 50
-few c = let f = parameter-is _ _ _ (found c) in omega (arith, f.1, (state-roomed _ _ f.0).sound.few)
+few c = let f = parameter_is _ _ _ (found c) in omega (arith, f.1, (state_roomed _ _ f.0).sound.few)
 
 mul-count : tie.Need-overflow-mul-count
 mul-count c = search (rules, few c)
@@ -38,14 +38,14 @@ count-requires : tie.Need-count-requires
 count-requires c κs = search rules
 
 returns : tie.Need-returns
-unfolding carriersOf
+unfolding carriers_of
 returns c =
-    answered-by _ _ c.before.refusal.given.0.0
-    (by-refused _ _ (sym (ap toldVerdict c.before.refusal.given.1) ∙ c.before.before.before.judge-parameter.ensures))
+    answered_by _ _ c.before.refusal.given.0.0
+    (by_refused _ _ (sym (ap told_verdict c.before.refusal.given.1) ∙ c.before.before.before.judge-parameter.ensures))
 
 returns-2 : tie.Need-returns-2
-unfolding carriersOf
-returns-2 c = ap given c.count.ensures.0 ∙ answered-given _ _ (found c.before.before)
+unfolding carriers_of
+returns-2 c = ap given c.count.ensures.0 ∙ answered_given _ _ (found c.before.before)
 
 pub carried-by-spec : {M : Type 1} → statement M
 carried-by-spec =

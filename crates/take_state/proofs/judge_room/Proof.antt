@@ -2,7 +2,7 @@
 -- Assumes nothing.
 use mathlib.Core.Path.{sym, ◌∙◌}
 use Rattle.take_state.specs.State.{roomy}
-use Rattle.take_state.proofs.Rooms.{room-judged, room-short}
+use Rattle.take_state.proofs.Rooms.{room_judged, room_short}
 use borrow.Author.Rules.{rules}
 use Rattle.take_state.proofs.judge_room.Statement.{statement}
 use Rattle.take_state.proofs.judge_room.Tie as tie
@@ -15,11 +15,11 @@ judge-requires c κs = search rules
 
 returns : tie.Need-returns
 unfolding roomy
-returns c = room-judged _ _ _ (sym c.before.before.is-roomy.ensures ∙ c.before.if1.true) c.judge.result c.judge.ensures
+returns c = room_judged _ _ _ (sym c.before.before.is-roomy.ensures ∙ c.before.if1.true) c.judge.result c.judge.ensures
 
 returns-2 : tie.Need-returns-2
 unfolding roomy
-returns-2 c = room-short _ _ _ (sym c.before.is-roomy.ensures ∙ c.if1.false)
+returns-2 c = room_short _ _ _ (sym c.before.is-roomy.ensures ∙ c.if1.false)
 
 pub judge-room-spec : {M : Type 1} → statement M
 judge-room-spec = tie.close (tie.spec is-roomy-requires judge-requires returns returns-2)

@@ -3,18 +3,18 @@
 use mathlib.Core.Path.{◌≡◌, sym, ap, ◌∙◌}
 use native.Mathlib.Omega.{arith}
 use Rattle.num_whole.specs.Answer.{given}
-use Rattle.num_packed.proofs.Places.{tri-next, tri-within}
-use Rattle.refusal.specs.Told.{toldVerdict}
-use Rattle.refusal.proofs.Firsts.{answered-given, answered-by}
-use Rattle.take_state.specs.State.{state_of, parameterNumber, seenIn, sight_of}
-use Rattle.take_state.proofs.Rooms.{by-given, by-refused, state-roomed, parameter-is}
+use Rattle.num_packed.proofs.Places.{tri_next, tri_within}
+use Rattle.refusal.specs.Told.{told_verdict}
+use Rattle.refusal.proofs.Firsts.{answered_given, answered_by}
+use Rattle.take_state.specs.State.{state_of, parameter_number, seen_in, sight_of}
+use Rattle.take_state.proofs.Rooms.{by_given, by_refused, state_roomed, parameter_is}
 use borrow.Author.Rules.{rules}
 use Rattle.take_state.proofs.seen.Statement.{statement}
 use Rattle.take_state.proofs.seen.Tie as tie
 
 -- the state is accepted, and the parameter is one of the heading's
-found : (c : tie.After-enum-told) → let s = c.before.before.before.args in parameterNumber s.h (state_of s.matrix.now s.rights.now s.t) s.i ≡ 0
-found c = by-given _ (sym (ap toldVerdict c.enum_told.given.1) ∙ c.before.before.judge-parameter.ensures)
+found : (c : tie.After-enum-told) → let s = c.before.before.before.args in parameter_number s.h (state_of s.matrix.now s.rights.now s.t) s.i ≡ 0
+found c = by_given _ (sym (ap told_verdict c.enum_told.given.1) ∙ c.before.before.judge-parameter.ensures)
 
 judge-parameter-requires : tie.Need-judge-parameter-requires
 judge-parameter-requires c κs = search rules
@@ -27,10 +27,10 @@ enum_told c = search rules
 
 is-seen-requires : tie.Need-is-seen-requires
 is-seen-requires c κs =
-    let f = parameter-is _ _ _ (found c) in
-    let w = state-roomed _ _ f.0 in
+    let f = parameter_is _ _ _ (found c) in
+    let w = state_roomed _ _ f.0 in
     let i = c.before.before.before.args.i in
-    (omega (arith, f.1, w.sound.few), omega (arith, w.matrix, tri-next i, tri-within i _ f.1))
+    (omega (arith, f.1, w.sound.few), omega (arith, w.matrix, tri_next i, tri_within i _ f.1))
 
 sight-of-requires : tie.Need-sight-of-requires
 sight-of-requires c κs = search rules
@@ -38,12 +38,12 @@ sight-of-requires c κs = search rules
 returns : tie.Need-returns
 unfolding sight_of
 returns c =
-    answered-by _ _ c.before.refusal.given.0.0
-    (by-refused _ _ (sym (ap toldVerdict c.before.refusal.given.1) ∙ c.before.before.before.judge-parameter.ensures))
+    answered_by _ _ c.before.refusal.given.0.0
+    (by_refused _ _ (sym (ap told_verdict c.before.refusal.given.1) ∙ c.before.before.before.judge-parameter.ensures))
 
 returns-2 : tie.Need-returns-2
-unfolding sight_of seenIn
-returns-2 c = c.sight-of.ensures ∙ ap given c.before.is_seen.ensures ∙ answered-given _ _ (found c.before.before)
+unfolding sight_of seen_in
+returns-2 c = c.sight-of.ensures ∙ ap given c.before.is_seen.ensures ∙ answered_given _ _ (found c.before.before)
 
 pub seen-spec : {M : Type 1} → statement M
 seen-spec =

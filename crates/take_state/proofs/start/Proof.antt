@@ -3,17 +3,17 @@
 use mathlib.Core.Path.{◌≡◌, sym, ap, ◌∙◌}
 use native.Mathlib.Nat.{add-zero}
 use native.Mathlib.Omega.{arith}
-use Rattle.refusal.specs.Told.{toldVerdict}
+use Rattle.refusal.specs.Told.{told_verdict}
 use Rattle.take_room.specs.Room.{cleared}
-use Rattle.take_state.specs.State.{roomNumber}
-use Rattle.take_state.proofs.Rooms.{by-given, roomed, started-kept, started-cleared}
+use Rattle.take_state.specs.State.{room_number}
+use Rattle.take_state.proofs.Rooms.{by_given, roomed, started_kept, started_cleared}
 use borrow.Author.Rules.{rules}
 use Rattle.take_state.proofs.start.Statement.{statement}
 use Rattle.take_state.proofs.start.Tie as tie
 
 -- the heading is accepted, with room
-room : (c : tie.After-enum-told) → let s = c.before.before.before.before.before in roomNumber s.args.h s.args.matrix.now s.args.rights.now ≡ 0
-room c = by-given _ (sym (ap toldVerdict c.enum_told.given.1) ∙ c.before.before.judge-room.ensures)
+room : (c : tie.After-enum-told) → let s = c.before.before.before.before.before in room_number s.args.h s.args.matrix.now s.args.rights.now ≡ 0
+room c = by_given _ (sym (ap told_verdict c.enum_told.given.1) ∙ c.before.before.judge-room.ensures)
 
 judge-room-requires : tie.Need-judge-room-requires
 judge-room-requires c κs = search rules
@@ -47,8 +47,8 @@ same-length-2 c = search rules
 
 returns : tie.Need-returns
 returns c =
-    let e = sym (ap toldVerdict c.before.before.refusal.given.1) ∙ c.before.before.before.before.judge-room.ensures in
-    (e, started-kept _ _ _ c.before.before.refusal.given.0.0 _ e c.no-tally.ensures)
+    let e = sym (ap told_verdict c.before.before.refusal.given.1) ∙ c.before.before.before.before.judge-room.ensures in
+    (e, started_kept _ _ _ c.before.before.refusal.given.0.0 _ e c.no-tally.ensures)
 
 same-length-3 : tie.Need-same-length-3
 same-length-3 c = search rules
@@ -61,8 +61,8 @@ returns-2 c =
     let f = c.before.before.before.before.before in
     let t = f.before.before.before in
     let m = t.before.before.before.before.before.args.matrix.now in (
-      sym (ap toldVerdict t.enum_told.given.1) ∙ t.before.before.judge-room.ensures,
-      started-cleared _ _ _ _ _ _ (room t) (f.clear.ensures ∙ ap (λ k. cleared k m) (f.before.place.ensures ∙ add-zero _)) c.before.before.clear2.ensures c.no-tally2.ensures,
+      sym (ap told_verdict t.enum_told.given.1) ∙ t.before.before.judge-room.ensures,
+      started_cleared _ _ _ _ _ _ (room t) (f.clear.ensures ∙ ap (λ k. cleared k m) (f.before.place.ensures ∙ add-zero _)) c.before.before.clear2.ensures c.no-tally2.ensures,
     )
 
 pub start_spec : {M : Type 1} → statement M

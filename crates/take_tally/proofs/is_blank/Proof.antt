@@ -9,7 +9,7 @@ use borrow.Author.Rules.{rules}
 use Rattle.num_whole.specs.Tests.{same}
 use Rattle.num_whole.specs.Lists.{all, rest}
 use Rattle.num_whole.proofs.Cases.{is_same, not_same}
-use Rattle.num_whole.proofs.Walks.{all_end, all_pass, all-fail}
+use Rattle.num_whole.proofs.Walks.{all_end, all_pass, all_fail}
 use Rattle.take_tally.proofs.is_blank.Statement.{statement}
 use Rattle.take_tally.proofs.is_blank.Tie as tie
 
@@ -42,7 +42,7 @@ loop-again : tie.Need-loop-preserved invariant-loop decreases-loop
 loop-again c = let l = c.before.before.before.loop in (search rules, l.invariant.1, l.invariant.2 ∙ all_pass _ _ _ _ 0 (omega arith) (omega arith) (is_same _ _ c.if1.true))
 
 returns : tie.Need-returns invariant-loop decreases-loop
-returns c = let l = c.before.before.before.loop in sym (l.invariant.2 ∙ all-fail _ _ _ _ 0 (omega arith) (omega arith) (not_same _ _ c.if1.false))
+returns c = let l = c.before.before.before.loop in sym (l.invariant.2 ∙ all_fail _ _ _ _ 0 (omega arith) (omega arith) (not_same _ _ c.if1.false))
 
 returns-2 : tie.Need-returns-2 invariant-loop decreases-loop
 returns-2 c = sym (c.before.loop.invariant.2 ∙ all_end _ _ _ _ (omega arith))

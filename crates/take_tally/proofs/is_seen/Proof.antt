@@ -6,7 +6,7 @@ use native.Mathlib.Omega.{arith}
 use lib.IntN.{pos}
 use lib.ListN.{get_or}
 use Rattle.num_packed.specs.Sound.{is_zero}
-use Rattle.num_packed.proofs.Places.{tri-next}
+use Rattle.num_packed.proofs.Places.{tri_next}
 use Rattle.num_packed.proofs.Tests.{zero_bits}
 use borrow.Author.Rules.{rules}
 use Rattle.take_tally.proofs.is_seen.Statement.{statement}
@@ -16,10 +16,10 @@ place-requires : tie.Need-place-requires
 place-requires c κs = search rules
 
 mul-result : tie.Need-overflow-mul-result
-mul-result c = omega (arith, tri-next c.before.args.i)
+mul-result c = omega (arith, tri_next c.before.args.i)
 
 shared-slice-copy-out-result : tie.Need-shared-slice-copy-out-result
-shared-slice-copy-out-result c = omega (arith, c.place.ensures, tri-next c.before.args.i)
+shared-slice-copy-out-result c = omega (arith, c.place.ensures, tri_next c.before.args.i)
 
 returns : tie.Need-returns
 returns c =

@@ -4,16 +4,16 @@ use borrow.Author.Rules.{rules}
 use mathlib.Core.Path.{◌≡◌, refl, sym, ◌∙◌}
 use mathlib.Core.Bool.{Bool, true, false, not}
 use native.Mathlib.Omega.{arith}
-use Rattle.num_whole.proofs.Cases.{yes, no, by-same, is-less, not-less}
-use Rattle.num_packed.proofs.Places.{tri-next, tri-within}
-use Rattle.take_tally.specs.Parts.{markGood}
+use Rattle.num_whole.proofs.Cases.{yes, no, by_same, is_less, not_less}
+use Rattle.num_packed.proofs.Places.{tri_next, tri_within}
+use Rattle.take_tally.specs.Parts.{mark_good}
 use Rattle.take_tally.proofs.mark_sound.Statement.{statement}
 use Rattle.take_tally.proofs.mark_sound.Tie as tie
 
 is-seen-requires : tie.Need-is-seen-requires
 is-seen-requires c κs =
     let a = c.before.args in
-    (omega arith, omega (arith, tri-next a.i, tri-within a.i a.p (omega arith)))
+    (omega arith, omega (arith, tri_next a.i, tri_within a.i a.p (omega arith)))
 
 is-marked-requires : tie.Need-is-marked-requires
 is-marked-requires c κs = search rules
@@ -28,20 +28,20 @@ on true e = refl
 on false e = sym e
 
 returns : tie.Need-returns
-unfolding markGood
+unfolding mark_good
 returns c =
     let s = c.before.before in
-    (yes _ _ _ (is-less _ _ (omega arith)) (no _ _ _ (off _ (sym s.is_seen.ensures ∙ c.before.if2.true)) c.is-marked.ensures), omega arith)
+    (yes _ _ _ (is_less _ _ (omega arith)) (no _ _ _ (off _ (sym s.is_seen.ensures ∙ c.before.if2.true)) c.is-marked.ensures), omega arith)
 
 returns-2 : tie.Need-returns-2
-unfolding markGood
+unfolding mark_good
 returns-2 c =
     let s = c.before in
-    (yes _ _ _ (is-less _ _ (omega arith)) (yes _ _ _ (on _ (sym s.is_seen.ensures ∙ c.if2.false)) (by-same _ _)), omega arith)
+    (yes _ _ _ (is_less _ _ (omega arith)) (yes _ _ _ (on _ (sym s.is_seen.ensures ∙ c.if2.false)) (by_same _ _)), omega arith)
 
 returns-3 : tie.Need-returns-3
-unfolding markGood
-returns-3 c = (no _ _ _ (not-less _ _ (omega arith)) (by-same _ _), omega arith)
+unfolding mark_good
+returns-3 c = (no _ _ _ (not_less _ _ (omega arith)) (by_same _ _), omega arith)
 
 pub mark-sound-spec : {M : Type 1} → statement M
 mark-sound-spec =

@@ -12,11 +12,11 @@ use Rattle.take_tally.proofs.no_tally.Tie as tie
 no-rows-requires : tie.Need-no-rows-requires
 no-rows-requires c κs = search rules
 
-abbrev withRows : List Row → Tally
-withRows w = record { square = 0; counts = replicate 16 0; rows = w; marks = replicate 50 0 }
+abbrev with_rows : List Row → Tally
+with_rows w = record { square = 0; counts = replicate 16 0; rows = w; marks = replicate 50 0 }
 
 returns : tie.Need-returns
-returns c = ap withRows c.no_rows.ensures
+returns c = ap with_rows c.no_rows.ensures
 
 pub no-tally-spec : {M : Type 1} → statement M
 no-tally-spec = tie.close (tie.spec no-rows-requires returns)

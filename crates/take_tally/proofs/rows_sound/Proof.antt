@@ -10,7 +10,7 @@ use borrow.Author.Rules.{rules}
 use Rattle.num_whole.specs.Tests.{same}
 use Rattle.num_whole.specs.Lists.{all}
 use Rattle.take_tally.specs.Tally.{no_row}
-use Rattle.take_tally.proofs.Rows.{rows_pass, rows-fail}
+use Rattle.take_tally.proofs.Rows.{rows_pass, rows_fail}
 use Rattle.take_tally.proofs.rows_sound.Statement.{statement}
 use Rattle.take_tally.proofs.rows_sound.Tie as tie
 
@@ -42,7 +42,7 @@ loop-again : tie.Need-loop-preserved invariant-loop decreases-loop
 loop-again c = let l = c.before.before.before.before.loop in (search rules, below_more _ l.i l.invariant.1 (λ h. sym c.before.is-blank.ensures ∙ c.if1.true))
 
 returns : tie.Need-returns invariant-loop decreases-loop
-returns c = let l = c.before.before.before.before.loop in sym (rows-fail _ _ l.i (omega arith) l.invariant.0 (sym c.before.is-blank.ensures ∙ c.if1.false))
+returns c = let l = c.before.before.before.before.loop in sym (rows_fail _ _ l.i (omega arith) l.invariant.0 (sym c.before.is-blank.ensures ∙ c.if1.false))
 
 returns-2 : tie.Need-returns-2 invariant-loop decreases-loop
 returns-2 c = sym (rows_pass _ _ (λ k h. c.before.loop.invariant.1 k (omega arith)))

@@ -3,16 +3,16 @@
 use Rattle.std.proofs.Common.{not, T, sym, ap, ◌∙◌, rules}
 use lib.Ieee.{Float, nan, inf, fin, is_nan}
 use lib.Ieee.Scale.{finite}
-use Rattle.unit_convert.specs.Units.{toldDouble}
+use Rattle.unit_convert.specs.Units.{told_double}
 use Rattle.unit_convert.proofs.Trips.{back}
 use Rattle.test_numbers.proofs.put_double_of.Statement.{statement}
 use Rattle.test_numbers.proofs.put_double_of.Tie as tie
 
-a-number : (x : Float) → T (finite x) → T (not (is_nan x))
+a_number : (x : Float) → T (finite x) → T (not (is_nan x))
 unfolding is_nan
-a-number nan t = t
-a-number (inf s) t = tt
-a-number (fin s m e) t = tt
+a_number nan t = t
+a_number (inf s) t = tt
+a_number (fin s m e) t = tt
 
 double-of-unit-requires : tie.Need-double-of-unit-requires
 double-of-unit-requires c κs = search rules
@@ -30,7 +30,7 @@ float-to-bits-put-hex : tie.Need-float-to-bits-put-hex
 float-to-bits-put-hex c =
     let d = c.before.before.before.before.before.double-of-unit in
     let x = c.before.before.before.x.given in
-    a-number x.0.0 (back _ _ x.0.0 (sym d.ensures ∙ ap toldDouble x.1)).exact.number
+    a_number x.0.0 (back _ _ x.0.0 (sym d.ensures ∙ ap told_double x.1)).exact.number
 
 slice-aggregate-put-hex : tie.Need-slice-aggregate-put-hex
 slice-aggregate-put-hex c = search rules

@@ -4,8 +4,8 @@ use mathlib.Core.Path.{sym, ap, ◌∙◌}
 use mir.Facts.{to_z-of_z}
 use borrow.Author.Rules.{rules}
 use Rattle.num_whole.specs.Answer.{given}
-use Rattle.unit_nearest.specs.Doubles.{toldNearest}
-use Rattle.unit_turn.specs.Turning.{onCircle}
+use Rattle.unit_nearest.specs.Doubles.{told_nearest}
+use Rattle.unit_turn.specs.Turning.{on_circle}
 use Rattle.unit_convert.specs.Units.{turned}
 use Rattle.unit_convert.proofs.unit_by.Statement.{statement}
 use Rattle.unit_convert.proofs.unit_by.Tie as tie
@@ -30,21 +30,21 @@ unfolding turned
 returns c =
     let u = c.before.before.before.before in
     let q = c.before.before.q.given in
-    ap given (to_z-of_z (record { sfits = c.on-circle.type-inv }) ∙ c.on-circle.ensures
-    ∙ ap (λ z. onCircle u.before.args.row z) (to_z-of_z (record { sfits = c.before.known-told.given.0.1 })))
-    ∙ ap (λ a. turned u.before.args.row a) (sym (ap toldNearest q.1) ∙ u.unit-in.ensures)
+    ap given (to_z-of_z (record { sfits = c.on_circle_lem.type-inv }) ∙ c.on_circle_lem.ensures
+    ∙ ap (λ z. on_circle u.before.args.row z) (to_z-of_z (record { sfits = c.before.known-told.given.0.1 })))
+    ∙ ap (λ a. turned u.before.args.row a) (sym (ap told_nearest q.1) ∙ u.unit-in.ensures)
 
 returns-2 : tie.Need-returns-2
 unfolding turned
 returns-2 c =
     let u = c.before.before in
-    ap (λ a. turned u.before.args.row a) (sym (ap toldNearest c.enum_told.given.1) ∙ u.unit-in.ensures)
+    ap (λ a. turned u.before.args.row a) (sym (ap told_nearest c.enum_told.given.1) ∙ u.unit-in.ensures)
 
 returns-3 : tie.Need-returns-3
 unfolding turned
 returns-3 c =
     let u = c.before.before in
-    ap (λ a. turned u.before.args.row a) (sym (ap toldNearest c.enum-told2.given.1) ∙ u.unit-in.ensures)
+    ap (λ a. turned u.before.args.row a) (sym (ap told_nearest c.enum-told2.given.1) ∙ u.unit-in.ensures)
 
 pub unit-by-spec : {M : Type 1} → statement M
 unit-by-spec =

@@ -8,14 +8,14 @@ use Rattle.num_whole.specs.Answer.{given}
 use Rattle.num_whole.specs.Tests.{up_to, both, between}
 use Rattle.num_whole.proofs.Cases.{yes, no}
 use Rattle.unit_types.specs.Types.{is_type}
-use Rattle.unit_measure.specs.Measures.{reading, measuredAs}
-use Rattle.unit_types.proofs.Rows.{past, no-type}
+use Rattle.unit_measure.specs.Measures.{reading, measured_as}
+use Rattle.unit_types.proofs.Rows.{past, no_type}
 use Rattle.unit_measure.proofs.measured.Statement.{statement}
 use Rattle.unit_measure.proofs.measured.Tie as tie
 
-a_case : (t k : ℕ) (o c : Float) → t ≡ k → is_type k ≡ true → given (reading k o c) ≡ measuredAs t o c
-unfolding measuredAs
-a_case t k o c e h = yes (is_type k) _ _ h refl ∙ sym (ap (λ n. measuredAs n o c) e)
+a_case : (t k : ℕ) (o c : Float) → t ≡ k → is_type k ≡ true → given (reading k o c) ≡ measured_as t o c
+unfolding measured_as
+a_case t k o c e h = yes (is_type k) _ _ h refl ∙ sym (ap (λ n. measured_as n o c) e)
 
 returns : tie.Need-returns
 unfolding is_type between both up_to
@@ -58,8 +58,8 @@ unfolding is_type between both up_to
 returns-10 c = a_case _ 10 _ _ c.match.keys10 refl
 
 returns-11 : tie.Need-returns-11
-unfolding measuredAs
-returns-11 c = no _ _ _ (no-type _ (past 1 c.before.args.kind 10 c.match.rest)) refl
+unfolding measured_as
+returns-11 c = no _ _ _ (no_type _ (past 1 c.before.args.kind 10 c.match.rest)) refl
 
 pub measured-spec : {M : Type 1} → statement M
 measured-spec =

@@ -4,7 +4,7 @@ use Prim.Native.Nat.{ℕ, ◌+◌, ◌^◌, ◌<◌}
 use native.Mathlib.Omega.{arith}
 use borrow.Author.Rules.{rules}
 use Rattle.unit_nearest.specs.Doubles.{hidden}
-use Rattle.unit_nearest.proofs.Steps.{hidden-most}
+use Rattle.unit_nearest.proofs.Steps.{hidden_most}
 use Rattle.unit_nearest.proofs.digits_of.Statement.{statement}
 use Rattle.unit_nearest.proofs.digits_of.Tie as tie
 use Rattle.unit_nearest.proofs.digits_of.Reads as reads
@@ -12,7 +12,7 @@ use Rattle.unit_nearest.proofs.digits_of.Lts as lts
 use Rattle.unit_nearest.proofs.hidden_bit.Reads as hidden-bit-reads
 
 below : (h x t : ℕ) → h ≡ hidden x → t < 2 ^ 52 → h + t < 2 ^ 53
-below h x t e l = omega (arith, hidden-most x)
+below h x t e l = omega (arith, hidden_most x)
 
 hidden-bit-requires : tie.Need-hidden-bit-requires
 hidden-bit-requires c κs = search rules

@@ -7,8 +7,8 @@ use lib.Ieee.Nearest.{closest}
 use mir.Facts.{to_z-of_z}
 use borrow.Author.Rules.{rules}
 use Rattle.unit_nearest.specs.Doubles.{signed, within, hidden}
-use Rattle.unit_nearest.proofs.Signs.{limits-handed}
-use Rattle.unit_nearest.proofs.Steps.{hidden-set, of-subnormal, of-normal}
+use Rattle.unit_nearest.proofs.Signs.{limits_handed}
+use Rattle.unit_nearest.proofs.Steps.{hidden_set, of_subnormal, of_normal}
 use Rattle.unit_nearest.proofs.fields_unit.Statement.{statement}
 use Rattle.unit_nearest.proofs.fields_unit.Tie as tie
 use Rattle.unit_nearest.proofs.fields_unit.Reads as reads
@@ -19,7 +19,7 @@ use Rattle.unit_nearest.proofs.shifted_unit.Reads as shifted-unit-reads
 
 -- with the hidden bit the digits are from 2 ^ 52 on
 full : (d x t : ℕ) → d ≡ hidden x + t → (x ≡ 0 → ⊥) → 2 ^ 52 ≤ d
-full d x t e n = omega (arith, hidden-set x n)
+full d x t e n = omega (arith, hidden_set x n)
 
 digits-of-requires : tie.Need-digits-of-requires
 digits-of-requires c κs = search rules
@@ -37,9 +37,9 @@ returns c =
     let a = s.args in
     let f = a.f in
     c.shifted-unit.ensures
-    ∙ limits-handed a.low a.high (signed f.negative (closest b.digits_of.result (2 ^ (1074 - a.k)))) s.ranges.low s.ranges.high
+    ∙ limits_handed a.low a.high (signed f.negative (closest b.digits_of.result (2 ^ (1074 - a.k)))) s.ranges.low s.ranges.high
     ∙ ap (λ (n : ℕ). within a.low a.high (signed f.negative n))
-    (ap (λ (d : ℕ). closest d (2 ^ (1074 - a.k))) b.digits_of.ensures.0 ∙ of-subnormal f.exponent f.fraction a.k b.before.if1.true s.requires.2)
+    (ap (λ (d : ℕ). closest d (2 ^ (1074 - a.k))) b.digits_of.ensures.0 ∙ of_subnormal f.exponent f.fraction a.k b.before.if1.true s.requires.2)
 
 digits-of-requires-2 : tie.Need-digits-of-requires-2
 digits-of-requires-2 c κs = search rules
@@ -65,9 +65,9 @@ returns-2 c =
     let a = s.args in
     let f = a.f in
     c.placed-unit.ensures
-    ∙ limits-handed a.low a.high (signed f.negative (closest (b.digits-of2.result * 2 ^ (f.exponent + a.k)) (2 ^ 1075))) s.ranges.low s.ranges.high
+    ∙ limits_handed a.low a.high (signed f.negative (closest (b.digits-of2.result * 2 ^ (f.exponent + a.k)) (2 ^ 1075))) s.ranges.low s.ranges.high
     ∙ ap (λ (n : ℕ). within a.low a.high (signed f.negative n))
-    (ap (λ (d : ℕ). closest (d * 2 ^ (f.exponent + a.k)) (2 ^ 1075)) b.digits-of2.ensures.0 ∙ of-normal f.exponent f.fraction a.k b.before.if1.false)
+    (ap (λ (d : ℕ). closest (d * 2 ^ (f.exponent + a.k)) (2 ^ 1075)) b.digits-of2.ensures.0 ∙ of_normal f.exponent f.fraction a.k b.before.if1.false)
 
 pub fields-unit-spec : {M : Type 1} → statement M
 fields-unit-spec =

@@ -2,7 +2,7 @@
 use mathlib.Core.Path.{refl}
 use mathlib.Core.Bool.{true}
 use lib.Ieee.{inf, lt, of_bits, nan_bits}
-use Rattle.unit_nearest.proofs.Steps.{between, not-below}
+use Rattle.unit_nearest.proofs.Steps.{between, not_below}
 use Rattle.unit_nearest.proofs.is_finite.Statement.{statement}
 use Rattle.unit_nearest.proofs.is_finite.Tie as tie
 
@@ -20,7 +20,7 @@ returns c = let x = c.before.args.x in between x (lt (inf true) x) c.if1.true re
 
 returns-2 : tie.Need-returns-2
 unfolding of_bits
-returns-2 c = not-below c.before.args.x c.if1.false
+returns-2 c = not_below c.before.args.x c.if1.false
 
 pub is-finite-spec : {M : Type 1} → statement M
 is-finite-spec = tie.close (tie.spec float-from-bits-top float-from-bits-bottom returns returns-2)

@@ -8,9 +8,9 @@ use Rattle.unit_nearest.proofs.Laws.{tested}
 use Rattle.unit_nearest.proofs.limited.Statement.{statement}
 use Rattle.unit_nearest.proofs.limited.Tie as tie
 
-and-false : (a : Bool) → a && false ≡ false
-and-false true = λ i. false
-and-false false = λ i. false
+and_false : (a : Bool) → a && false ≡ false
+and_false true = λ i. false
+and_false false = λ i. false
 
 returns : tie.Need-returns
 returns c =
@@ -24,7 +24,7 @@ returns-2 c =
     let s = c.before.before in
     let b = tested s.args.q s.args.high false s.ranges.q s.ranges.high c.if2.false in
     sym (ap (λ (y : Bool). cond (le_z s.args.low s.args.q && y) (given s.args.q) (refused 16)) b
-    ∙ ap (λ (y : Bool). cond y (given s.args.q) (refused 16)) (and-false (le_z s.args.low s.args.q)))
+    ∙ ap (λ (y : Bool). cond y (given s.args.q) (refused 16)) (and_false (le_z s.args.low s.args.q)))
 
 returns-3 : tie.Need-returns-3
 returns-3 c =

@@ -7,7 +7,7 @@ use lib.Dec.{lit<}
 use lib.Ieee.Nearest.{closest}
 use borrow.Author.Rules.{rules}
 use Rattle.unit_nearest.specs.Doubles.{signed, within}
-use Rattle.unit_nearest.proofs.Signs.{outside, limits-handed}
+use Rattle.unit_nearest.proofs.Signs.{outside, limits_handed}
 use Rattle.unit_nearest.proofs.Steps.{lowered, too_large}
 use Rattle.unit_nearest.proofs.placed_unit.Statement.{statement}
 use Rattle.unit_nearest.proofs.placed_unit.Tie as tie
@@ -33,7 +33,7 @@ returns-2 c =
     let s = c.before.before in
     let a = s.args in
     c.shifted-unit.ensures
-    ∙ limits-handed a.low a.high (signed a.negative (closest a.digits (2 ^ (1075 - a.place)))) s.ranges.low s.ranges.high
+    ∙ limits_handed a.low a.high (signed a.negative (closest a.digits (2 ^ (1075 - a.place)))) s.ranges.low s.ranges.high
     ∙ ap (λ (n : ℕ). within a.low a.high (signed a.negative n)) (lowered a.digits a.place (1075 - a.place) 1075 (whole a.place c.before.if1.false))
 
 pub placed-unit-spec : {M : Type 1} → statement M

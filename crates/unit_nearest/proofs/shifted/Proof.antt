@@ -6,7 +6,7 @@ use lib.Dec.{lit≤}
 use lib.Pow.{pow_pos, pow_mono}
 use lib.Ieee.Nearest.{closest}
 use borrow.Author.Rules.{rules}
-use Rattle.unit_nearest.proofs.Steps.{rounds, shifted-out, closest-small}
+use Rattle.unit_nearest.proofs.Steps.{rounds, shifted_out, closest_small}
 use Rattle.unit_nearest.proofs.shifted.Statement.{statement}
 use Rattle.unit_nearest.proofs.shifted.Tie as tie
 use Rattle.unit_nearest.proofs.shifted.Reads as reads
@@ -14,7 +14,7 @@ use Rattle.unit_nearest.proofs.shifted.Lts as lts
 use Rattle.unit_nearest.proofs.power.Reads as power-reads
 
 returns : tie.Need-returns
-returns c = (shifted-out c.before.args.digits c.before.args.shift c.before.requires c.if1.true, lit≤ tt)
+returns c = (shifted_out c.before.args.digits c.before.args.shift c.before.requires c.if1.true, lit≤ tt)
 
 power-requires : tie.Need-power-requires
 power-requires c κs = search rules
@@ -50,14 +50,14 @@ div-result : tie.Need-nonzero-div-result
 div-result c = least c.before.before.args.shift c.power.result c.power.ensures
 
 -- with the unit under both its names
-is-closest : (d s u : ℕ) → u ≡ 2 ^ s → (2 * d + u - 1 + d / 2 ^ s % 2) / u / 2 ≡ closest d (2 ^ s)
-is-closest d s u e = ap (λ (x : ℕ). (2 * d + x - 1 + d / 2 ^ s % 2) / x / 2) e ∙ rounds d (2 ^ s) (pow_pos s)
+is_closest : (d s u : ℕ) → u ≡ 2 ^ s → (2 * d + u - 1 + d / 2 ^ s % 2) / u / 2 ≡ closest d (2 ^ s)
+is_closest d s u e = ap (λ (x : ℕ). (2 * d + x - 1 + d / 2 ^ s % 2) / x / 2) e ∙ rounds d (2 ^ s) (pow_pos s)
 
 returns-2 : tie.Need-returns-2
 returns-2 c =
     let s = c.before.before in
-    let e = is-closest s.args.digits s.args.shift c.power.result c.power.ensures in
-    (e, subst (λ (x : ℕ). x ≤ 2 ^ 53) (sym e) (closest-small s.args.digits (2 ^ s.args.shift) s.requires))
+    let e = is_closest s.args.digits s.args.shift c.power.result c.power.ensures in
+    (e, subst (λ (x : ℕ). x ≤ 2 ^ 53) (sym e) (closest_small s.args.digits (2 ^ s.args.shift) s.requires))
 
 pub shifted-spec : {M : Type 1} → statement M
 shifted-spec =

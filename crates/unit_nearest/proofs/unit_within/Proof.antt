@@ -10,12 +10,12 @@ use lib.Ieee.Scale.{finite}
 use lib.Ieee.Nearest.{closest}
 use mir.Facts.{to_z-of_z}
 use borrow.Author.Rules.{rules}
-use Rattle.unit_nearest.specs.Doubles.{signed, mant, unitWithin}
-use Rattle.unit_nearest.specs.Steps.{fields_of, fieldsUnit}
+use Rattle.unit_nearest.specs.Doubles.{signed, mant, unit_within}
+use Rattle.unit_nearest.specs.Steps.{fields_of, fields_unit}
 use Rattle.unit_nearest.specs.declared.Fields.{Fields}
-use Rattle.unit_nearest.proofs.Claims.{number-bits}
-use Rattle.unit_nearest.proofs.Signs.{limits-handed}
-use Rattle.unit_nearest.proofs.Steps.{field-small, fraction-small, not_finite, a-number}
+use Rattle.unit_nearest.proofs.Claims.{number_bits}
+use Rattle.unit_nearest.proofs.Signs.{limits_handed}
+use Rattle.unit_nearest.proofs.Steps.{field_small, fraction_small, not_finite, a_number}
 use Rattle.unit_nearest.proofs.unit_within.Statement.{statement}
 use Rattle.unit_nearest.proofs.unit_within.Tie as tie
 use Rattle.unit_nearest.proofs.unit_within.Reads as reads
@@ -32,17 +32,17 @@ unit_of k f = signed f.negative (closest (mant f.exponent f.fraction * 2 ^ k) (2
 told : (x : Float) (r t : Bool) → r ≡ finite x → r ≡ t → finite x ≡ t
 told x r t e h = sym e ∙ h
 
-by_bits : (k : ℕ) (lo hi : ℤ) (x : Float) → T (fits binary64 x) → finite x ≡ true → fieldsUnit k lo hi (fields_of (to_bits binary64 x)) ≡ unitWithin k lo hi x
+by_bits : (k : ℕ) (lo hi : ℤ) (x : Float) → T (fits binary64 x) → finite x ≡ true → fields_unit k lo hi (fields_of (to_bits binary64 x)) ≡ unit_within k lo hi x
 by_bits k lo hi x g h =
     let e = of_bits-to_bits binary64 x g in
-    sym (number-bits k lo hi (to_bits binary64 x) (subst (λ (y : Float). T (finite y)) (sym e) (subst T (sym h) tt))) ∙ ap (λ (y : Float). unitWithin k lo hi y) e
+    sym (number_bits k lo hi (to_bits binary64 x) (subst (λ (y : Float). T (finite y)) (sym e) (subst T (sym h) tt))) ∙ ap (λ (y : Float). unit_within k lo hi y) e
 
 is-finite-requires : tie.Need-is-finite-requires
 is-finite-requires c κs = search rules
 
 float-to-bits-fields-of : tie.Need-float-to-bits-fields-of
 float-to-bits-fields-of c =
-    let b = c.before in a-number b.before.args.x (told b.before.args.x b.is_finite.result true b.is_finite.ensures c.if1.true)
+    let b = c.before in a_number b.before.args.x (told b.before.args.x b.is_finite.result true b.is_finite.ensures c.if1.true)
 
 fields-of-requires : tie.Need-fields-of-requires
 fields-of-requires c κs = search rules
@@ -52,8 +52,8 @@ fields-unit-requires c κs =
     let s = c.before.before.before in
     let p = to_bits binary64 s.args.x in
     let e = c.fields-of.ensures in (
-      subst (λ (f : Fields). f.exponent < 2048) (sym e) (field-small p),
-      subst (λ (f : Fields). f.fraction < 2 ^ 52) (sym e) (fraction-small p),
+      subst (λ (f : Fields). f.exponent < 2048) (sym e) (field_small p),
+      subst (λ (f : Fields). f.fraction < 2 ^ 52) (sym e) (fraction_small p),
       s.requires.0,
       subst (λ (z : ℤ). nat_abs z ≤ 2 ^ 40) (sym (to_z-of_z s.ranges.low)) s.requires.1,
       subst (λ (z : ℤ). nat_abs z ≤ 2 ^ 40) (sym (to_z-of_z s.ranges.high)) s.requires.2,
@@ -65,8 +65,8 @@ returns c =
     let s = b.before in
     let a = s.args in
     c.fields-unit.ensures
-    ∙ limits-handed a.low a.high (unit_of a.k c.before.fields-of.result) s.ranges.low s.ranges.high
-    ∙ ap (λ (f : Fields). fieldsUnit a.k a.low a.high f) c.before.fields-of.ensures
+    ∙ limits_handed a.low a.high (unit_of a.k c.before.fields-of.result) s.ranges.low s.ranges.high
+    ∙ ap (λ (f : Fields). fields_unit a.k a.low a.high f) c.before.fields-of.ensures
     ∙ by_bits a.k a.low a.high a.x (subst T (sym s.well-formed.0.1) tt) (told a.x b.is_finite.result true b.is_finite.ensures c.before.before.if1.true)
 
 returns-2 : tie.Need-returns-2

@@ -3,16 +3,16 @@
 use mathlib.Core.Path.{refl}
 use mir.Facts.{to_z-of_z}
 use Rattle.num_whole.proofs.Cases.{yes, no}
-use Rattle.unit_turn.specs.Turning.{topOf}
+use Rattle.unit_turn.specs.Turning.{top_of}
 use Rattle.unit_turn.proofs.top_of.Statement.{statement}
 use Rattle.unit_turn.proofs.top_of.Tie as tie
 
 returns : tie.Need-returns
-unfolding topOf
+unfolding top_of
 returns c = yes _ _ _ c.if1.true refl
 
 returns-2 : tie.Need-returns-2
-unfolding topOf
+unfolding top_of
 returns-2 c = no _ _ _ c.before.if1.false (to_z-of_z (record { sfits = c.struct_told.given.1.1.0.1 }))
 
 pub top-of-spec : {M : Type 1} → statement M

@@ -2,7 +2,7 @@
 -- Assumes nothing.
 use mathlib.Core.Path.{sym, ap, ◌∙◌}
 use borrow.Author.Rules.{rules}
-use Rattle.unit_types.specs.Types.{rowOfType}
+use Rattle.unit_types.specs.Types.{row_of_type}
 use Rattle.unit_types.proofs.Rows.{past, other}
 use Rattle.unit_types.proofs.table_row.Statement.{statement}
 use Rattle.unit_types.proofs.table_row.Tie as tie
@@ -38,40 +38,40 @@ metre-row-requires-2 : tie.Need-metre-row-requires-2
 metre-row-requires-2 c κs = search rules
 
 returns : tie.Need-returns
-unfolding rowOfType
-returns c = c.metre-row.ensures ∙ sym (ap rowOfType c.before.match.keys1)
+unfolding row_of_type
+returns c = c.metre-row.ensures ∙ sym (ap row_of_type c.before.match.keys1)
 
 returns-2 : tie.Need-returns-2
-unfolding rowOfType
-returns-2 c = c.angle-row.ensures ∙ sym (ap rowOfType c.before.match.keys2)
+unfolding row_of_type
+returns-2 c = c.angle-row.ensures ∙ sym (ap row_of_type c.before.match.keys2)
 
 returns-3 : tie.Need-returns-3
-unfolding rowOfType
-returns-3 c = c.angle-row2.ensures ∙ sym (ap rowOfType c.before.match.keys3)
+unfolding row_of_type
+returns-3 c = c.angle-row2.ensures ∙ sym (ap row_of_type c.before.match.keys3)
 
 returns-4 : tie.Need-returns-4
-unfolding rowOfType
-returns-4 c = c.angle-row3.ensures ∙ sym (ap rowOfType c.before.match.keys4)
+unfolding row_of_type
+returns-4 c = c.angle-row3.ensures ∙ sym (ap row_of_type c.before.match.keys4)
 
 returns-5 : tie.Need-returns-5
-unfolding rowOfType
-returns-5 c = c.angle-row4.ensures ∙ sym (ap rowOfType c.before.match.keys5)
+unfolding row_of_type
+returns-5 c = c.angle-row4.ensures ∙ sym (ap row_of_type c.before.match.keys5)
 
 returns-6 : tie.Need-returns-6
-unfolding rowOfType
-returns-6 c = c.angle-row5.ensures ∙ sym (ap rowOfType c.before.match.keys6)
+unfolding row_of_type
+returns-6 c = c.angle-row5.ensures ∙ sym (ap row_of_type c.before.match.keys6)
 
 returns-7 : tie.Need-returns-7
-unfolding rowOfType
-returns-7 c = c.angle-row6.ensures ∙ sym (ap rowOfType c.before.match.keys7)
+unfolding row_of_type
+returns-7 c = c.angle-row6.ensures ∙ sym (ap row_of_type c.before.match.keys7)
 
 returns-8 : tie.Need-returns-8
-unfolding rowOfType
-returns-8 c = c.angle-row7.ensures ∙ sym (ap rowOfType c.before.match.keys8)
+unfolding row_of_type
+returns-8 c = c.angle-row7.ensures ∙ sym (ap row_of_type c.before.match.keys8)
 
 returns-9 : tie.Need-returns-9
-unfolding rowOfType
-returns-9 c = c.angle-row8.ensures ∙ sym (ap rowOfType c.before.match.keys9)
+unfolding row_of_type
+returns-9 c = c.angle-row8.ensures ∙ sym (ap row_of_type c.before.match.keys9)
 
 returns-10 : tie.Need-returns-10
 returns-10 c = c.metre-row2.ensures ∙ other _ (past 2 c.before.before.args.kind 9 c.before.match.rest)

@@ -2,18 +2,18 @@
 -- Assumes nothing.
 use mathlib.Core.Path.{◌≡◌, sym, ap, ◌∙◌}
 use Rattle.arc_heading.specs.Judge.{judged}
-use Rattle.refusal.specs.Told.{toldVerdict}
-use Rattle.call_heading.specs.Lent.{headingIn, headNumber}
-use Rattle.wheloruka.proofs.Writes.{headed-head, headed-judged, headed-tally, headed-none}
+use Rattle.refusal.specs.Told.{told_verdict}
+use Rattle.call_heading.specs.Lent.{heading_in, head_number}
+use Rattle.wheloruka.proofs.Writes.{headed_head, headed_judged, headed_tally, headed_none}
 use borrow.Author.Rules.{rules}
 use Rattle.wheloruka.proofs.judge_headed.Statement.{statement}
 use Rattle.wheloruka.proofs.judge_headed.Tie as tie
 
 -- nothing is wrong with the heading's numbers, and what its judge told
-head : (c : tie.After-judge) → headNumber c.before.before.before.before.before.before.args.heading.now ≡ 0
+head : (c : tie.After-judge) → head_number c.before.before.before.before.before.before.args.heading.now ≡ 0
 head c = sym c.before.before.before.judge-head.ensures ∙ c.before.before.if1.true
 
-heard : (c : tie.After-judge) → judged (headingIn c.before.before.before.before.before.before.args.heading.now) ≡ toldVerdict c.judge.result
+heard : (c : tie.After-judge) → judged (heading_in c.before.before.before.before.before.before.args.heading.now) ≡ told_verdict c.judge.result
 heard c = ap judged (sym c.before.heading-in.ensures) ∙ sym c.judge.ensures
 
 judge-head-requires : tie.Need-judge-head-requires
@@ -38,16 +38,16 @@ has-tally-requires : tie.Need-has-tally-requires
 has-tally-requires c κs = search rules
 
 returns : tie.Need-returns
-returns c = headed-judged _ _ (head c.before.before.before.before) c.before.before.e.given.0.0 (heard c.before.before.before.before ∙ ap toldVerdict c.before.before.e.given.1) c.number.ensures
+returns c = headed_judged _ _ (head c.before.before.before.before) c.before.before.e.given.0.0 (heard c.before.before.before.before ∙ ap told_verdict c.before.before.e.given.1) c.number.ensures
 
 returns-2 : tie.Need-returns-2
-returns-2 c = headed-none _ _ (head c.before.before.before.before) (heard c.before.before.before.before ∙ ap toldVerdict c.before.before.enum_told.given.1) (sym c.before.has-tally.ensures ∙ c.if2.true)
+returns-2 c = headed_none _ _ (head c.before.before.before.before) (heard c.before.before.before.before ∙ ap told_verdict c.before.before.enum_told.given.1) (sym c.before.has-tally.ensures ∙ c.if2.true)
 
 returns-3 : tie.Need-returns-3
-returns-3 c = headed-tally _ _ (head c.before.before.before.before) (heard c.before.before.before.before ∙ ap toldVerdict c.before.before.enum_told.given.1) (sym c.before.has-tally.ensures ∙ c.if2.false)
+returns-3 c = headed_tally _ _ (head c.before.before.before.before) (heard c.before.before.before.before ∙ ap told_verdict c.before.before.enum_told.given.1) (sym c.before.has-tally.ensures ∙ c.if2.false)
 
 returns-4 : tie.Need-returns-4
-returns-4 c = headed-head _ _ c.before.judge-head.ensures c.if1.false
+returns-4 c = headed_head _ _ c.before.judge-head.ensures c.if1.false
 
 pub judge-headed-spec : {M : Type 1} → statement M
 judge-headed-spec =

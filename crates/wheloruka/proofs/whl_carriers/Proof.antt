@@ -1,8 +1,8 @@
 -- `wheloruka::whl_carriers` meets its contract: 20 where the heading or the tally is short, else what the state's entry told.
 -- Assumes nothing.
 use mathlib.Core.Path.{sym, ap₂, ◌∙◌}
-use Rattle.take_state.specs.State.{state_of, carriersOf}
-use Rattle.wheloruka.proofs.Calls.{carriers-short, carriers-whole}
+use Rattle.take_state.specs.State.{state_of, carriers_of}
+use Rattle.wheloruka.proofs.Calls.{carriers_short, carriers_whole}
 use borrow.Author.Rules.{rules}
 use Rattle.wheloruka.proofs.whl_carriers.Statement.{statement}
 use Rattle.wheloruka.proofs.whl_carriers.Tie as tie
@@ -30,12 +30,12 @@ returns c =
     let told = c.before.before.before in
     let whole = c.before.before.before.before.before.before.before in
     let a = whole.before.before.before.before.before.args in
-    carriers-whole _ _ _ _ (sym whole.before.Has-both.ensures ∙ whole.if1.true) _
-    (told.carried-by.ensures ∙ ap₂ (λ h t. carriersOf h (state_of a.matrix.now a.rights.now t) a.parameter) told.before.before.before.heading-in.ensures told.before.before.tally-in.ensures)
+    carriers_whole _ _ _ _ (sym whole.before.Has-both.ensures ∙ whole.if1.true) _
+    (told.carried-by.ensures ∙ ap₂ (λ h t. carriers_of h (state_of a.matrix.now a.rights.now t) a.parameter) told.before.before.before.heading-in.ensures told.before.before.tally-in.ensures)
     c.before.before.give-carriers.ensures
 
 returns-2 : tie.Need-returns-2
-returns-2 c = carriers-short _ _ _ _ (sym c.before.Has-both.ensures ∙ c.if1.false)
+returns-2 c = carriers_short _ _ _ _ (sym c.before.Has-both.ensures ∙ c.if1.false)
 
 pub whl-carriers-spec : {M : Type 1} → statement M
 whl-carriers-spec =

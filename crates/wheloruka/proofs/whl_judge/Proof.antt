@@ -2,9 +2,9 @@
 -- Assumes nothing.
 use mathlib.Core.Path.{sym, ap, ap₂, ◌∙◌}
 use Rattle.refusal.specs.First.{answered}
-use Rattle.refusal.specs.Told.{toldVerdict}
-use Rattle.take_state.specs.State.{state_of, stateNumber}
-use Rattle.wheloruka.proofs.Calls.{number_short, number-done, number-refused}
+use Rattle.refusal.specs.Told.{told_verdict}
+use Rattle.take_state.specs.State.{state_of, state_number}
+use Rattle.wheloruka.proofs.Calls.{number_short, number_done, number_refused}
 use borrow.Author.Rules.{rules}
 use Rattle.wheloruka.proofs.whl_judge.Statement.{statement}
 use Rattle.wheloruka.proofs.whl_judge.Tie as tie
@@ -40,14 +40,14 @@ number-requires c κs = search rules
 returns : tie.Need-returns
 returns c =
     let a = (start-of-both (both-of-tally c.before.before.before)).args in
-    number-done _ _ _ (sym c.before.before.before.before.before.before.Has-both.ensures ∙ c.before.before.before.before.before.if1.true)
-    (sym (ap toldVerdict c.enum_told.given.1) ∙ c.before.before.judge-state.ensures ∙ ap₂ (λ h t. answered (stateNumber h (state_of a.matrix.now a.rights.now t)) tt) c.before.before.before.before.heading-in.ensures c.before.before.before.tally-in.ensures)
+    number_done _ _ _ (sym c.before.before.before.before.before.before.Has-both.ensures ∙ c.before.before.before.before.before.if1.true)
+    (sym (ap told_verdict c.enum_told.given.1) ∙ c.before.before.judge-state.ensures ∙ ap₂ (λ h t. answered (state_number h (state_of a.matrix.now a.rights.now t)) tt) c.before.before.before.before.heading-in.ensures c.before.before.before.tally-in.ensures)
 
 returns-2 : tie.Need-returns-2
 returns-2 c =
     let tally = c.before.before.before.before.before in let both = both-of-tally tally in let a = (start-of-both both).args in
-    number-refused _ _ _ (sym both.Has-both.ensures ∙ tally.before.before.if1.true) c.before.before.e.given.0.0 _
-    (sym (ap toldVerdict c.before.before.e.given.1) ∙ c.before.before.before.before.judge-state.ensures ∙ ap₂ (λ h t. answered (stateNumber h (state_of a.matrix.now a.rights.now t)) tt) tally.before.heading-in.ensures tally.tally-in.ensures) c.number.ensures
+    number_refused _ _ _ (sym both.Has-both.ensures ∙ tally.before.before.if1.true) c.before.before.e.given.0.0 _
+    (sym (ap told_verdict c.before.before.e.given.1) ∙ c.before.before.before.before.judge-state.ensures ∙ ap₂ (λ h t. answered (state_number h (state_of a.matrix.now a.rights.now t)) tt) tally.before.heading-in.ensures tally.tally-in.ensures) c.number.ensures
 
 returns-3 : tie.Need-returns-3
 returns-3 c = number_short _ _ _ (sym c.before.Has-both.ensures ∙ c.if1.false)

@@ -2,8 +2,8 @@
 -- Assumes nothing.
 use mathlib.Core.Path.{sym}
 use lib.Seq.{length-take-le}
-use Rattle.list.specs.Listing.{listAnswer, listLeft}
-use Rattle.wheloruka.proofs.Writes.{gives, list-none}
+use Rattle.list.specs.Listing.{list_answer, list_left}
+use Rattle.wheloruka.proofs.Writes.{gives, list_none}
 use borrow.Author.Rules.{rules}
 use Rattle.wheloruka.proofs.whl_list.Statement.{statement}
 use Rattle.wheloruka.proofs.whl_list.Tie as tie
@@ -39,7 +39,7 @@ same-length-2 c = search rules
 returns : tie.Need-returns
 returns c =
     let listed = c.before.before.before.before.before.before in let room = room-of-listed listed in let a = (start-of-room room).args in
-    gives (listAnswer a.file.now) (listLeft a.file.now) _ _ (list-none _) _ room.room_for.ensures.0 _ listed.list.ensures.0 c.before.before.give-written.ensures listed.list.ensures.1
+    gives (list_answer a.file.now) (list_left a.file.now) _ _ (list_none _) _ room.room_for.ensures.0 _ listed.list.ensures.0 c.before.before.give-written.ensures listed.list.ensures.1
 
 pub whl-list-spec : {M : Type 1} → statement M
 whl-list-spec =

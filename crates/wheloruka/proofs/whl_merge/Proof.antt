@@ -2,8 +2,8 @@
 -- Assumes nothing.
 use mathlib.Core.Path.{sym, ap}
 use lib.Seq.{length-take-le}
-use Rattle.merge.specs.Files.{mergeAnswer, mergeLeft}
-use Rattle.call_files.specs.Writing.{mergeCallNumber}
+use Rattle.merge.specs.Files.{merge_answer, merge_left}
+use Rattle.call_files.specs.Writing.{merge_call_number}
 use Rattle.wheloruka.proofs.Writes.{gives, merge_none}
 use borrow.Author.Rules.{rules}
 use Rattle.wheloruka.proofs.whl_merge.Statement.{statement}
@@ -40,7 +40,7 @@ same-length-2 c = search rules
 returns : tie.Need-returns
 returns c =
     let merged = c.before.before.before.before.before.before in let room = room-of-merged merged in let a = (start-of-room room).args in
-    gives (λ k. mergeCallNumber (mergeAnswer a.first.now a.second.now k)) (mergeLeft a.first.now a.second.now) _ _ (merge_none _ _) _ room.room_for.ensures.0 _ (ap mergeCallNumber merged.merge.ensures.0) c.before.before.give-merged.ensures merged.merge.ensures.1
+    gives (λ k. merge_call_number (merge_answer a.first.now a.second.now k)) (merge_left a.first.now a.second.now) _ _ (merge_none _ _) _ room.room_for.ensures.0 _ (ap merge_call_number merged.merge.ensures.0) c.before.before.give-merged.ensures merged.merge.ensures.1
 
 pub whl-merge-spec : {M : Type 1} → statement M
 whl-merge-spec =

@@ -3,9 +3,9 @@
 use mathlib.Core.Path.{sym, ap}
 use lib.Seq.{length-take-le}
 use mathlib.Core.Bool.{false}
-use Rattle.norm_move.specs.Move.{moveAnswer, moveLeft}
-use Rattle.call_files.specs.Writing.{moveCallNumber}
-use Rattle.wheloruka.proofs.Writes.{gives, move-none}
+use Rattle.norm_move.specs.Move.{move_answer, move_left}
+use Rattle.call_files.specs.Writing.{move_call_number}
+use Rattle.wheloruka.proofs.Writes.{gives, move_none}
 use borrow.Author.Rules.{rules}
 use Rattle.wheloruka.proofs.whl_normal_old.Statement.{statement}
 use Rattle.wheloruka.proofs.whl_normal_old.Tie as tie
@@ -41,7 +41,7 @@ same-length-2 c = search rules
 returns : tie.Need-returns
 returns c =
     let moved = c.before.before.before.before.before.before in let room = room-of-moved moved in let a = (start-of-room room).args in
-    gives (λ k. moveCallNumber (moveAnswer false a.file.now k)) (moveLeft false a.file.now) _ _ (move-none false _) _ room.room_for.ensures.0 _ (ap moveCallNumber moved.old.ensures.0) c.before.before.give-moved.ensures moved.old.ensures.1
+    gives (λ k. move_call_number (move_answer false a.file.now k)) (move_left false a.file.now) _ _ (move_none false _) _ room.room_for.ensures.0 _ (ap move_call_number moved.old.ensures.0) c.before.before.give-moved.ensures moved.old.ensures.1
 
 pub whl-normal-old-spec : {M : Type 1} → statement M
 whl-normal-old-spec =

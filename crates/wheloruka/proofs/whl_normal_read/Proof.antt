@@ -1,9 +1,9 @@
 -- `wheloruka::whl_normal_read` meets its contract: seven numbers, or the refusal.
 -- Assumes nothing.
 use mathlib.Core.Path.{ap}
-use Rattle.byte_section.specs.Told.{toldAnswer}
-use Rattle.call_rooms.proofs.Rooms.{as-given, as-refused}
-use Rattle.wheloruka.proofs.Files.{normal-good, normal-bad}
+use Rattle.byte_section.specs.Told.{told_answer}
+use Rattle.call_rooms.proofs.Rooms.{as_given, as_refused}
+use Rattle.wheloruka.proofs.Files.{normal_good, normal_bad}
 use borrow.Author.Rules.{rules}
 use Rattle.wheloruka.proofs.whl_normal_read.Statement.{statement}
 use Rattle.wheloruka.proofs.whl_normal_read.Tie as tie
@@ -27,7 +27,7 @@ give-seven-requires : tie.Need-give-seven-requires
 give-seven-requires c κs = search rules
 
 returns : tie.Need-returns
-returns c = as-refused _ _ _ (normal-bad _ _ c.before.before.before.before.read.ensures (ap toldAnswer c.before.before.answer.given.1)) c.number.ensures
+returns c = as_refused _ _ _ (normal_bad _ _ c.before.before.before.before.read.ensures (ap told_answer c.before.before.answer.given.1)) c.number.ensures
 
 same_length : tie.Need-same-length
 same_length c = search rules
@@ -35,7 +35,7 @@ same_length c = search rules
 returns-2 : tie.Need-returns-2
 returns-2 c =
     let given-at = c.before.before in let form = given-at.before in let read = form.before.before.before.before in
-    as-given _ _ _ (normal-good _ _ _ read.read.ensures (ap toldAnswer form.before.before.enum_told.given.1) form.form-number.ensures) given-at.give-seven.ensures
+    as_given _ _ _ (normal_good _ _ _ read.read.ensures (ap told_answer form.before.before.enum_told.given.1) form.form-number.ensures) given-at.give-seven.ensures
 
 pub whl-normal-read-spec : {M : Type 1} → statement M
 whl-normal-read-spec =

@@ -3,9 +3,9 @@
 use mathlib.Core.Path.{sym, ap}
 use lib.Seq.{length-take-le}
 use mathlib.Core.Bool.{true}
-use Rattle.norm_move.specs.Move.{moveAnswer, moveLeft}
-use Rattle.call_files.specs.Writing.{moveCallNumber}
-use Rattle.wheloruka.proofs.Writes.{gives, move-none}
+use Rattle.norm_move.specs.Move.{move_answer, move_left}
+use Rattle.call_files.specs.Writing.{move_call_number}
+use Rattle.wheloruka.proofs.Writes.{gives, move_none}
 use borrow.Author.Rules.{rules}
 use Rattle.wheloruka.proofs.whl_normal_small.Statement.{statement}
 use Rattle.wheloruka.proofs.whl_normal_small.Tie as tie
@@ -41,7 +41,7 @@ same-length-2 c = search rules
 returns : tie.Need-returns
 returns c =
     let moved = c.before.before.before.before.before.before in let room = room-of-moved moved in let a = (start-of-room room).args in
-    gives (λ k. moveCallNumber (moveAnswer true a.file.now k)) (moveLeft true a.file.now) _ _ (move-none true _) _ room.room_for.ensures.0 _ (ap moveCallNumber moved.small.ensures.0) c.before.before.give-moved.ensures moved.small.ensures.1
+    gives (λ k. move_call_number (move_answer true a.file.now k)) (move_left true a.file.now) _ _ (move_none true _) _ room.room_for.ensures.0 _ (ap move_call_number moved.small.ensures.0) c.before.before.give-moved.ensures moved.small.ensures.1
 
 pub whl-normal-small-spec : {M : Type 1} → statement M
 whl-normal-small-spec =

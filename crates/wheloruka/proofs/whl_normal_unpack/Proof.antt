@@ -1,8 +1,8 @@
 -- `wheloruka::whl_normal_unpack` meets its contract.
 -- Assumes nothing.
 use mathlib.Core.Path.{◌∙◌}
-use Rattle.norm_unpack.specs.Unpack.{unpackNormal}
-use Rattle.wheloruka.proofs.Writes.{judged-number}
+use Rattle.norm_unpack.specs.Unpack.{unpack_normal}
+use Rattle.wheloruka.proofs.Writes.{judged_number_lem}
 use borrow.Author.Rules.{rules}
 use Rattle.wheloruka.proofs.whl_normal_unpack.Statement.{statement}
 use Rattle.wheloruka.proofs.whl_normal_unpack.Tie as tie
@@ -23,7 +23,7 @@ same-length-3 : tie.Need-same-length-3
 same-length-3 c = search rules
 
 returns : tie.Need-returns
-returns c = let u = c.before.before.before.before.before.unpack.ensures in (c.read_number.ensures ∙ judged-number (unpackNormal _ _ _ _) _ u.0, u.1)
+returns c = let u = c.before.before.before.before.before.unpack.ensures in (c.read_number.ensures ∙ judged_number_lem (unpack_normal _ _ _ _) _ u.0, u.1)
 
 pub whl-normal-unpack-spec : {M : Type 1} → statement M
 whl-normal-unpack-spec =

@@ -2,8 +2,8 @@
 -- Assumes nothing.
 use mathlib.Core.Path.{sym}
 use lib.Seq.{length-take-le}
-use Rattle.norm_write.specs.Write.{writeNormal, normalLeftIn}
-use Rattle.wheloruka.proofs.Writes.{gives, write-none}
+use Rattle.norm_write.specs.Write.{write_normal, normal_left_in}
+use Rattle.wheloruka.proofs.Writes.{gives, write_none}
 use borrow.Author.Rules.{rules}
 use Rattle.wheloruka.proofs.whl_normal_write.Statement.{statement}
 use Rattle.wheloruka.proofs.whl_normal_write.Tie as tie
@@ -39,7 +39,7 @@ same-length-2 c = search rules
 returns : tie.Need-returns
 returns c =
     let written = c.before.before.before.before.before.before in let room = room-of-written written in let a = (start-of-room room).args in
-    gives (writeNormal a.arcs a.parameters a.heads.now a.matrix.now a.rights.now) (normalLeftIn a.arcs a.parameters a.heads.now a.matrix.now a.rights.now) _ _ (write-none _ _ _ _ _) _ room.room_for.ensures.0 _ written.write.ensures.0 c.before.before.give-written.ensures written.write.ensures.1
+    gives (write_normal a.arcs a.parameters a.heads.now a.matrix.now a.rights.now) (normal_left_in a.arcs a.parameters a.heads.now a.matrix.now a.rights.now) _ _ (write_none _ _ _ _ _) _ room.room_for.ensures.0 _ written.write.ensures.0 c.before.before.give-written.ensures written.write.ensures.1
 
 pub whl-normal-write-spec : {M : Type 1} → statement M
 whl-normal-write-spec =

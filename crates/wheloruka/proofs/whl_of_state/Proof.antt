@@ -4,10 +4,10 @@ use mathlib.Core.Path.{◌≡◌, sym, ap₂, ◌∙◌}
 use lib.ListN.{length, take}
 use lib.Seq.{length-take-le}
 use Rattle.take_state.specs.State.{state_of}
-use Rattle.norm_state.specs.OfState.{fileOf, stateLeftIn}
+use Rattle.norm_state.specs.OfState.{file_of, state_left_in}
 use Rattle.wheloruka.specs.Taking.{lent}
-use Rattle.wheloruka.specs.Writing.{headedNumber, stateFile, stateFileLeft}
-use Rattle.wheloruka.proofs.Writes.{gives, keeps, file-whole, left-whole, file-headed, left-headed, state-none}
+use Rattle.wheloruka.specs.Writing.{headed_number, state_file, state_file_left}
+use Rattle.wheloruka.proofs.Writes.{gives, keeps, file_whole, left_whole, file_headed, left_headed, state_none}
 use borrow.Author.Rules.{rules}
 use Rattle.wheloruka.proofs.whl_of_state.Statement.{statement}
 use Rattle.wheloruka.proofs.whl_of_state.Tie as tie
@@ -60,17 +60,17 @@ returns c =
     let h = room_at.before.before.heading-in.ensures in
     let t = room_at.before.tally-in.ensures in
     let whole = sym judged.judge-headed.ensures ∙ room_at.before.before.before.if1.taken in
-    let told = made.of-state.ensures.0 ∙ ap₂ (λ h t. fileOf h (state_of a.matrix.now a.rights.now t) (length (take room a.out.now))) h t ∙ file-whole _ x whole _ in
-    let left = made.of-state.ensures.1 ∙ ap₂ (λ h t. stateLeftIn h (state_of a.matrix.now a.rights.now t) (take room a.out.now)) h t ∙ left-whole _ x whole _ in
-    gives (stateFile a.heading.now x) (stateFileLeft a.heading.now x) _ _ (state-none _ _) _ room_at.room_for.ensures.0 _ told c.before.before.give-written.ensures left
+    let told = made.of-state.ensures.0 ∙ ap₂ (λ h t. file_of h (state_of a.matrix.now a.rights.now t) (length (take room a.out.now))) h t ∙ file_whole _ x whole _ in
+    let left = made.of-state.ensures.1 ∙ ap₂ (λ h t. state_left_in h (state_of a.matrix.now a.rights.now t) (take room a.out.now)) h t ∙ left_whole _ x whole _ in
+    gives (state_file a.heading.now x) (state_file_left a.heading.now x) _ _ (state_none _ _) _ room_at.room_for.ensures.0 _ told c.before.before.give-written.ensures left
 
 returns-2 : tie.Need-returns-2
 returns-2 c =
     let a = (start-of-judged c.before).args in
     let x = lent a.tally.now a.matrix.now a.rights.now in
     let is = c.before.judge-headed.ensures in
-    let some : headedNumber a.heading.now a.tally.now ≡ 0 → ⊥ = λ z. c.if1.false (is ∙ z) in
-    keeps (stateFile a.heading.now x) (stateFileLeft a.heading.now x) a.size.now a.out.now _ (file-headed _ x some _) is (left-headed _ x some _)
+    let some : headed_number a.heading.now a.tally.now ≡ 0 → ⊥ = λ z. c.if1.false (is ∙ z) in
+    keeps (state_file a.heading.now x) (state_file_left a.heading.now x) a.size.now a.out.now _ (file_headed _ x some _) is (left_headed _ x some _)
 
 pub whl-of-state-spec : {M : Type 1} → statement M
 whl-of-state-spec =

@@ -2,9 +2,9 @@
 -- Assumes nothing.
 use mathlib.Core.Path.{◌∙◌, ap}
 use lib.ListN.{length}
-use Rattle.arc_read.specs.Arc.{readArc}
-use Rattle.call_files.specs.Reading.{readNumber, headingLeft, placesLeft}
-use Rattle.wheloruka.proofs.Files.{arc-is, arc-fits}
+use Rattle.arc_read.specs.Arc.{read_arc}
+use Rattle.call_files.specs.Reading.{read_number, heading_left, places_left}
+use Rattle.wheloruka.proofs.Files.{arc_is, arc_fits}
 use borrow.Author.Rules.{rules}
 use Rattle.wheloruka.proofs.whl_read.Statement.{statement}
 use Rattle.wheloruka.proofs.whl_read.Tie as tie
@@ -17,7 +17,7 @@ read-requires : tie.Need-read-requires
 read-requires c κs = search rules
 
 give-arc-requires : tie.Need-give-arc-requires
-give-arc-requires c κs = arc-fits _ _ c.before.before.read.ensures
+give-arc-requires c κs = arc_fits _ _ c.before.before.read.ensures
 
 same_length : tie.Need-same-length
 same_length c = search rules
@@ -28,9 +28,9 @@ same-length-2 c = search rules
 returns : tie.Need-returns
 returns c =
     let a = (start-of-read c.before.before.before.before.before.before.before).args in
-    let is = arc-is (readArc a.file.now) _ c.before.before.before.before.before.before.before.read.ensures in
+    let is = arc_is (read_arc a.file.now) _ c.before.before.before.before.before.before.before.read.ensures in
     let put = c.before.before.before.before.give-arc.ensures in
-    (put.0 ∙ ap (λ j. readNumber j (length a.heading.now) (length a.out.now)) is, (put.1.0 ∙ ap (λ j. headingLeft j a.heading.now (length a.out.now)) is, put.1.1 ∙ ap (λ j. placesLeft j (length a.heading.now) a.out.now) is))
+    (put.0 ∙ ap (λ j. read_number j (length a.heading.now) (length a.out.now)) is, (put.1.0 ∙ ap (λ j. heading_left j a.heading.now (length a.out.now)) is, put.1.1 ∙ ap (λ j. places_left j (length a.heading.now) a.out.now) is))
 
 pub whl-read-spec : {M : Type 1} → statement M
 whl-read-spec =

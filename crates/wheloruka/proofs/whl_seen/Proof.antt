@@ -2,7 +2,7 @@
 -- Assumes nothing.
 use mathlib.Core.Path.{sym, ap₂, ◌∙◌}
 use Rattle.take_state.specs.State.{state_of, sight_of}
-use Rattle.wheloruka.proofs.Calls.{seen-short, seen-whole}
+use Rattle.wheloruka.proofs.Calls.{seen_short, seen_whole}
 use borrow.Author.Rules.{rules}
 use Rattle.wheloruka.proofs.whl_seen.Statement.{statement}
 use Rattle.wheloruka.proofs.whl_seen.Tie as tie
@@ -30,12 +30,12 @@ returns c =
     let told = c.before.before.before in
     let whole = c.before.before.before.before.before.before.before in
     let a = whole.before.before.before.before.before.args in
-    seen-whole _ _ _ _ (sym whole.before.Has-both.ensures ∙ whole.if1.true) _
+    seen_whole _ _ _ _ (sym whole.before.Has-both.ensures ∙ whole.if1.true) _
     (told.seen.ensures ∙ ap₂ (λ h t. sight_of h (state_of a.matrix.now a.rights.now t) a.parameter) told.before.before.before.heading-in.ensures told.before.before.tally-in.ensures)
     c.before.before.give-sight.ensures
 
 returns-2 : tie.Need-returns-2
-returns-2 c = seen-short _ _ _ _ (sym c.before.Has-both.ensures ∙ c.if1.false)
+returns-2 c = seen_short _ _ _ _ (sym c.before.Has-both.ensures ∙ c.if1.false)
 
 pub whl-seen-spec : {M : Type 1} → statement M
 whl-seen-spec =

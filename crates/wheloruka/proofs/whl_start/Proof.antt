@@ -2,9 +2,9 @@
 -- Assumes nothing.
 use mathlib.Core.Path.{sym, ap, ◌∙◌}
 use Rattle.refusal.specs.First.{answered}
-use Rattle.refusal.specs.Told.{toldVerdict}
-use Rattle.take_state.specs.State.{roomNumber, started}
-use Rattle.wheloruka.proofs.Calls.{short, done, kept, start-kept}
+use Rattle.refusal.specs.Told.{told_verdict}
+use Rattle.take_state.specs.State.{room_number, started}
+use Rattle.wheloruka.proofs.Calls.{short, done, kept, start_kept}
 use borrow.Author.Rules.{rules}
 use Rattle.wheloruka.proofs.whl_start.Statement.{statement}
 use Rattle.wheloruka.proofs.whl_start.Tie as tie
@@ -57,7 +57,7 @@ returns c =
     let started-at = started-of-tallied c.before.before.before.before.before.before in let heading = heading-of-started started-at in let both = both-of-heading heading in let a = (start-of-both both).args in
     let h = heading.heading-in.ensures in
     let whole = sym both.Has-both.ensures ∙ heading.before.if1.taken in
-    let told = sym (ap toldVerdict c.before.before.before.before.enum_told.given.1) ∙ started-at.start.ensures.0 ∙ ap (λ h. answered (roomNumber h a.matrix.now a.rights.now) tt) h in
+    let told = sym (ap told_verdict c.before.before.before.before.enum_told.given.1) ∙ started-at.start.ensures.0 ∙ ap (λ h. answered (room_number h a.matrix.now a.rights.now) tt) h in
     let left = started-at.start.ensures.1 ∙ ap (λ h. started h a.matrix.now a.rights.now) h in
     done _ _ _ _ whole _ _ _ _ c.before.before.put-tally.ensures told left
 
@@ -75,10 +75,10 @@ returns-2 c =
     let tallied = c.before.before.before.before in let heading = heading-of-started (started-of-tallied tallied) in let both = both-of-heading heading in let a = (start-of-both both).args in
     let h = heading.heading-in.ensures in
     let whole = sym both.Has-both.ensures ∙ heading.before.if1.taken in
-    let told = sym (ap toldVerdict c.before.before.answer.given.1) ∙ tallied.before.before.before.start.ensures.0 ∙ ap (λ h. answered (roomNumber h a.matrix.now a.rights.now) tt) h in
+    let told = sym (ap told_verdict c.before.before.answer.given.1) ∙ tallied.before.before.before.start.ensures.0 ∙ ap (λ h. answered (room_number h a.matrix.now a.rights.now) tt) h in
     let left = tallied.before.before.before.start.ensures.1 ∙ ap (λ h. started h a.matrix.now a.rights.now) h in
     let e = c.before.before.answer.given.0.0 in
-    let same = start-kept _ _ _ e told in
+    let same = start_kept _ _ _ e told in
     kept _ _ _ _ whole _ _ e _ told c.number.ensures (ap (λ s. s.matrix) left ∙ same.0) (ap (λ s. s.rights) left ∙ same.1)
 
 same-length-7 : tie.Need-same-length-7

@@ -3,8 +3,8 @@
 use mathlib.Core.Path.{sym, ap₂, ◌∙◌}
 use Rattle.refusal.specs.First.{answered}
 use Rattle.take_state.specs.State.{state_of}
-use Rattle.take_laws.specs.Taking.{takeAnswer, takeStep}
-use Rattle.wheloruka.proofs.Calls.{short, gives, take-kept}
+use Rattle.take_laws.specs.Taking.{take_answer, take_step}
+use Rattle.wheloruka.proofs.Calls.{short, gives, take_kept}
 use borrow.Author.Rules.{rules}
 use Rattle.wheloruka.proofs.whl_take.Statement.{statement}
 use Rattle.wheloruka.proofs.whl_take.Tie as tie
@@ -52,9 +52,9 @@ returns c =
     let h = heading.heading-in.ensures in
     let t = tally.tally-in.ensures in
     let whole = sym both.Has-both.ensures ∙ heading.before.if1.taken in
-    let told = taken_at.take.ensures.0 ∙ ap₂ (λ h t. answered (takeAnswer h a.bytes.now (state_of a.matrix.now a.rights.now t)) tt) h t in
-    let left = taken_at.take.ensures.1 ∙ ap₂ (λ h t. takeStep h a.bytes.now (state_of a.matrix.now a.rights.now t)) h t in
-    gives _ _ _ _ whole _ told _ _ _ left (take-kept _ _ _) c.before.before.give-taken.ensures
+    let told = taken_at.take.ensures.0 ∙ ap₂ (λ h t. answered (take_answer h a.bytes.now (state_of a.matrix.now a.rights.now t)) tt) h t in
+    let left = taken_at.take.ensures.1 ∙ ap₂ (λ h t. take_step h a.bytes.now (state_of a.matrix.now a.rights.now t)) h t in
+    gives _ _ _ _ whole _ told _ _ _ left (take_kept _ _ _) c.before.before.give-taken.ensures
 
 same-length-4 : tie.Need-same-length-4
 same-length-4 c = search rules

@@ -4,9 +4,9 @@ use mathlib.Core.Path.{sym, ap₂, ◌∙◌}
 use lib.ListN.{length}
 use Rattle.refusal.specs.First.{answered}
 use Rattle.take_state.specs.State.{state_of}
-use Rattle.take_laws.specs.Taking.{runNumber, runState, runAnswers}
-use Rattle.take.proofs.Answers.{state-left}
-use Rattle.wheloruka.proofs.Calls.{short, gives, answers-short, answers-whole}
+use Rattle.take_laws.specs.Taking.{run_number, run_state, run_answers}
+use Rattle.take.proofs.Answers.{state_left}
+use Rattle.wheloruka.proofs.Calls.{short, gives, answers_short, answers_whole}
 use borrow.Author.Rules.{rules}
 use Rattle.wheloruka.proofs.whl_take_run.Statement.{statement}
 use Rattle.wheloruka.proofs.whl_take_run.Tie as tie
@@ -60,10 +60,10 @@ returns c =
     let h = heading.heading-in.ensures in
     let t = tally.tally-in.ensures in
     let whole = sym both.Has-both.ensures ∙ heading.before.if1.taken in
-    let told = taken_at.take-run.ensures.0 ∙ ap₂ (λ h t. answered (runNumber h a.run.now (length a.answers.now) (state_of a.matrix.now a.rights.now t)) tt) h t in
-    let left = taken_at.take-run.ensures.1.0 ∙ ap₂ (λ h t. runState h a.run.now (length a.answers.now) (state_of a.matrix.now a.rights.now t)) h t in
-    let answers = answers-whole _ _ _ _ whole _ (taken_at.take-run.ensures.1.1 ∙ ap₂ (λ h t. runAnswers h a.run.now a.answers.now (state_of a.matrix.now a.rights.now t)) h t) in
-    let d = gives _ _ _ _ whole _ told _ _ _ left (state-left _ _ _ _) given_back.give-taken.ensures in
+    let told = taken_at.take-run.ensures.0 ∙ ap₂ (λ h t. answered (run_number h a.run.now (length a.answers.now) (state_of a.matrix.now a.rights.now t)) tt) h t in
+    let left = taken_at.take-run.ensures.1.0 ∙ ap₂ (λ h t. run_state h a.run.now (length a.answers.now) (state_of a.matrix.now a.rights.now t)) h t in
+    let answers = answers_whole _ _ _ _ whole _ (taken_at.take-run.ensures.1.1 ∙ ap₂ (λ h t. run_answers h a.run.now a.answers.now (state_of a.matrix.now a.rights.now t)) h t) in
+    let d = gives _ _ _ _ whole _ told _ _ _ left (state_left _ _ _ _) given_back.give-taken.ensures in
     (d.0, (d.1, answers))
 
 same-length-5 : tie.Need-same-length-5
@@ -73,7 +73,7 @@ returns-2 : tie.Need-returns-2
 returns-2 c =
     let e = sym c.before.Has-both.ensures ∙ c.if1.false in
     let d = short _ _ _ _ e in
-    (d.0, (d.1, answers-short _ _ _ _ e))
+    (d.0, (d.1, answers_short _ _ _ _ e))
 
 pub whl-take-run-spec : {M : Type 1} → statement M
 whl-take-run-spec =

@@ -2,8 +2,8 @@
 -- Assumes nothing.
 use mathlib.Core.Path.{sym}
 use lib.Seq.{length-take-le}
-use Rattle.call_files.specs.Arcs.{arcFile, arcLeft}
-use Rattle.call_files.proofs.Arcs.{arc-none}
+use Rattle.call_files.specs.Arcs.{arc_file, arc_left}
+use Rattle.call_files.proofs.Arcs.{arc_none}
 use Rattle.wheloruka.proofs.Writes.{gives}
 use borrow.Author.Rules.{rules}
 use Rattle.wheloruka.proofs.whl_write.Statement.{statement}
@@ -40,7 +40,7 @@ same-length-2 c = search rules
 returns : tie.Need-returns
 returns c =
     let written = c.before.before.before.before.before.before in let room = room-of-written written in let a = (start-of-room room).args in
-    gives (arcFile a.heading.now a.run.now) (arcLeft a.heading.now a.run.now) _ _ (arc-none _ _) _ room.room_for.ensures.0 _ written.write-arc.ensures.0 c.before.before.give-written.ensures written.write-arc.ensures.1
+    gives (arc_file a.heading.now a.run.now) (arc_left a.heading.now a.run.now) _ _ (arc_none _ _) _ room.room_for.ensures.0 _ written.write-arc.ensures.0 c.before.before.give-written.ensures written.write-arc.ensures.1
 
 pub whl-write-spec : {M : Type 1} → statement M
 whl-write-spec =

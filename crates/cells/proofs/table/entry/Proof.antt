@@ -8,7 +8,7 @@ use mathlib.Core.Path.{◌≡◌, refl}
 use Prim.Native.Nat.{ℕ}
 use Rattle.num_whole.specs.Tests.{less, up_to, same, pick, both, between}
 use Rattle.num_whole.proofs.Tables.{every}
-use Rattle.cells.specs.Cells.{isCell, cellIndex}
+use Rattle.cells.specs.Cells.{is_cell, cell_index}
 use Rattle.cells.specs.Table.{decoded}
 use Rattle.cells.proofs.Agreement.{right, agrees}
 use Rattle.cells.proofs.table.entry.Statement.{statement}
@@ -30,7 +30,7 @@ abbrev table : Place → List ℕ
 table c = get 2 (lts.T2).locals (lts.m1 reads.Pre reads.Post c.args c.blocks)
 
 passes : (c : Place) → every right 0 (table c) ≡ true
-unfolding every right decoded isCell cellIndex less up_to same pick both between
+unfolding every right decoded is_cell cell_index less up_to same pick both between
 passes c = refl
 
 returns : tie.Need-returns
