@@ -1,4 +1,5 @@
 // Inner to the readers of arc files: the heading, read from a file's beginning.
+#![tactic(auto)]
 ghost use Rattle.std.specs.Prelude.{◌≡◌, ◌≤◌};
 ghost use Rattle.num_limits.specs.Capacities.{parameters_most};
 ghost use Rattle.num_whole.specs.Answer.{bad};
@@ -13,7 +14,7 @@ use byte_section::{ReadAnswer, SectionAnswer};
 use refusal::Refusal;
 
 // The answer, the heading, and the place after it.
-#[derive(Drop)]
+#[derive(Clone, Copy)]
 pub struct HeadingRead {
     pub answer: ReadAnswer,
     pub heading: Heading,

@@ -1,4 +1,5 @@
 // The heading of an arc, by value: its settings, labels and stations, and the judging of one that is handed in.
+#![tactic(auto)]
 ghost use Rattle.std.specs.Prelude.{◌≡◌, ◌≤◌, ◌<◌};
 ghost use Rattle.num_limits.specs.Capacities.{parameters_most, stations_most};
 ghost use Rattle.num_whole.specs.Lists.{all, ascend};
@@ -11,7 +12,7 @@ use num_limits::{PARAMETERS_MOST, STATIONS_MOST};
 use refusal::{Refusal, Verdict};
 
 // Of the labels the first `parameters` count, of the listed stations the first `stations`.
-#[derive(Drop)]
+#[derive(Clone, Copy)]
 pub struct Heading {
     pub settings: Settings,
     pub parameters: usize,

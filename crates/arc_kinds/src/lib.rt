@@ -1,4 +1,5 @@
 // One record of the settings, the parameters and the stations of an arc file, read and judged.
+#![tactic(auto)]
 ghost use Rattle.std.specs.Prelude.{◌≡◌, ◌+◌, ◌<◌, ◌^◌};
 ghost use Rattle.byte_section.specs.Section.{judged_at};
 ghost use Rattle.arc_limits.specs.Limits.{label_key, station_key};
@@ -10,19 +11,19 @@ use byte_section::CountAnswer;
 use refusal::Refusal;
 
 // What reading one record finds: it, or a refusal and its place.
-#[derive(Drop)]
+#[derive(Clone, Copy)]
 pub enum SettingsAnswer {
     Got(Settings),
     Refused(Refusal, usize),
 }
 
-#[derive(Drop)]
+#[derive(Clone, Copy)]
 pub enum LabelAnswer {
     Got(Label),
     Refused(Refusal, usize),
 }
 
-#[derive(Drop)]
+#[derive(Clone, Copy)]
 pub enum StationAnswer {
     Got(Station),
     Refused(Refusal, usize),

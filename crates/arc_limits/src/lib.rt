@@ -1,4 +1,5 @@
 // Settings, labels and stations of an arc, by value: the limits of their fields, and the order of labels.
+#![tactic(auto)]
 ghost use Rattle.std.specs.Prelude.{◌≡◌, ◌<◌};
 ghost use Rattle.cells.specs.Cells.{is_parameter};
 ghost use Rattle.arc_limits.specs.Limits.{
@@ -15,7 +16,7 @@ ghost use Rattle.arc_limits.specs.Limits.{
 
 use num_limits::{ARC_MOST, DAY_AFTER_LAST, PARAMETERS_U64, STATIONS_MOST};
 
-#[derive(Drop)]
+#[derive(Clone, Copy)]
 pub struct Settings {
     pub arc: u32,
     pub first: u32,
@@ -23,7 +24,7 @@ pub struct Settings {
     pub level: u16,
 }
 
-#[derive(Drop)]
+#[derive(Clone, Copy)]
 pub struct Label {
     pub kind: u16,
     pub index: u16,
@@ -31,7 +32,7 @@ pub struct Label {
     pub estimate: i64,
 }
 
-#[derive(Drop)]
+#[derive(Clone, Copy)]
 pub struct Station {
     pub number: u16,
     pub correction: i32,

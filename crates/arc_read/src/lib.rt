@@ -1,4 +1,5 @@
 // The arc file, read: for every list of bytes the heading, the number of records and where they stand, or the first refusal and its place.
+#![tactic(auto)]
 ghost use Rattle.std.specs.Prelude.{◌≡◌, ◌≤◌};
 ghost use Rattle.num_limits.specs.Capacities.{parameters_most};
 ghost use Rattle.refusal.specs.Number.{number_of};
@@ -11,7 +12,7 @@ use byte_section::{ReadAnswer, SectionAnswer};
 use refusal::Refusal;
 
 // The answer, and what was read: with a refusal a blank heading and 0.
-#[derive(Drop)]
+#[derive(Clone, Copy)]
 pub struct ArcRead {
     pub answer: ReadAnswer,
     pub heading: Heading,

@@ -1,4 +1,5 @@
 // A tracking record: its bytes in a file, its fields by value, and its partials.
+#![tactic(auto)]
 ghost use Rattle.std.specs.Prelude.{◌≡◌, ◌+◌, ◌*◌, ◌≤◌, length};
 ghost use Rattle.std.specs.Int.{w16};
 ghost use Rattle.byte_words.specs.Words.{signed_word};
@@ -6,7 +7,7 @@ ghost use Rattle.arc_record.specs.Record.{record_part, record_in, partials_in};
 
 use num_limits::{PARAMETERS_MOST, PARTIAL_SIZE, RECORD_FIXED};
 
-#[derive(Drop)]
+#[derive(Clone, Copy)]
 pub struct Record {
     pub station: u16,
     pub sigma: u16,

@@ -1,4 +1,5 @@
 // Inner to `arc_read`: the sections of an arc file after its settings, each read whole or refused at a place.
+#![tactic(auto)]
 ghost use Rattle.std.specs.Prelude.{◌≡◌, ◌≤◌, length, replicate};
 ghost use Rattle.num_limits.specs.Capacities.{parameters_most, stations_most};
 ghost use Rattle.arc_limits.specs.Limits.{no_label, no_station};
@@ -23,13 +24,13 @@ use num_limits::{
 use refusal::Refusal;
 
 // The answer, with the records that were read; slots past the count are 0.
-#[derive(Drop)]
+#[derive(Clone, Copy)]
 pub struct Labels {
     pub answer: SectionAnswer,
     pub labels: [Label; PARAMETERS_MOST],
 }
 
-#[derive(Drop)]
+#[derive(Clone, Copy)]
 pub struct Stations {
     pub answer: SectionAnswer,
     pub listed: [Station; STATIONS_MOST],

@@ -1,32 +1,33 @@
 // The generic section of a file, and what readers and writers of files answer. A section's count is read here; how records follow it is in
 // specs/, with its laws in proofs/.
+#![tactic(auto)]
 ghost use Rattle.std.specs.Prelude.{◌≡◌};
 ghost use Rattle.byte_section.specs.Section.{count_at, told_count};
 
 use refusal::Refusal;
 
-#[derive(Drop)]
+#[derive(Clone, Copy)]
 pub enum CountAnswer {
     Is(usize),
     Refused(Refusal, usize),
 }
 
 // What reading a section finds: its count and the place after it, or a refusal and its place.
-#[derive(Drop)]
+#[derive(Clone, Copy)]
 pub enum SectionAnswer {
     Read(usize, usize),
     Refused(Refusal, usize),
 }
 
 // What reading a file answers: that it is read, or a refusal and its place.
-#[derive(Drop)]
+#[derive(Clone, Copy)]
 pub enum ReadAnswer {
     Read,
     Refused(Refusal, usize),
 }
 
 // What writing a file or a text answers: its length, or a refusal.
-#[derive(Drop)]
+#[derive(Clone, Copy)]
 pub enum WriteAnswer {
     Is(usize),
     Refused(Refusal),

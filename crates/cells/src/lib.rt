@@ -1,4 +1,5 @@
 // Geopotential cells: the table of 990, and both directions between a cell and its index.
+#![tactic(auto)]
 mod table;
 
 ghost use Rattle.std.specs.Prelude.{◌≡◌};
@@ -7,27 +8,27 @@ ghost use Rattle.cells.specs.Table.{decoded};
 
 use refusal::Refusal;
 
-#[derive(Drop)]
+#[derive(Clone, Copy)]
 pub enum Letter {
     C,
     S,
 }
 
 // A coefficient of the geopotential; a value may also be none at all.
-#[derive(Drop)]
+#[derive(Clone, Copy)]
 pub struct Cell {
     pub letter: Letter,
     pub degree: u32,
     pub order: u32,
 }
 
-#[derive(Drop)]
+#[derive(Clone, Copy)]
 pub enum CellAnswer {
     Is(Cell),
     Refused(Refusal),
 }
 
-#[derive(Drop)]
+#[derive(Clone, Copy)]
 pub enum IndexAnswer {
     Is(u32),
     Refused(Refusal),

@@ -1,4 +1,5 @@
 // Calendar days: from a date to its day number and back, for every input.
+#![tactic(auto)]
 ghost use Rattle.std.specs.Prelude.{◌≡◌, true, ◌+◌, ◌-◌, ◌≤◌};
 ghost use Rattle.num_limits.specs.Capacities.{last_day};
 ghost use Rattle.days.specs.Calendar.{
@@ -19,20 +20,20 @@ use num_limits::LAST_DAY;
 use refusal::Refusal;
 
 // A day of the calendar; a value may also be no day at all.
-#[derive(Drop)]
+#[derive(Clone, Copy)]
 pub struct Date {
     pub year: u32,
     pub month: u32,
     pub day: u32,
 }
 
-#[derive(Drop)]
+#[derive(Clone, Copy)]
 pub enum DayAnswer {
     Is(u32),
     Refused(Refusal),
 }
 
-#[derive(Drop)]
+#[derive(Clone, Copy)]
 pub enum DateAnswer {
     Is(Date),
     Refused(Refusal),

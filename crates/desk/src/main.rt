@@ -1,4 +1,5 @@
 // desk: daily work with arc files and normal files, by words on the command line; `desk help` names the commands.
+#![tactic(auto)]
 
 fn main() {
     let n = os::arg_count();

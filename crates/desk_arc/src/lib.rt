@@ -1,4 +1,5 @@
 // What the programs share of arc files: one is read from a descriptor in parts of 64 KiB, and its records are taken as they complete.
+#![tactic(auto)]
 ghost use Rattle.std.specs.Prelude.{◌≡◌, [], length};
 ghost use Rattle.num_limits.specs.Capacities.{arc_sums_most, parameters_most};
 ghost use Rattle.list_lines.specs.Lines.{tallies_of};
@@ -21,7 +22,7 @@ pub fn part_room() -> [u8; PART_MOST]
 }
 
 // What came of a file: whether no read has failed, what its parts said of its form, and where they led.
-#[derive(Drop)]
+#[derive(Clone, Copy)]
 pub struct Followed {
     pub is_read: bool,
     pub answer: ReadAnswer,

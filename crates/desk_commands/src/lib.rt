@@ -2,6 +2,7 @@
 // from the proved libraries; here bytes are only moved. Results and refusals go to standard output, what the system refuses to standard error.
 // An arc file is read in parts, so that its length does not matter. The rooms for normal files are locals of one function that is called from
 // several places: a function that is called from one place only becomes a part of its caller.
+#![tactic(auto)]
 ghost use Rattle.std.specs.Prelude.{◌≡◌, length};
 ghost use Rattle.io.specs.Counts.{IsPrefixLen};
 ghost use Rattle.num_limits.specs.Capacities.{arc_sums_most, parameters_most};
@@ -23,7 +24,7 @@ use take_tally::Tally;
 // ---- files in and out
 
 // What was fetched: whether the file is in the room, whole, and its length.
-#[derive(Drop)]
+#[derive(Clone, Copy)]
 struct Fetched {
     is_here: bool,
     length: usize,
@@ -58,7 +59,7 @@ fn store(path: &[u8], room: &[u8], count: usize) -> bool {
 // ---- arc files
 
 // What is done with an arc file.
-#[derive(Drop)]
+#[derive(Clone, Copy)]
 enum Asked {
     Check,
     List,
@@ -210,7 +211,7 @@ fn with_arc(path: &[u8], to: &[u8], asked: Asked) {
 // ---- normal files
 
 // What is done with a normal file.
-#[derive(Drop)]
+#[derive(Clone, Copy)]
 enum Wanted {
     Check,
     Merge,

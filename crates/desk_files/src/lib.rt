@@ -1,5 +1,6 @@
 // What the programs share: room for whole files, reading one whole, and writing one that is not there yet. What the system refuses is told on
 // standard error, and only while no file is open for writing: it could have the number of standard error, where that was closed.
+#![tactic(auto)]
 ghost use Rattle.std.specs.Prelude.{◌≡◌, ◌+◌, ◌≤◌, length};
 ghost use Rattle.io.specs.Counts.{IsPrefixLen};
 ghost use Rattle.libc.specs.Io.{Ended};
@@ -23,14 +24,14 @@ pub fn within(k: usize, buf: &[u8]) -> usize
 // ---- reading
 
 // What was read: whether no read has failed, and how many bytes came, which is all where the buffer is longer.
-#[derive(Drop)]
+#[derive(Clone, Copy)]
 pub struct Loaded {
     pub is_whole: bool,
     pub length: usize,
 }
 
 // What one read came to: how many bytes, 0 at the end and where it failed.
-#[derive(Drop)]
+#[derive(Clone, Copy)]
 struct Brought {
     is_failed: bool,
     count: usize,

@@ -1,4 +1,5 @@
 // Inner to `list` and the programs: the listing of an arc file as the file arrives, part by part. What is put is a function of the bytes handed over.
+#![tactic(auto)]
 ghost use Rattle.std.specs.Prelude.{◌≡◌, [], ◌≤◌, length};
 ghost use Rattle.num_limits.specs.Capacities.{arc_sums_most, parameters_most};
 ghost use Rattle.byte_section.specs.Told.{told_answer};
@@ -24,14 +25,14 @@ const TOLD_MOST: usize = 2048;
 pub const TEXT_MOST: usize = 6646;
 
 // Where in the file we are, and the state beside its sums.
-#[derive(Drop)]
+#[derive(Clone, Copy)]
 pub struct Course {
     pub position: Position,
     pub tally: Tally,
 }
 
 // What a part came to: nothing refused so far, or the first refusal in the file's form with its place.
-#[derive(Drop)]
+#[derive(Clone, Copy)]
 pub struct Heard {
     pub answer: ReadAnswer,
     pub course: Course,

@@ -1,4 +1,5 @@
 // Two normal files of either form merged: the bytes of the merged file, in the old form, into lent room, or the first refusal, which changes nothing.
+#![tactic(auto)]
 ghost use Rattle.std.specs.Prelude.{◌≡◌, ◌≤◌, length};
 ghost use Rattle.num_limits.specs.Capacities.{labels_most};
 ghost use Rattle.merge_laws.specs.Merge.{merge_number};
@@ -12,7 +13,7 @@ use num_limits::{ARCS_MOST, LABELS_MOST};
 use refusal::Refusal;
 
 // The length of the file that was written; a file that is refused, with its place; or 20 to 24.
-#[derive(Drop)]
+#[derive(Clone, Copy)]
 pub enum MergeAnswer {
     Is(usize),
     First(Refusal, usize),

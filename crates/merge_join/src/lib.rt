@@ -1,11 +1,12 @@
 // Inner to `merge_laws`: two ascending lists of numbers united, with the places of each number of the union in both.
+#![tactic(auto)]
 ghost use Rattle.std.specs.Prelude.{◌≡◌, true, ◌+◌, ◌≤◌, ◌<◌, length};
 ghost use Rattle.norm_labels.specs.Seats.{ascending};
 ghost use Rattle.merge_join.specs.Join.{Joins};
 ghost use Rattle.merge_join.specs.Walk.{Stepped};
 
 // A number's place in the left and in the right list, a list's length where it lacks the number; and how many of each are then done.
-#[derive(Drop)]
+#[derive(Clone, Copy)]
 pub struct Turn {
     pub left: usize,
     pub right: usize,

@@ -1,1 +1,2 @@
 // Two normal files merged.
+#![tactic(auto)]

@@ -1,4 +1,5 @@
 // Inner to `merge_put`: the sums of two normal files, added column by column in lent room and written into lent bytes.
+#![tactic(auto)]
 ghost use Rattle.std.specs.Prelude.{◌≡◌, true, ℕ, ◌+◌, ◌*◌, ◌≤◌, ◌<◌, length, get_or};
 ghost use Rattle.std.specs.Int.{w64};
 ghost use Rattle.num_limits.specs.Capacities.{labels_most};
@@ -15,7 +16,7 @@ use norm_add::Column;
 // ---- both files together
 
 // How many columns of each file are done.
-#[derive(Drop)]
+#[derive(Clone, Copy)]
 pub struct ColumnsDone {
     pub left: usize,
     pub right: usize,

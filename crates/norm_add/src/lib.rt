@@ -1,4 +1,5 @@
 // Inner to merging: the sums of one normal file, added into a target at the places that the target has for their labels.
+#![tactic(auto)]
 ghost use Rattle.std.specs.Prelude.{◌≡◌, true, ℕ, ◌+◌, ◌*◌, ◌^◌, ◌≤◌, ◌<◌, pos, ◌+ℤ◌, nat_abs, length, get_or, set};
 ghost use Rattle.num_limits.specs.Capacities.{labels_most};
 ghost use Rattle.num_whole.specs.Sums.{plus};
@@ -8,7 +9,7 @@ ghost use Rattle.norm_labels.specs.Table.{rows_of};
 ghost use Rattle.norm_add.specs.Add.{on_place, on_places, Passed, Addable};
 
 // Sums that stand one after the other in a file's bytes: where the first begins, and how many there are.
-#[derive(Drop)]
+#[derive(Clone, Copy)]
 pub struct Column {
     pub base: usize,
     pub rows: usize,

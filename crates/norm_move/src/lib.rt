@@ -1,5 +1,6 @@
 // A normal file moved to the small form, or back to the old one: its bytes in that form into lent room, or the first refusal with its place, which
 // changes nothing. 20 comes last.
+#![tactic(auto)]
 ghost use Rattle.std.specs.Prelude.{◌≡◌, true, false, length};
 ghost use Rattle.norm_read.specs.Normal.{read_normal, shown_normal, told_normal_read};
 ghost use Rattle.byte_section.specs.declared.ReadAnswer.TheVariants.{Read};
@@ -11,7 +12,7 @@ use num_limits::LABELS_MOST;
 use refusal::Refusal;
 
 // The length of the file that was written, or the refusal and its place.
-#[derive(Drop)]
+#[derive(Clone, Copy)]
 pub enum MoveAnswer {
     Is(usize),
     Refused(Refusal, usize),

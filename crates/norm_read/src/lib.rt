@@ -1,5 +1,6 @@
 // The normal file of either form, read: for every list of bytes the numbers of arcs and parameters, the form, and where the sums stand, or the
 // first refusal and its place. Nothing is unpacked: labels are judged and sums are walked over where they stand.
+#![tactic(auto)]
 ghost use Rattle.std.specs.Prelude.{◌≡◌, ◌+◌, ◌≤◌, length};
 ghost use Rattle.num_limits.specs.Capacities.{arcs_most, labels_most};
 ghost use Rattle.refusal.specs.Number.{number_of};
@@ -16,7 +17,7 @@ use refusal::Refusal;
 // The answer, the numbers of arcs and parameters, how many parameters have their sums stored (all in the old form, those seen in the small one),
 // whether the form is the small one, and where the records of the matrix sums, the right sides and the totals begin; with a refusal every number
 // is 0 and the form is told as the old one.
-#[derive(Drop)]
+#[derive(Clone, Copy)]
 pub struct NormalRead {
     pub answer: ReadAnswer,
     pub arcs: usize,

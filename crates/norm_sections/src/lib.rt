@@ -1,4 +1,5 @@
 // Inner to `norm_read`: the sections of a normal file's sums, read by their counts and lengths.
+#![tactic(auto)]
 ghost use Rattle.std.specs.Prelude.{◌≡◌, ◌≤◌};
 ghost use Rattle.num_limits.specs.Capacities.{labels_most, sums_most};
 ghost use Rattle.num_packed.specs.Triangle.{tri};
@@ -8,14 +9,14 @@ use byte_section::CountAnswer;
 use refusal::Refusal;
 
 // The place after a section.
-#[derive(Drop)]
+#[derive(Clone, Copy)]
 enum PlaceAnswer {
     After(usize),
     Refused(Refusal, usize),
 }
 
 // Where the records of the last three sections begin.
-#[derive(Drop)]
+#[derive(Clone, Copy)]
 pub enum SumsAnswer {
     Read(usize, usize, usize),
     Refused(Refusal, usize),

@@ -1,10 +1,11 @@
 // A label of a normal file by value: its limits and its key; and the limits of an arc.
+#![tactic(auto)]
 ghost use Rattle.std.specs.Prelude.{◌≡◌, ◌+◌, ◌*◌, ◌<◌, ◌^◌};
 ghost use Rattle.norm_system.specs.System.{arc_ok, has, arc_listed, normal_label_ok, key_of};
 
 use num_limits::ARC_MOST;
 
-#[derive(Drop)]
+#[derive(Clone, Copy)]
 pub struct NormalLabel {
     pub kind: u16,
     pub index: u16,

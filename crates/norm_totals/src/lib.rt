@@ -1,4 +1,5 @@
 // Inner to the readers and writers of normal files: the bound of a sum for so many arcs, and the two totals judged.
+#![tactic(auto)]
 ghost use Rattle.std.specs.Prelude.{◌≡◌, ◌≤◌, ◌^◌};
 ghost use Rattle.num_limits.specs.Capacities.{arcs_most};
 ghost use Rattle.norm_system.specs.System.{bound_of, totals_where};
@@ -14,7 +15,7 @@ const FILE_SQUARE_UNIT: u64 = 4503599627370496;
 const FILE_ACCEPTED: u64 = 4096;
 
 // Where the first unsound sum of a file stands, by its number in its section.
-#[derive(Drop)]
+#[derive(Clone, Copy)]
 pub enum Unsound {
     Nowhere,
     Matrix(usize),

@@ -1,4 +1,5 @@
 // The numbers that the papers name, each said once; `specs/Capacities.antt` has the same for contracts and definitions.
+#![tactic(auto)]
 
 // An arc file: "Parameters, 1 to 50", "Stations, 0 to 16", "Records, 0 to 65,535", "arc u32 (1 to 999,999)".
 pub const PARAMETERS_MOST: usize = 50;

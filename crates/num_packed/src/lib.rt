@@ -1,4 +1,5 @@
 // Inner to states and normal files: places in the packed triangle, and the first sum that is not sound.
+#![tactic(auto)]
 ghost use Rattle.std.specs.Prelude.{◌≡◌, ◌+◌, ◌*◌, ◌≤◌, ◌<◌, pos, length, true, false, ◌≤ℤ◌};
 ghost use Rattle.num_whole.specs.Tests.{below};
 ghost use Rattle.num_limits.specs.Capacities.{labels_most, sums_most};
@@ -52,7 +53,7 @@ fn is_broken(s: &[i64], i: usize, j: usize, bound: i64) -> bool
 }
 
 // What a walk over sums finds: each is sound, or the number of the first that is not.
-#[derive(Drop)]
+#[derive(Clone, Copy)]
 pub enum Walked {
     Sound,
     Unsound(usize),

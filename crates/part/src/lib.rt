@@ -1,4 +1,5 @@
 // An arc file handed over in parts, cut anywhere: begin, a part, finish, and the heading of what was handed over so far.
+#![tactic(auto)]
 ghost use Rattle.std.specs.Prelude.{◌≡◌, ◌≤◌, length};
 ghost use Rattle.num_whole.specs.Tests.{both};
 ghost use Rattle.num_whole.specs.Answer.{bad};
@@ -42,7 +43,7 @@ use take_tally::Tally;
 
 // ---- begin
 
-#[derive(Drop)]
+#[derive(Clone, Copy)]
 pub struct Begun {
     pub answer: Verdict,
     pub position: Position,
@@ -75,7 +76,7 @@ pub fn begin(matrix: &mut [i64], rights: &mut [i64]) -> Begun
 
 // ---- a part
 
-#[derive(Drop)]
+#[derive(Clone, Copy)]
 pub struct Parted {
     pub answer: PartAnswer,
     pub position: Position,
@@ -238,7 +239,7 @@ pub fn finish(p: Position) -> Finished
 
 // ---- the heading
 
-#[derive(Drop)]
+#[derive(Clone, Copy)]
 pub struct Headed {
     pub answer: PartAnswer,
     pub heading: Heading,

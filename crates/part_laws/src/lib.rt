@@ -1,5 +1,6 @@
 // What an arc file handed over in parts is: the definitions and the laws of it, with the position by value and the answer of its entries.
 // The code is in the crates below this one.
+#![tactic(auto)]
 use num_limits::{PARAMETERS_MOST, PARTIAL_SIZE, RECORD_FIXED};
 use refusal::Refusal;
 
@@ -14,7 +15,7 @@ pub const POSITION_MOST: usize = OPENED_MOST + RECORD_SIZE_MOST;
 
 // The bytes handed over without those of the records taken, from the front of `kept` on, with zeros after them; how many they are; how many
 // records were taken; and whether the file is over.
-#[derive(Drop)]
+#[derive(Clone, Copy)]
 pub struct Position {
     pub kept: [u8; POSITION_MOST],
     pub length: usize,
@@ -23,7 +24,7 @@ pub struct Position {
 }
 
 // The number of records that a part completed; 28, 20 or 6; or a refusal in the file's form, its place, and the number of all records taken.
-#[derive(Drop)]
+#[derive(Clone, Copy)]
 pub enum PartAnswer {
     Took(usize),
     Stopped(Refusal),
@@ -31,7 +32,7 @@ pub enum PartAnswer {
 }
 
 // What finish answers, and where it leads.
-#[derive(Drop)]
+#[derive(Clone, Copy)]
 pub struct Finished {
     pub answer: PartAnswer,
     pub position: Position,

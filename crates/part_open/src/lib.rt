@@ -1,4 +1,5 @@
 // What opens an arc file, read of its beginning: the heading, the count of its records and the place of the first of them.
+#![tactic(auto)]
 ghost use Rattle.std.specs.Prelude.{◌≡◌, ◌≤◌, length};
 ghost use Rattle.num_limits.specs.Capacities.{parameters_most, records_most};
 ghost use Rattle.refusal.specs.Number.{number_of};
@@ -12,7 +13,7 @@ use num_limits::RECORDS_U32;
 use refusal::Refusal;
 
 // The answer, and what was read: with a refusal a blank heading and 0.
-#[derive(Drop)]
+#[derive(Clone, Copy)]
 pub struct Opening {
     pub answer: ReadAnswer,
     pub heading: Heading,

@@ -1,4 +1,5 @@
 // A position in an arc file that is handed over in parts: made, put together with a part, and judged with the state at it.
+#![tactic(auto)]
 ghost use Rattle.std.specs.Prelude.{◌≡◌, true, false, ◌++◌, ◌+◌, ◌≤◌, length};
 ghost use Rattle.num_whole.specs.Tests.{less, pick, both, same};
 ghost use Rattle.num_whole.specs.Lists.{padded};
@@ -68,7 +69,7 @@ pub fn open_at(p: Position) -> Opening
 }
 
 // The first bytes of what is kept and handed over, how many they are, and how many of them were kept.
-#[derive(Drop)]
+#[derive(Clone, Copy)]
 pub struct Front {
     pub room: [u8; POSITION_MOST],
     pub length: usize,

@@ -1,4 +1,5 @@
 // The records that a part of an arc file completes, taken, and where the part leads once the file is opened.
+#![tactic(auto)]
 ghost use Rattle.std.specs.Prelude.{◌≡◌, ◌∷◌, ◌+◌, ◌*◌, ◌≤◌, length};
 ghost use Rattle.num_limits.specs.Capacities.{parameters_most, records_most};
 ghost use Rattle.byte_words.specs.Words.{lay};
@@ -78,7 +79,7 @@ pub fn take_done(
     )
 }
 
-#[derive(Drop)]
+#[derive(Clone, Copy)]
 pub struct Moved {
     pub answer: PartAnswer,
     pub position: Position,

@@ -1,8 +1,9 @@
 // The papers' refusal numbers: one enum, a case for each number of document 01's table and of document 02's requests.
+#![tactic(auto)]
 ghost use Rattle.std.specs.Prelude.{◌≡◌};
 ghost use Rattle.refusal.specs.Number.{number_of};
 
-#[derive(Drop)]
+#[derive(Clone, Copy)]
 pub enum Refusal {
     // bytes end before a count or section is complete, or a record is short
     Short,
@@ -60,7 +61,7 @@ pub enum Refusal {
 }
 
 // The judgement of a heading, a state or a system.
-#[derive(Drop)]
+#[derive(Clone, Copy)]
 pub enum Verdict {
     Sound,
     Refused(Refusal),

@@ -1,4 +1,5 @@
 // Inner to `take`: one record fitted to its heading, by numbers alone: 1, 3, 10 to 16, or what is kept of it.
+#![tactic(auto)]
 ghost use Rattle.std.specs.Prelude.{◌≡◌, true, ◌*◌, ◌≤◌, ◌<◌, length};
 ghost use Rattle.num_limits.specs.Capacities.{parameters_most};
 ghost use Rattle.num_whole.specs.Answer.{refused};
@@ -21,7 +22,7 @@ use unit_measure::MeasurementAnswer;
 use unit_types::RowAnswer;
 
 // A record that fits its heading: its row and column in the state, its time, its sigma and residual, its type's step and F.
-#[derive(Drop)]
+#[derive(Clone, Copy)]
 pub struct Fit {
     pub place: usize,
     pub column: usize,
@@ -32,20 +33,20 @@ pub struct Fit {
     pub factor: u64,
 }
 
-#[derive(Drop)]
+#[derive(Clone, Copy)]
 pub enum Fitted {
     Is(Fit),
     Refused(Refusal),
 }
 
-#[derive(Drop)]
+#[derive(Clone, Copy)]
 pub enum TimeAnswer {
     Is(u64),
     Refused(Refusal),
 }
 
 // Where a station stands among the listed ones.
-#[derive(Drop)]
+#[derive(Clone, Copy)]
 enum Seat {
     At(usize),
     Nowhere,

@@ -1,4 +1,5 @@
 // Inner to `take`: one record that fits its heading judged by its station's last time and count: 17, 18, 19, or what it adds to the sums.
+#![tactic(auto)]
 ghost use Rattle.std.specs.Prelude.{◌≡◌, ◌*◌, ◌≤◌, ◌<◌, ◌^◌, pos, nat_abs, ◌*ℤ◌};
 ghost use Rattle.take_judge.specs.Judged.{terms_by, judged_late, told_judgement};
 
@@ -6,14 +7,14 @@ use refusal::Refusal;
 use take_fit::Fit;
 
 // What an accepted record adds: its weight w, and with its R, typeof.w.R and typeof.w.R².
-#[derive(Drop)]
+#[derive(Clone, Copy)]
 pub struct Terms {
     pub weight: u32,
     pub side: i64,
     pub square: u64,
 }
 
-#[derive(Drop)]
+#[derive(Clone, Copy)]
 pub enum Judgement {
     Accepted(Terms),
     Refused(Refusal),

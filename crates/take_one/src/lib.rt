@@ -1,4 +1,5 @@
 // Inner to `take`: one record taken into sums of just its parameters, and what a taking answers.
+#![tactic(auto)]
 ghost use Rattle.std.specs.Prelude.{◌≡◌, length};
 ghost use Rattle.refusal.specs.First.{answered};
 ghost use Rattle.take_state.specs.State.{state_of};
@@ -12,13 +13,13 @@ use take_fit::Fitted;
 use take_judge::Judgement;
 use take_tally::Tally;
 
-#[derive(Drop)]
+#[derive(Clone, Copy)]
 pub enum TakeAnswer {
     Accepted,
     Refused(Refusal),
 }
 
-#[derive(Drop)]
+#[derive(Clone, Copy)]
 pub struct Taken {
     pub answer: TakeAnswer,
     pub tally: Tally,

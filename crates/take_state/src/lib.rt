@@ -1,4 +1,5 @@
 // The state of an arc: its sums in lent room, its tally by value; the empty state, and the judging of one that is handed in.
+#![tactic(auto)]
 ghost use Rattle.std.specs.Prelude.{◌≡◌, ◌+◌, ◌*◌, ◌^◌, ◌≤◌, ◌<◌, min, pos, length};
 ghost use Rattle.num_limits.specs.Capacities.{accepted_most, parameters_most};
 ghost use Rattle.num_packed.specs.Triangle.{tri};
@@ -31,7 +32,7 @@ use refusal::{Refusal, Verdict};
 use take_tally::Tally;
 
 // Whether a parameter is seen, by any station or by one.
-#[derive(Drop)]
+#[derive(Clone, Copy)]
 pub enum Sight {
     Seen,
     Unseen,
@@ -39,13 +40,13 @@ pub enum Sight {
 }
 
 // How many stations carry a parameter.
-#[derive(Drop)]
+#[derive(Clone, Copy)]
 pub enum Carriers {
     Number(u32),
     Refused(Refusal),
 }
 
-#[derive(Drop)]
+#[derive(Clone, Copy)]
 pub struct Started {
     pub answer: Verdict,
     pub tally: Tally,

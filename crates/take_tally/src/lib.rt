@@ -1,4 +1,5 @@
 // The tally of an arc by value: the empty one, and whether one that is handed in is sound.
+#![tactic(auto)]
 ghost use Rattle.std.specs.Prelude.{◌≡◌, not, ◌+◌, ◌≤◌, ◌<◌, length};
 ghost use Rattle.num_limits.specs.Capacities.{parameters_most};
 ghost use Rattle.num_packed.specs.Triangle.{tri};
@@ -12,13 +13,13 @@ ghost use Rattle.take_tally.specs.Parts.{mark_good};
 use num_limits::{PARAMETERS_MOST, STATIONS_MOST, TYPES};
 
 // The last times of one station, a type each; 0 for none.
-#[derive(Drop)]
+#[derive(Clone, Copy)]
 pub struct Row {
     pub times: [u64; TYPES],
 }
 
 // The square sum, the accepted records of each station, the last times of each station, and the marks of each parameter.
-#[derive(Drop)]
+#[derive(Clone, Copy)]
 pub struct Tally {
     pub square: u64,
     pub counts: [u32; STATIONS_MOST],

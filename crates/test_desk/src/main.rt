@@ -1,4 +1,5 @@
 // Runs several commands of the desk program, parted by the word `then`, each with the line `then` after it.
+#![tactic(auto)]
 
 // Whether word i of the command line parts two commands.
 fn parts(i: usize) -> bool {

@@ -1,6 +1,7 @@
 // Runs stored files. An arc file that an argument names is read, written back where it is accepted, and listed; a normal file is read. Standard
 // input has arc files in lines of hexadecimal digits: cut everywhere, with every byte changed, and at each limit; each line is written anew, the
 // file as it was read from the line, and the library's own answer.
+#![tactic(auto)]
 use arc_heading::Heading;
 use byte_section::{ReadAnswer, WriteAnswer};
 use refusal::Refusal;

@@ -16,7 +16,7 @@ use refusal::Refusal;
 
 // What a file is made of: its first arc and how many follow each other, how many common labels, whether arcs have labels of their own, and
 // where the chain of numbers begins.
-#[derive(Drop)]
+#[derive(Clone, Copy)]
 struct Plan {
     first: u32,
     arcs: usize,

@@ -1,6 +1,7 @@
 // Runs the pairs of normal files that the arguments name: each pair is merged, and what came of it is told. Then files as large as they may be.
 // The expected text is the outside vectors': for a pair its two names, then the vector's answer; after `ok` the bytes of its merged file, two
 // hexadecimal digits each. A pair whose files are both accepted (`ok`, or 21 to 24) stands there once more in the other order with the same answer.
+#![tactic(auto)]
 mod large;
 
 use merge::MergeAnswer;

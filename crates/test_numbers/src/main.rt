@@ -1,5 +1,6 @@
 // Runs the vectors of days, cells and units, and doubles of every exponent. The first word of a line tells what it asks. Each line is written anew: its question as it was read,
 // and the library's own answer.
+#![tactic(auto)]
 use cells::{Cell, CellAnswer, IndexAnswer, Letter};
 use days::{Date, DateAnswer, DayAnswer};
 use unit_convert::{DoubleAnswer, UnitAnswer};
@@ -189,7 +190,7 @@ fn run_back(line: &[u8]) {
 // ---- units of doubles of every exponent
 
 // What was answered: how many units, 15 and 16, and a checksum of the units in their order.
-#[derive(Drop)]
+#[derive(Clone, Copy)]
 struct Told {
     units: u64,
     not_finite: u64,

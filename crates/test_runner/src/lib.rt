@@ -1,5 +1,6 @@
 // What the programs that run vectors and stored cases share: standard input read whole, the line at a place of a text, and the file that an
 // argument names. What can't be read is told, and then what is written is not what is expected.
+#![tactic(auto)]
 ghost use Rattle.std.specs.Prelude.{◌≡◌, length};
 ghost use Rattle.io.specs.Counts.{IsPrefixLen};
 
@@ -41,7 +42,7 @@ pub fn line(text: &[u8], at: usize) -> &[u8] {
 }
 
 // A file that was read: the last byte of its name, which tells what kind of file it is, and its length.
-#[derive(Drop)]
+#[derive(Clone, Copy)]
 pub struct Named {
     pub last: u8,
     pub length: usize,

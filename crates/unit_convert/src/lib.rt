@@ -1,4 +1,5 @@
 // Units: doubles to whole units by their type, and back.
+#![tactic(auto)]
 ghost use Rattle.std.specs.Prelude.{◌≡◌};
 ghost use Rattle.num_whole.specs.Answer.{given, refused};
 ghost use Rattle.num_whole.specs.Tests.{pick};
@@ -10,13 +11,13 @@ ghost use Rattle.unit_convert.specs.Units.{turned, unit_of, double_of, told_unit
 use refusal::Refusal;
 use unit_types::TypeRow;
 
-#[derive(Drop)]
+#[derive(Clone, Copy)]
 pub enum UnitAnswer {
     Is(i64),
     Refused(Refusal),
 }
 
-#[derive(Drop)]
+#[derive(Clone, Copy)]
 pub enum DoubleAnswer {
     Is(f64),
     Refused(Refusal),

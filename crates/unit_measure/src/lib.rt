@@ -1,11 +1,12 @@
 // Measurements: a case a type, each with its two doubles, made of a type's number and taken apart again.
+#![tactic(auto)]
 ghost use Rattle.std.specs.Prelude.{◌≡◌};
 ghost use Rattle.unit_measure.specs.Measures.{reading, reading_of, measured_as, told_measurement};
 
 use refusal::Refusal;
 
 // A measurement: one case a type, each with the observed and the computed double.
-#[derive(Drop)]
+#[derive(Clone, Copy)]
 pub enum Measurement {
     Range(f64, f64),
     RangeRate(f64, f64),
@@ -19,14 +20,14 @@ pub enum Measurement {
     Declination(f64, f64),
 }
 
-#[derive(Drop)]
+#[derive(Clone, Copy)]
 pub enum MeasurementAnswer {
     Is(Measurement),
     Refused(Refusal),
 }
 
 // A measurement's type and its two doubles.
-#[derive(Drop)]
+#[derive(Clone, Copy)]
 pub struct Reading {
     pub kind: u32,
     pub observed: f64,

@@ -1,5 +1,6 @@
 // Inner to `unit_convert`: a double in units of 2 ^ -k, and a unit as a double. The way to a unit reads the double's bits and goes on in whole
 // numbers and shifts, a function a step; docs/ROUNDING.md walks four doubles through it.
+#![tactic(auto)]
 ghost use Rattle.std.specs.Prelude.{◌≡◌, ◌+◌, ◌*◌, ◌^◌, ◌≤◌, ◌<◌, nat_abs};
 ghost use Rattle.std.specs.Float.Ieee.Nearest.{closest};
 ghost use Rattle.std.specs.Float.Ieee.Scale.{finite};
@@ -9,7 +10,7 @@ ghost use Rattle.unit_nearest.specs.Steps.{fields_of, ratio_unit, fields_unit};
 // 2 ^ 52, the bit before the fraction's 52.
 const HIDDEN: u64 = 0x10_0000_0000_0000;
 
-#[derive(Drop)]
+#[derive(Clone, Copy)]
 pub enum Unit {
     Whole(i64),
     NotFinite,
@@ -17,7 +18,7 @@ pub enum Unit {
 }
 
 // The fields of a double (IEEE 754, 3.4): its sign, its exponent's field and its fraction.
-#[derive(Drop)]
+#[derive(Clone, Copy)]
 struct Fields {
     negative: bool,
     exponent: u64,

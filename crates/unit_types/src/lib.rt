@@ -1,4 +1,5 @@
 // The ten types of measurement: the table's row of each.
+#![tactic(auto)]
 ghost use Rattle.std.specs.Prelude.{◌≡◌, false};
 ghost use Rattle.unit_types.specs.Types.{row, is_type, row_of_type, row_at, told_row};
 
@@ -8,7 +9,7 @@ use refusal::Refusal;
 pub const TURN: i64 = 1_686_629_713;
 
 // A row of the paper's table of types; `turns` where q counts around one turn.
-#[derive(Drop)]
+#[derive(Clone, Copy)]
 pub struct TypeRow {
     pub k: u64,
     pub low: i64,
@@ -18,7 +19,7 @@ pub struct TypeRow {
     pub turns: bool,
 }
 
-#[derive(Drop)]
+#[derive(Clone, Copy)]
 pub enum RowAnswer {
     Is(TypeRow),
     Refused(Refusal),
