@@ -1,0 +1,19 @@
+-- `arc_fields::put_run` meets its contract. The loop's invariant: the bytes left, laid at the place, make the whole.
+use native.Mathlib.Omega.{arith}
+use borrow.Author.Rules.{rules}
+use Prim.Native.Nat.{◌≤◌, ◌+◌, ◌-◌}
+use mathlib.Core.Path.{◌≡◌, refl, sym, ◌∙◌}
+use lib.ListN.{length, drop, length-set}
+use native.Mathlib.Nat.{add-zero}
+use Rattle.byte_words.specs.Words.{lay}
+use Rattle.arc_fields.proofs.Run.{run_end_lem, run_turn}
+use Rattle.arc_fields.proofs.put_run.Given as goal
+
+abbrev pub invariant-loop-i : goal.invariant-loop-i
+invariant-loop-i l =
+    (l.i ≤ length l.run)
+    × (length l.out ≡ length l.initial.out)
+    × (lay l.initial.out l.start l.run ≡ lay l.out (l.start + l.i) (drop l.i l.run))
+
+abbrev pub decreases-loop-i : goal.decreases-loop-i
+decreases-loop-i l = length l.run - l.i

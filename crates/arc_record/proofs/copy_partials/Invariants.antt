@@ -1,0 +1,18 @@
+-- `arc_record::copy_partials` meets its contract. The loop's invariant: what is left to fill makes the whole.
+use native.Mathlib.Omega.{arith}
+use mathlib.Core.Path.{◌≡◌, refl, sym, ap, ◌∙◌}
+use mir.Syntax.{w16}
+use mir.ValLaws.{to_z-of_z}
+use Prim.Native.Nat.{◌+◌, ◌-◌, ◌*◌, ◌≤◌}
+use lib.ListN.{length, set, length-set}
+use lib.Seq.{sets}
+use borrow.Author.Rules.{rules}
+use Rattle.arc_record.specs.Record.{partials_from, partials_in}
+use Rattle.arc_record.proofs.Fills.{fill_start, fill_turn, fill_end}
+use Rattle.arc_record.proofs.copy_partials.Given as goal
+
+abbrev pub invariant-loop-i : goal.invariant-loop-i
+invariant-loop-i l = (l.i ≤ l.n) × (length l.out ≡ l.n) × (l.at ≡ 32 + 2 * l.i) × (sets l.out l.i (partials_from (l.n - l.i) l.bytes l.at) ≡ partials_in l.n l.bytes)
+
+abbrev pub decreases-loop-i : goal.decreases-loop-i
+decreases-loop-i l = l.n - l.i

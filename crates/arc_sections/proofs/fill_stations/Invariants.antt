@@ -1,0 +1,22 @@
+-- `arc_sections::fill_stations` meets its contract. The loop's invariant: what is left to read and to put makes the whole.
+use borrow.Author.Rules.{rules}
+use native.Mathlib.Omega.{arith}
+use Prim.Native.Nat.{◌+◌, ◌-◌, ◌*◌, ◌≤◌}
+use mathlib.Core.Path.{◌≡◌, refl, sym, ap, ◌∙◌}
+use Rattle.arc_limits.specs.Limits.{no_station}
+use Rattle.byte_section.specs.Section.{records}
+use Rattle.arc_kinds.specs.Kinds.{station_kind}
+use Rattle.arc_kinds.specs.Told.{told_station}
+use Rattle.arc_sections.specs.Sections.{stations_from}
+use Rattle.arc_sections.proofs.Fill.{filling, fill_start, fill_end, fill_good, fill_bad}
+use Rattle.arc_sections.proofs.Slots.{slots_read, slots_refused}
+use Rattle.arc_sections.proofs.fill_stations.Given as goal
+
+abbrev pub invariant-loop-i : goal.invariant-loop-i
+invariant-loop-i l =
+    (l.i ≤ l.count)
+    × (l.at ≡ l.start + 8 * l.i)
+    × (stations_from l.s l.start l.count ≡ filling l.count l.listed l.i (records station_kind l.s (l.count - l.i) l.at l.floor))
+
+abbrev pub decreases-loop-i : goal.decreases-loop-i
+decreases-loop-i l = l.count - l.i

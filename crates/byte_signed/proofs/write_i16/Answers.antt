@@ -1,0 +1,14 @@
+-- `byte_signed::write_i16` meets its contract.
+use borrow.Author.Rules.{rules}
+use mathlib.Core.Path.{ap, ◌∙◌}
+use mir.Syntax.{w16}
+use mir.Val.{of_z}
+use mir.ValLaws.{to_z-of_z}
+use Rattle.byte_words.specs.Words.{lay, bytes_of, signed_bytes}
+use Rattle.byte_signed.proofs.write_i16.Goals as goal
+
+pub returns : goal.returns
+unfolding signed_bytes
+returns c =
+    c.write_u16.ensures
+    ∙ ap (λ v. lay c.args.s.now c.args.at (bytes_of 2 v)) (c.bits16.ensures ∙ ap (of_z w16) (to_z-of_z w16 c.args.z c.ranges.z))

@@ -1,0 +1,22 @@
+-- `call_files::give_written` meets its contract: the length in its room, or the refusal.
+use mathlib.Core.Path.{ap}
+use Rattle.call_rooms.specs.Result.{one}
+use Rattle.call_rooms.proofs.Rooms.{on_given, on_refused}
+use Rattle.byte_section.specs.Told.{told_write}
+use borrow.Author.Rules.{rules}
+use Rattle.call_files.proofs.give_written.Goals as goal
+
+pub returns-in-Is : goal.returns-in-Is
+unfolding one
+returns-in-Is c =
+    let got = on_given one _ _ _ (ap told_write c.in-Is.is) (c.give_place.ensures.value, c.give_place.ensures.left) in record {
+      value = got.0;
+      left = got.1;
+    }
+
+pub returns-in-Refused : goal.returns-in-Refused
+returns-in-Refused c =
+    let got = on_refused one _ _ _ (ap told_write c.in-Refused.is) c.number.ensures in record {
+      value = got.0;
+      left = got.1;
+    }

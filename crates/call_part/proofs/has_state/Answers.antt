@@ -1,0 +1,11 @@
+-- `call_part::has_state` meets its contract.
+use mathlib.Core.Path.{sym, ◌∙◌}
+use Rattle.num_whole.proofs.Cases.{holds, fails}
+use borrow.Author.Rules.{rules}
+use Rattle.call_part.proofs.has_state.Goals as goal
+
+pub returns-then-has_position : goal.returns-then-has_position
+returns-then-has_position c = holds _ _ (sym c.has_position.ensures ∙ c.if-has_position.true) c.has_tally.ensures
+
+pub returns-else-has_position : goal.returns-else-has_position
+returns-else-has_position c = fails _ _ (sym c.has_position.ensures ∙ c.if-has_position.false)

@@ -1,0 +1,17 @@
+-- `call_position::kept_in` meets its contract: the bytes laid into zeros.
+use native.Mathlib.Omega.{arith}
+use Prim.Native.Nat.{◌≤◌}
+use mathlib.Core.Path.{sym}
+use lib.Seq.{length-take-le}
+use Rattle.call_position.proofs.Bytes.{kept_laid}
+use borrow.Author.Rules.{rules}
+use Rattle.call_position.proofs.kept_in.Goals as goal
+
+pub slice_bounds-put_run-end : goal.slice_bounds-put_run-end
+slice_bounds-put_run-end c = sym (length-take-le _ _ (omega (arith, c.least.ensures)))
+
+pub put_run-requires : goal.put_run-requires
+put_run-requires c = omega (arith, slice-aggregate-put-run c.before.before, c.least.ensures)
+
+pub returns : goal.returns
+returns c = kept_laid _ _ _ c.least.ensures c.put_run.ensures

@@ -1,0 +1,29 @@
+-- `call_rooms::give_three` meets its contract.
+use native.Mathlib.Omega.{arith}
+use lib.ListN.{length-set}
+use Rattle.call_rooms.proofs.Rooms.{short, placed}
+use borrow.Author.Rules.{rules}
+use Rattle.call_rooms.proofs.give_three.Goals as goal
+
+pub returns-then-out-lt3 : goal.returns-then-out-lt3
+returns-then-out-lt3 c =
+    let got = short _ _ (omega arith) in record {
+      value = got.0;
+      left = got.1;
+    }
+
+pub bounds-out-1 : goal.bounds-out-1
+bounds-out-1 c = simp length-set (omega arith)
+
+pub bounds-out-2 : goal.bounds-out-2
+bounds-out-2 c = simp length-set (omega arith)
+
+pub shape_of-out : goal.shape_of-out
+shape_of-out c = simp length-set
+
+pub returns : goal.returns
+returns c =
+    let got = placed _ _ (omega arith) in record {
+      value = got.0;
+      left = got.1;
+    }

@@ -1,0 +1,14 @@
+-- `days::months_days` meets its contract. The loop's invariant: the days of the first i months are added up. The measure is the months left.
+use Prim.Native.Nat.{◌+◌, ◌-◌, ◌≤◌}
+use mathlib.Core.Path.{◌≡◌, sym, ap, ◌∙◌}
+use native.Mathlib.Omega.{arith}
+use borrow.Author.Rules.{rules}
+use Rattle.days.specs.Calendar.{days_of_months}
+use Rattle.days.proofs.Calendar.{month_range, no_months, months_next, months_most}
+use Rattle.days.proofs.months_days.Given as goal
+
+abbrev pub invariant-loop-i : goal.invariant-loop-i
+invariant-loop-i l = (l.i ≤ l.n) × (l.days ≡ days_of_months l.year l.i)
+
+abbrev pub decreases-loop-i : goal.decreases-loop-i
+decreases-loop-i l = l.n - l.i

@@ -1,0 +1,16 @@
+-- `decimal::digits` meets its contract. The loop's invariant: x's digits before those that stand from i on are the number's; x has at most i.
+use Prim.Native.Nat.{◌-◌, ◌≤◌, ◌<◌, ◌^◌}
+use mathlib.Core.Path.{◌≡◌, sym, ◌∙◌}
+use native.Mathlib.Omega.{arith}
+use lib.ListN.{length, drop, length-set}
+use borrow.Author.Rules.{rules}
+use Rattle.decimal.specs.Decimal.{digits_of, decimal}
+use Rattle.decimal.proofs.Back.{write_start, place_left, write_turn, write_last}
+use Rattle.decimal.proofs.digits.Given as goal
+
+abbrev pub invariant-loop-x : goal.invariant-loop-x
+invariant-loop-x l =
+    (length l.last ≡ 20) × (1 ≤ l.i) × (l.i ≤ 20) × (l.x < 10 ^ l.i) × (digits_of l.i l.x (drop l.i l.last) ≡ decimal l.n)
+
+abbrev pub decreases-loop-x : goal.decreases-loop-x
+decreases-loop-x l = l.i

@@ -1,0 +1,18 @@
+-- `decimal::put_text` meets its contract. The loop's invariant: what is laid and the bytes still to come are the whole.
+use Prim.Native.Nat.{◌+◌, ◌-◌, ◌≤◌}
+use mathlib.Core.Path.{◌≡◌, refl, sym, ap₂, ◌∙◌}
+use native.Mathlib.Nat.{add-zero}
+use native.Mathlib.Omega.{arith}
+use lib.ListN.{length, drop, length-set}
+use borrow.Author.Rules.{rules}
+use Rattle.byte_words.specs.Words.{lay}
+use Rattle.decimal.specs.Laid.{laid}
+use Rattle.decimal.proofs.Laying.{copy_turn, copy_end}
+use Rattle.decimal.proofs.put_text.Given as goal
+
+abbrev pub invariant-loop-i : goal.invariant-loop-i
+invariant-loop-i l =
+    (l.i ≤ l.n) × (length l.room ≡ length l.initial.room) × (lay l.room (l.at + l.i) (drop l.i l.text) ≡ lay l.initial.room l.at l.text)
+
+abbrev pub decreases-loop-i : goal.decreases-loop-i
+decreases-loop-i l = l.n - l.i

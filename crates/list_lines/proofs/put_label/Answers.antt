@@ -1,0 +1,7 @@
+-- `list_lines::put_label` meets its contract, piece by piece.
+use Rattle.list_lines.proofs.Laws.{label_laid}
+use borrow.Author.Rules.{rules}
+use Rattle.list_lines.proofs.put_label.Goals as goal
+
+pub returns : goal.returns
+returns c = label_laid _ _ _ c.put_decimal-a.ensures c.put_text-b.ensures c.put_decimal.ensures

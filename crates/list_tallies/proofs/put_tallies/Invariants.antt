@@ -1,0 +1,17 @@
+-- `list_tallies::put_tallies` meets its contract. The loop's invariant: the lines of the numbers left, laid at the place, make the whole.
+use Prim.Native.Nat.{◌-◌, ◌≤◌}
+use mathlib.Core.Path.{◌≡◌, refl, ◌∙◌}
+use native.Mathlib.Omega.{arith}
+use lib.ListN.{length}
+use borrow.Author.Rules.{rules}
+use Rattle.decimal.specs.Laid.{laid}
+use Rattle.list_lines.specs.Lines.{answers_most, tally_lines}
+use Rattle.list_lines.proofs.Laws.{lines_turn, lines_end, tallies_turn, tallies_end}
+use Rattle.list_tallies.proofs.put_tallies.Given as goal
+
+abbrev pub invariant-loop-k : goal.invariant-loop-k
+invariant-loop-k l =
+    (1 ≤ l.k) × (l.k ≤ answers_most) × (length l.room ≡ length l.initial.room) × (laid l.room l.at (tally_lines l.table (answers_most - l.k) l.k) ≡ laid l.initial.room l.start (tally_lines l.table 19 1))
+
+abbrev pub decreases-loop-k : goal.decreases-loop-k
+decreases-loop-k l = answers_most - l.k

@@ -1,0 +1,42 @@
+use mathlib.Core.Path.{◌≡◌, refl, sym, ap, ◌∙◌}
+use Prim.Native.Nat.{◌≤◌, ◌+◌, ◌-◌, ◌*◌}
+use native.Mathlib.Nat.{sub-zero}
+use native.Mathlib.Omega.{arith}
+use borrow.Author.Rules.{rules}
+use lib.ListN.{length}
+use Rattle.byte_words.specs.Words.{lay}
+use Rattle.byte_words.proofs.Words.{length_lay}
+use Rattle.byte_section.specs.Section.{encoded}
+use Rattle.norm_kinds.specs.Kinds.{arc_number_bytes}
+use Rattle.norm_kinds.proofs.Records.{length_arc}
+use Rattle.norm_labels.specs.Table.{rows_of}
+use Rattle.merge_sums.proofs.Writing.{rows_end, rows_turn}
+use Rattle.merge_heads.specs.Heads.{number_at}
+use Rattle.merge_heads.proofs.Chosen.{number_short}
+use Rattle.merge_heads.proofs.put_arcs.Goals as goal
+
+pub loop-i-init : goal.loop-i-init
+loop-i-init c = (omega arith, omega arith, refl, rw sub-zero)
+
+pub number_in-a-requires : goal.number_in-a-requires
+number_in-a-requires c = c.requires.somewhere c.loop-i.i (omega arith)
+
+pub put_arc-requires : goal.put_arc-requires
+put_arc-requires c = rw c.number_in-a.ensures (number_short _ _ _ _ c.requires.short.0 c.requires.short.1)
+
+pub loop-i-preserved : goal.loop-i-preserved
+unfolding number_at
+loop-i-preserved c =
+    let l = c.loop-i in
+    let s = c.args in
+    let is : c.number_in-a.result ≡ number_at s.xs.now s.left.now s.ys.now s.right.now l.i = c.number_in-a.ensures in
+    let e : c.put_arc.new.out ≡ lay l.out l.k (arc_number_bytes (number_at s.xs.now s.left.now s.ys.now s.right.now l.i)) =
+    c.put_arc.ensures ∙ ap (λ v. lay l.out l.k (arc_number_bytes v)) is in (
+      omega arith,
+      omega arith,
+      rw e (length_lay _ _ _ ∙ l.invariant.2),
+      rw e (l.invariant.3 ∙ rows_turn _ _ length_arc _ _ _ _ _ (omega arith)),
+    )
+
+pub returns : goal.returns
+returns c = sym (c.loop-i.invariant.3 ∙ rows_end _ _ length_arc _ _ _ _ _ (omega arith))

@@ -1,0 +1,22 @@
+-- `merge_heads::put_fields` meets its contract: the six fields are laid one after the other.
+use native.Mathlib.Omega.{arith}
+use mathlib.Core.Path.{◌∙◌}
+use mir.Syntax.{w64}
+use mir.ValLaws.{to_z-of_z}
+use Rattle.byte_words.proofs.Words.{lay_append, length_bytes_of}
+use Rattle.norm_kinds.specs.Kinds.{normal_label_bytes}
+use borrow.Author.Rules.{rules}
+use Rattle.merge_heads.proofs.put_fields.Goals as goal
+
+-- Each `let` of a place leads from a later one to an earlier one; they stand here since `rw` takes no view.
+pub returns : goal.returns
+unfolding normal_label_bytes
+returns c =
+    let l = c.args.l in
+    let back = to_z-of_z w64 l.estimate (record { sfits = c.struct_told-1.given.1.1.1.1.0.1 }) in
+    rw (c.write_i64.ensures, c.write_u32-3.ensures, c.write_u32-2.ensures, c.write_u32.ensures, c.write_u16-2.ensures, c.write_u16.ensures, back)
+    (lay_append _ _ _ _ _ (simp length_bytes_of (omega arith))
+    ∙ lay_append _ _ _ _ _ (simp length_bytes_of (omega arith))
+    ∙ lay_append _ _ _ _ _ (simp length_bytes_of (omega arith))
+    ∙ lay_append _ _ _ _ _ (simp length_bytes_of (omega arith))
+    ∙ lay_append _ _ _ _ _ (simp length_bytes_of))

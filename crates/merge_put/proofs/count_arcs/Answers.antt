@@ -1,0 +1,71 @@
+-- `merge_put::count_arcs` meets its contract: what is joined is the arcs of both files.
+use mathlib.Core.Path.{◌≡◌, refl, ap₂, ◌∙◌}
+use native.Mathlib.Omega.{arith}
+use Prim.Native.Nat.{◌≤◌}
+use lib.ListN.{length, take}
+use Rattle.merge_join.specs.Join.{union}
+use Rattle.merge_put.specs.Parts.{system_in_file}
+use Rattle.merge_put.proofs.Known.{Known, known}
+use Rattle.merge_put.proofs.Loaded.{arcs_part, part_long, arcs_ascend, arcs_room}
+use borrow.Author.Rules.{rules}
+use Rattle.merge_put.proofs.count_arcs.Lts
+use Rattle.merge_put.proofs.count_arcs.Reads
+use Rattle.merge_put.proofs.count_arcs.Tie
+use Rattle.merge_put.proofs.count_arcs.Goals as goal
+
+-- the facts known at one place of the code
+abbrev At-Start : Type 0
+At-Start = Lts.Start Tie.the-claims Reads.Pre Reads.Post Tie.handed_clauses
+
+-- the facts known at one place of the code
+abbrev At-After-load_arcs : Type 0
+At-After-load_arcs = Lts.After-load_arcs Tie.the-claims Reads.Pre Reads.Post Tie.handed_clauses
+
+-- the facts known at one place of the code
+abbrev At-After-load_arcs-2 : Type 0
+At-After-load_arcs-2 = Lts.After-load_arcs2 Tie.the-claims Reads.Pre Reads.Post Tie.handed_clauses
+
+kx : (c : At-Start) → Known c.args.a.now c.args.x
+kx c = known _ _ c.requires.0
+
+ky : (c : At-Start) → Known c.args.b.now c.args.y
+ky c = known _ _ c.requires.1
+
+-- the arcs of each file, in the room that they were loaded into
+us_part : (c : At-After-load_arcs) → let a = c.args in let room = c.load_arcs.new.arcs.1.1.0 in (a.x.arcs ≤ length room) × (take a.x.arcs room ≡ (system_in_file a.a.now).arcs)
+us_part c = arcs_part _ _ (kx c.before.before.before.before) _ _ refl c.load_arcs.ensures
+
+vs_part : (c : At-After-load_arcs-2) → let a = c.args in let room = c.load_arcs-2.new.arcs.1.1.0 in (a.y.arcs ≤ length room) × (take a.y.arcs room ≡ (system_in_file a.b.now).arcs)
+vs_part c = arcs_part _ _ (ky c.before.before.before.before.before.before.before) _ _ refl c.load_arcs-2.ensures
+
+pub load_arcs-requires : goal.load_arcs-requires
+load_arcs-requires c = (omega (arith, (kx c.before.before.before.before).labels_end), (kx c.before.before.before.before).few_arcs)
+
+pub load_arcs-requires-2 : goal.load_arcs-requires-2
+load_arcs-requires-2 c =
+    (omega (arith, (ky c.before.before.before.before.before.before.before).labels_end), (ky c.before.before.before.before.before.before.before).few_arcs)
+
+pub slice_bounds-us-end : goal.slice_bounds-us-end
+slice_bounds-us-end c = (us_part c.before.before.before.before.before).0
+
+pub slice_bounds-join-end : goal.slice_bounds-join-end
+slice_bounds-join-end c = part_long _ _ (us_part c.before.before.before.before.before.before).0
+
+pub slice_bounds-vs-end : goal.slice_bounds-vs-end
+slice_bounds-vs-end c = (vs_part c.before.before.before).0
+
+pub slice_bounds-join-end-2 : goal.slice_bounds-join-end-2
+slice_bounds-join-end-2 c = part_long _ _ (vs_part c.before.before.before.before).0
+
+pub join-requires : goal.join-requires
+join-requires c =
+    let p = us_part c.before.before.before.before.before.before.before.before.before in let q = vs_part c.before.before.before.before.before.before in let k = kx c.before.before.before.before.before.before.before.before.before.before.before.before.before in let l = ky c.before.before.before.before.before.before.before.before.before.before.before.before.before in record {
+      xs_value = arcs_ascend _ _ k _ _ l _ _ p.1 q.1;
+      ys_in_bounds = arcs_room _ _ k _ _ l _ _ p.1 q.1;
+      ys_in_bounds_2 = arcs_room _ _ k _ _ l _ _ p.1 q.1;
+    }
+
+pub returns : goal.returns
+returns c =
+    c.join.ensures.count
+    ∙ ap₂ (λ u v. length (union u v)) (us_part c.before.before.before.before.before.before.before.before.before.before.before.before).1 (vs_part c.before.before.before.before.before.before.before.before.before).1

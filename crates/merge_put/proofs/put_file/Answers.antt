@@ -1,0 +1,42 @@
+-- `merge_put::put_file` meets its contract: the three parts, one after the other.
+use mathlib.Core.Path.{refl}
+use native.Mathlib.Omega.{arith}
+use borrow.Author.Rules.{rules}
+use Rattle.merge_put.proofs.Known.{Known, known}
+use Rattle.merge_put.proofs.Steps.{file_put}
+use Rattle.merge_put.proofs.put_file.Lts
+use Rattle.merge_put.proofs.put_file.Reads
+use Rattle.merge_put.proofs.put_file.Tie
+use Rattle.merge_put.proofs.put_file.Goals as goal
+
+-- the facts known at one place of the code
+abbrev At-Start : Type 0
+At-Start = Lts.Start Tie.the-claims Reads.Pre Reads.Post Tie.handed_clauses
+
+kx : (c : At-Start) → Known c.args.a.now c.args.x
+kx c = known _ _ c.requires.as_read.0
+
+ky : (c : At-Start) → Known c.args.b.now c.args.y
+ky c = known _ _ c.requires.as_read.1
+
+pub put_heads-requires : goal.put_heads-requires
+put_heads-requires c =
+    let p = (c.requires.as_read, (c.requires.arcs_fit, c.requires.b_value)) in record {
+      as_read = p.0;
+      arcs_fit = p.1.0;
+      n_le_labels_most = (p.1.1.1, omega arith);
+    }
+
+pub put_middle-requires : goal.put_middle-requires
+put_middle-requires c =
+    let p = (c.requires.as_read, (c.requires.arcs_fit, c.requires.b_value)) in record {
+      as_read = p.0;
+      b_value = (p.1.1.0, p.1.0.1);
+      n_in_bounds = omega arith;
+    }
+
+pub returns : goal.returns
+returns c =
+    let p = (c.requires.as_read, (c.requires.arcs_fit, c.requires.b_value)) in
+    file_put _ _ (kx c.before.before.before.before.before.before.before.before.before.before.before.before.before.before.before.before.before.before.before) _ _ (ky c.before.before.before.before.before.before.before.before.before.before.before.before.before.before.before.before.before.before.before) _ _ _ p.1.0.1 _ p.1.0.0 _ _ _ _ _ _ refl (omega (arith, c.triangle.ensures.0))
+    c.put_heads.ensures c.put_middle.ensures c.put_last.ensures

@@ -1,0 +1,16 @@
+-- `merge_read::alike_at` meets its contract, one step for its test.
+use mathlib.Core.Path.{sym, ◌∙◌}
+use Rattle.merge_read.proofs.Compared.{weights_differ, estimates_tell}
+use borrow.Author.Rules.{rules}
+use Rattle.merge_read.proofs.alike_at.Goals as goal
+
+pub returns-then-read_u32 : goal.returns-then-read_u32
+returns-then-read_u32 c =
+    let s = c.args in
+    let x = c.read_i64 in
+    let y = c.read_i64-then-read_u32 in
+    estimates_tell s.a.now s.p s.b.now s.q x.result y.result (sym c.read_u32.ensures ∙ c.if-read_u32.true ∙ c.read_u32-2.ensures) x.ensures y.ensures
+    (record { sfits = x.type-inv }) (record { sfits = y.type-inv })
+
+pub returns : goal.returns
+returns c = weights_differ _ _ _ _ (λ e. c.if-read_u32.false (c.read_u32.ensures ∙ e ∙ sym c.read_u32-2.ensures))

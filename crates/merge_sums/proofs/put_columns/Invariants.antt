@@ -1,0 +1,33 @@
+-- `merge_sums::put_columns` meets its contract. The loop's invariant: the bytes of the columns left, laid at the place, make the whole.
+use mathlib.Core.Path.{◌≡◌, refl, sym, ap, ◌∙◌}
+use Prim.Native.Nat.{◌≤◌, ◌<◌, ◌+◌, ◌-◌, ◌*◌}
+use native.Mathlib.Nat.{sub-zero}
+use native.Mathlib.Omega.{arith}
+use borrow.Author.Rules.{rules}
+use lib.ListN.{length}
+use lib.Seq.{length-take-le}
+use Rattle.byte_words.specs.Words.{lay}
+use Rattle.byte_words.proofs.Words.{length_lay}
+use Rattle.num_packed.specs.Triangle.{tri}
+use Rattle.num_packed.proofs.Places.{tri_next, tri_within}
+use Rattle.norm_labels.specs.Table.{rows_of, columns_of}
+use Rattle.norm_labels.proofs.Tables.{length_rows}
+use Rattle.merge_sums.proofs.Writing.{bytes_in, columns_end, columns_turn}
+use Rattle.norm_add.specs.Add.{Passed}
+use Rattle.norm_add.proofs.Columns.{passed_starts}
+use Rattle.merge_sums.specs.Both.{both_places}
+use Rattle.merge_sums.proofs.Both.{front_long, front_take}
+use Rattle.merge_sums.proofs.put_columns.Given as goal
+
+abbrev pub invariant-loop-j : goal.invariant-loop-j
+invariant-loop-j l =
+    (l.j ≤ l.count)
+    × (l.k ≡ l.at + 8 * tri l.j)
+    × (length l.out ≡ length l.initial.out)
+    × (length l.room ≡ length l.initial.room)
+    × Passed l.ta l.j l.d.left
+    × Passed l.tb l.j l.d.right
+    × (lay l.initial.out l.at (bytes_in (columns_of (both_places l.a l.start l.ta l.b l.begin l.tb) 0 l.count)) ≡ lay l.out l.k (bytes_in (columns_of (both_places l.a l.start l.ta l.b l.begin l.tb) l.j (l.count - l.j))))
+
+abbrev pub decreases-loop-j : goal.decreases-loop-j
+decreases-loop-j l = l.count - l.j

@@ -1,0 +1,11 @@
+-- `merge_sums::put_sides` meets its contract.
+use mathlib.Core.Path.{ap, ◌∙◌}
+use Rattle.byte_words.specs.Words.{lay}
+use Rattle.merge_sums.proofs.Writing.{bytes_in}
+use borrow.Author.Rules.{rules}
+use Rattle.merge_sums.proofs.put_sides.Goals as goal
+
+pub returns : goal.returns
+returns c =
+    let s = c.before in
+    c.put_column.ensures ∙ ap (λ l. lay s.args.out.now s.args.at (bytes_in l)) c.join-sides.ensures

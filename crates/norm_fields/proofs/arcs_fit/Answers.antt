@@ -1,0 +1,24 @@
+use borrow.Author.Rules.{rules}
+use mathlib.Core.Path.{◌≡◌, refl, sym, ◌∙◌}
+use Prim.Native.Nat.{◌≤◌, ◌-◌}
+use native.Mathlib.Omega.{arith}
+use lib.ListN.{take}
+use Rattle.num_whole.specs.Lists.{all, rest}
+use Rattle.num_whole.proofs.Walks.{all_end, all_pass, all_fail}
+use Rattle.norm_system.specs.System.{arc_ok}
+use Rattle.norm_fields.proofs.arcs_fit.Goals as goal
+
+pub loop-i-init : goal.loop-i-init
+unfolding rest
+loop-i-init c = (omega arith, refl)
+
+pub loop-i-preserved : goal.loop-i-preserved
+loop-i-preserved c =
+    (omega arith, c.loop-i.invariant.1 ∙ all_pass _ _ _ arc_ok 0 (omega arith) (omega arith) (sym c.arc_fits.ensures ∙ c.if-arc_fits.true))
+
+pub returns-else-arc_fits : goal.returns-else-arc_fits
+returns-else-arc_fits c =
+    sym (c.loop-i.invariant.1 ∙ all_fail _ _ _ arc_ok 0 (omega arith) (omega arith) (sym c.arc_fits.ensures ∙ c.if-arc_fits.false))
+
+pub returns : goal.returns
+returns c = sym (c.loop-i.invariant.1 ∙ all_end _ _ _ arc_ok (omega arith))

@@ -1,0 +1,15 @@
+-- `norm_fields::arcs_of` meets its contract. The loop's invariant: the arcs passed are copied.
+use borrow.Author.Rules.{rules}
+use mathlib.Core.Path.{◌≡◌, refl, sym, ◌∙◌}
+use Prim.Native.Nat.{◌≤◌, ◌-◌}
+use native.Mathlib.Omega.{arith}
+use lib.ListN.{length, take, length-set}
+use Rattle.norm_fields.proofs.Fields.{arc_at, copied}
+use Rattle.norm_fields.proofs.arcs_of.Given as goal
+
+abbrev pub invariant-loop-i : goal.invariant-loop-i
+invariant-loop-i l =
+    (l.i ≤ l.n) × (length l.arcs ≡ 16) × (take l.i l.arcs ≡ take l.i l.heads)
+
+abbrev pub decreases-loop-i : goal.decreases-loop-i
+decreases-loop-i l = l.n - l.i

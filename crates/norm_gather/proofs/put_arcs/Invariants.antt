@@ -1,0 +1,23 @@
+-- `norm_gather::put_arcs` meets its contract. The loop's invariant: the bytes of the arcs left, laid at the place, make the whole.
+use mathlib.Core.Path.{◌≡◌, refl, sym, ap, ◌∙◌}
+use Prim.Native.Nat.{◌≤◌, ◌+◌, ◌-◌, ◌*◌}
+use native.Mathlib.Nat.{sub-zero}
+use native.Mathlib.Omega.{arith}
+use lib.ListN.{length}
+use Rattle.byte_words.specs.Words.{word, bytes_of, lay}
+use Rattle.byte_words.specs.Stands.{stands}
+use Rattle.byte_words.proofs.Words.{length_lay}
+use Rattle.byte_section.specs.Section.{encoded}
+use Rattle.norm_kinds.specs.Kinds.{arc_number_bytes}
+use Rattle.norm_kinds.proofs.Records.{length_arc}
+use Rattle.norm_gather.proofs.Writing.{stands_end, stands_turn}
+use borrow.Author.Rules.{rules}
+use Rattle.norm_gather.proofs.put_arcs.Given as goal
+
+abbrev pub invariant-loop-i : goal.invariant-loop-i
+invariant-loop-i l =
+    (l.i ≤ l.n) × (l.at ≡ 4 + 4 * l.i) × (length l.out ≡ length l.initial.out)
+    × (lay l.initial.out 4 (encoded arc_number_bytes (stands (word 4 l.s) 4 l.n 4)) ≡ lay l.out l.at (encoded arc_number_bytes (stands (word 4 l.s) 4 (l.n - l.i) l.at)))
+
+abbrev pub decreases-loop-i : goal.decreases-loop-i
+decreases-loop-i l = l.n - l.i

@@ -1,0 +1,22 @@
+-- `norm_gather::seat_labels` meets its contract. The loop's invariant: the places left, laid at the turn, make the whole.
+use mathlib.Core.Path.{◌≡◌, refl, sym, ap, ◌∙◌}
+use mathlib.Core.Logic.{⊎_elim}
+use Prim.Native.Nat.{◌≤◌, ◌<◌, ◌+◌, ◌-◌, ◌*◌}
+use native.Mathlib.Nat.{sub-zero}
+use native.Mathlib.Omega.{arith}
+use lib.ListN.{length, set, length-set}
+use Rattle.byte_words.specs.Words.{lay}
+use Rattle.byte_words.specs.Stands.{stands}
+use Rattle.norm_kinds.specs.Kinds.{fielded_at}
+use Rattle.norm_gather.specs.Gather.{seats_from}
+use Rattle.norm_gather.proofs.Seated.{seats_end, seats_off, seats_on}
+use borrow.Author.Rules.{rules}
+use Rattle.norm_gather.proofs.seat_labels.Given as goal
+
+abbrev pub invariant-loop-i : goal.invariant-loop-i
+invariant-loop-i l =
+    (l.i ≤ l.p) × (l.at ≡ l.labels + 24 * l.i) × (l.q ≤ l.i) × (length l.w ≡ length l.initial.w)
+    × (lay l.initial.w 0 (seats_from l.n 0 (stands (fielded_at l.s) 24 l.p l.labels)) ≡ lay l.w l.i (seats_from l.n l.q (stands (fielded_at l.s) 24 (l.p - l.i) l.at)))
+
+abbrev pub decreases-loop-i : goal.decreases-loop-i
+decreases-loop-i l = l.p - l.i

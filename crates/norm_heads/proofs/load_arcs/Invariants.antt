@@ -1,0 +1,18 @@
+-- `norm_heads::load_arcs` meets its contract. The loop's invariant: what is left to put makes the whole.
+use mathlib.Core.Path.{◌≡◌, refl, sym, ◌∙◌}
+use Prim.Native.Nat.{◌≤◌, ◌+◌, ◌*◌, ◌-◌}
+use native.Mathlib.Omega.{arith}
+use borrow.Author.Rules.{rules}
+use lib.ListN.{length, length-set}
+use Rattle.byte_words.specs.Words.{word, lay}
+use Rattle.byte_words.specs.Stands.{stands}
+use Rattle.norm_heads.specs.Heads.{arcs_at}
+use Rattle.byte_words.proofs.Stands.{load_start, load_end, load_turn}
+use Rattle.norm_heads.proofs.load_arcs.Given as goal
+
+abbrev pub invariant-loop-i : goal.invariant-loop-i
+invariant-loop-i l =
+    (l.i ≤ l.n) × (l.at ≡ 4 + 4 * l.i) × (length l.arcs ≡ length l.initial.arcs) × (lay l.initial.arcs 0 (arcs_at l.s l.n) ≡ lay l.arcs l.i (stands (word 4 l.s) 4 (l.n - l.i) l.at))
+
+abbrev pub decreases-loop-i : goal.decreases-loop-i
+decreases-loop-i l = l.n - l.i

@@ -1,0 +1,17 @@
+-- `norm_heads::walk_arcs` meets its contract. The loop's invariant: what is left to read makes the whole.
+use borrow.Author.Rules.{rules}
+use native.Mathlib.Omega.{arith}
+use mathlib.Core.Path.{◌≡◌, sym, ap, ◌∙◌}
+use Prim.Native.Nat.{◌+◌, ◌*◌, ◌-◌, ◌≤◌}
+use Rattle.byte_section.specs.Section.{records}
+use Rattle.norm_kinds.specs.Kinds.{arc_kind}
+use Rattle.byte_section.specs.Told.{span_of}
+use Rattle.norm_kinds.specs.Told.{told_floor}
+use Rattle.norm_heads.proofs.Loops.{reaching, reach_start, reach_end, reach_good, reach_bad}
+use Rattle.norm_heads.proofs.walk_arcs.Given as goal
+
+abbrev pub invariant-loop-i : goal.invariant-loop-i
+invariant-loop-i l = (l.i ≤ l.count) × (l.at ≡ l.start + 4 * l.i) × (span_of (records arc_kind l.s l.count l.start 0) ≡ reaching l.count (records arc_kind l.s (l.count - l.i) l.at l.floor))
+
+abbrev pub decreases-loop-i : goal.decreases-loop-i
+decreases-loop-i l = l.count - l.i

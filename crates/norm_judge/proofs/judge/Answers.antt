@@ -1,0 +1,24 @@
+-- `norm_judge::judge` meets its contract: the counts and the heads' room, then the values.
+use mathlib.Core.Path.{sym, ◌∙◌}
+use Rattle.norm_judge.proofs.Numbers.{counted, headed, number_count, number_room, number_values}
+use borrow.Author.Rules.{rules}
+use Rattle.norm_judge.proofs.judge.Goals as goal
+
+pub heads_roomy-requires : goal.heads_roomy-requires
+heads_roomy-requires c = counted _ _ (sym c.counts_fit.ensures ∙ c.if-counts_fit.true)
+
+pub judge_values-requires : goal.judge_values-requires
+judge_values-requires c = headed _ _ _ (sym c.counts_fit.ensures ∙ c.if-counts_fit.true) (sym c.heads_roomy.ensures ∙ c.if-heads_roomy.true)
+
+pub returns-then-heads_roomy : goal.returns-then-heads_roomy
+returns-then-heads_roomy c =
+    c.judge_values.ensures
+    ∙ number_values _ _ _ _ _ (sym c.counts_fit.ensures ∙ c.if-counts_fit.true)
+    (sym c.heads_roomy.ensures ∙ c.if-heads_roomy.true)
+
+pub returns-else-heads_roomy : goal.returns-else-heads_roomy
+returns-else-heads_roomy c =
+    number_room _ _ _ _ _ (sym c.counts_fit.ensures ∙ c.if-counts_fit.true) (sym c.heads_roomy.ensures ∙ c.if-heads_roomy.false)
+
+pub returns-else-counts_fit : goal.returns-else-counts_fit
+returns-else-counts_fit c = number_count _ _ _ _ _ (sym c.counts_fit.ensures ∙ c.if-counts_fit.false)

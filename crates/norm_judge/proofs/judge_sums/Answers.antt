@@ -1,0 +1,17 @@
+-- `norm_judge::judge_sums` meets its contract: the rooms, then the sums.
+use mathlib.Core.Path.{sym, ◌∙◌}
+use Rattle.norm_judge.proofs.Numbers.{roomed, sums_room, sums_unsound, sums_sound_lem}
+use borrow.Author.Rules.{rules}
+use Rattle.norm_judge.proofs.judge_sums.Goals as goal
+
+pub sums_fit-requires : goal.sums_fit-requires
+sums_fit-requires c = roomed _ _ _ _ _ c.requires (sym c.sums_roomy.ensures ∙ c.if-sums_roomy.true)
+
+pub returns-then-sums_fit : goal.returns-then-sums_fit
+returns-then-sums_fit c = sums_sound_lem _ _ _ _ (sym c.sums_roomy.ensures ∙ c.if-sums_roomy.true) (sym c.sums_fit.ensures ∙ c.if-sums_fit.true)
+
+pub returns-else-sums_fit : goal.returns-else-sums_fit
+returns-else-sums_fit c = sums_unsound _ _ _ _ (sym c.sums_roomy.ensures ∙ c.if-sums_roomy.true) (sym c.sums_fit.ensures ∙ c.if-sums_fit.false)
+
+pub returns-else-sums_roomy : goal.returns-else-sums_roomy
+returns-else-sums_roomy c = sums_room _ _ _ _ (sym c.sums_roomy.ensures ∙ c.if-sums_roomy.false)

@@ -1,0 +1,53 @@
+-- `norm_judge::sides_sound` meets its contract, by what the walk finds.
+use borrow.Author.Rules.{rules}
+use mathlib.Core.Path.{◌≡◌, sym, ap, ◌∙◌}
+use Prim.Native.Nat.{◌^◌}
+use lib.IntN.{pos}
+use mir.Syntax.{w64}
+use mir.Val.{to_z, of_z}
+use mir.ValLaws.{to_z-of_z}
+use Rattle.num_packed.specs.Sound.{breaks_side}
+use Rattle.num_packed.specs.Found.{first_from, told_walked}
+use Rattle.num_packed.specs.declared.Walked.{Walked}
+use Rattle.num_packed.specs.declared.Walked.TheVariants.{Sound, Unsound}
+use Rattle.norm_system.specs.System.{bound_of, sides_where}
+use Rattle.num_packed.proofs.Tests.{not_below}
+use Rattle.norm_judge.proofs.Sums.{rights_sound_lem, rights_unsound}
+use Rattle.norm_judge.proofs.sides_sound.Lts
+use Rattle.norm_judge.proofs.sides_sound.Reads
+use Rattle.norm_judge.proofs.sides_sound.Tie
+use Rattle.norm_judge.proofs.sides_sound.Goals as goal
+
+-- the facts known at one place of the code
+abbrev At-After-bound_of-bound : Type 0
+At-After-bound_of-bound = Lts.After-bound_of Tie.the-claims Reads.Pre Reads.Post Tie.handed_clauses
+
+-- the facts known at one place of the code
+abbrev At-After-first_broken_side : Type 0
+At-After-first_broken_side = Lts.After-first_broken_side Tie.the-claims Reads.Pre Reads.Post Tie.handed_clauses
+
+value : (c : At-After-bound_of-bound) → to_z w64 (of_z w64 c.bound_of-bound.result) ≡ pos (bound_of c.args.arcs c.args.accepted (2 ^ 55))
+value c = to_z-of_z w64 c.bound_of-bound.result (search rules) ∙ c.bound_of-bound.ensures
+
+-- what the walk found, at the bound
+found : (c : At-After-first_broken_side) → let s = c.args in (w : Walked) → c.first_broken_side.result ≡ w
+    → first_from (breaks_side (pos (bound_of s.arcs s.accepted (2 ^ 55))) s.matrix.now s.rights.now) 0 s.p ≡ told_walked w
+found c w e =
+    let s = c.args in
+    ap (λ b. first_from (breaks_side b s.matrix.now s.rights.now) 0 s.p) (sym (value c.before)) ∙ sym c.first_broken_side.ensures
+    ∙ ap told_walked e
+
+pub first_broken_side-requires : goal.first_broken_side-requires
+first_broken_side-requires c =
+    record {
+      p_le_labels_most = search rules;
+      pos_bound = rw (value c) (not_below _);
+    }
+
+pub returns-in-Sound : goal.returns-in-Sound
+unfolding sides_where
+returns-in-Sound c = c.totals_sound.ensures ∙ rights_sound_lem _ _ _ _ _ (found c.before.before Sound c.in-Sound.is)
+
+pub returns-in-Unsound : goal.returns-in-Unsound
+unfolding sides_where
+returns-in-Unsound c = rights_unsound _ _ _ _ _ _ (found c.before (Unsound _) c.in-Unsound.is)

@@ -1,0 +1,34 @@
+use mathlib.Core.Path.{◌≡◌, refl, sym, ap, ◌∙◌}
+use mathlib.Core.Logic.{⊎_elim}
+use Prim.Native.Nat.{suc, ◌≤◌, ◌<◌, ◌+◌, ◌-◌, ◌*◌}
+use native.Mathlib.Nat.{sub-zero}
+use native.Mathlib.Omega.{arith}
+use borrow.Author.Rules.{rules}
+use lib.ListN.{length}
+use Rattle.byte_words.specs.Stands.{stands}
+use Rattle.norm_kinds.specs.Kinds.{fielded_at, stored_of}
+use Rattle.norm_kinds.proofs.Labels.{count_end, count_on, count_off}
+use Rattle.norm_kinds.proofs.count_stored.Goals as goal
+
+pub loop-i-init : goal.loop-i-init
+loop-i-init c = (omega arith, omega arith, omega arith, rw sub-zero (omega arith))
+
+pub loop-i-preserved : goal.loop-i-preserved
+loop-i-preserved c =
+    let l = c.loop-i in
+    let more : l.i < c.args.p = c.loop-i-test.true in
+    let is = c.read_u32-field.ensures in
+    let v = l.invariant in
+    ⊎_elim
+    (λ w. let e = count_on c.args.s.now c.args.p l.i l.at more (λ d. w.0.taken (is ∙ d)) in
+    let n : c.if-field-ne2.n ≡ l.n + 1 = w.1 in
+    (omega arith, omega (arith, v.1), omega (arith, v.2), omega (arith, v.3, e)))
+    (λ w. let e = count_off c.args.s.now c.args.p l.i l.at more (sym is ∙ w.0.left) in
+    let n : c.if-field-ne2.n ≡ l.n = w.1 in
+    (omega arith, omega (arith, v.1), omega (arith, v.2), omega (arith, v.3, e)))
+    c.if-field-ne2.branch
+
+pub returns : goal.returns
+returns c =
+    let l = c.loop-i in
+    (omega (arith, l.invariant.3, count_end c.args.s.now c.args.p l.i l.at (omega arith)), omega (arith, l.invariant.0, l.invariant.2))

@@ -1,0 +1,19 @@
+-- `norm_kinds::count_stored` meets its contract. The loop's invariant: what is left to count makes the whole.
+use mathlib.Core.Path.{◌≡◌, refl, sym, ap, ◌∙◌}
+use mathlib.Core.Logic.{⊎_elim}
+use Prim.Native.Nat.{suc, ◌≤◌, ◌<◌, ◌+◌, ◌-◌, ◌*◌}
+use native.Mathlib.Nat.{sub-zero}
+use native.Mathlib.Omega.{arith}
+use borrow.Author.Rules.{rules}
+use lib.ListN.{length}
+use Rattle.byte_words.specs.Stands.{stands}
+use Rattle.norm_kinds.specs.Kinds.{fielded_at, stored_of}
+use Rattle.norm_kinds.proofs.Labels.{count_end, count_on, count_off}
+use Rattle.norm_kinds.proofs.count_stored.Given as goal
+
+abbrev pub invariant-loop-i : goal.invariant-loop-i
+invariant-loop-i l =
+    (l.i ≤ l.p) × (l.at ≡ l.labels + 24 * l.i) × (l.n ≤ l.i) × (length (stored_of (stands (fielded_at l.s) 24 l.p l.labels)) ≡ l.n + length (stored_of (stands (fielded_at l.s) 24 (l.p - l.i) l.at)))
+
+abbrev pub decreases-loop-i : goal.decreases-loop-i
+decreases-loop-i l = l.p - l.i

@@ -1,0 +1,14 @@
+-- `norm_kinds::field_ok` meets its contract.
+use mathlib.Core.Path.{◌≡◌, sym, ◌∙◌}
+use borrow.Author.Rules.{rules}
+use Rattle.num_whole.proofs.Cases.{yes, no, by_same}
+use Rattle.norm_kinds.specs.Kinds.{field_ok}
+use Rattle.norm_kinds.proofs.field_ok.Goals as goal
+
+pub returns-then-is_small : goal.returns-then-is_small
+unfolding field_ok
+returns-then-is_small c = yes _ _ _ c.if-is_small.true c.within.ensures
+
+pub returns : goal.returns
+unfolding field_ok
+returns c = no _ _ _ c.if-is_small.false (by_same _ _)

@@ -1,0 +1,30 @@
+-- `norm_put::put_sums` meets its contract. The loop's invariant: the bytes of the sums left, laid at the place, make the whole.
+use borrow.Author.Rules.{rules}
+use mathlib.Core.Path.{◌≡◌, refl, sym, ◌∙◌}
+use Prim.Native.Nat.{◌≤◌, ◌+◌, ◌-◌, ◌*◌}
+use native.Mathlib.Omega.{arith}
+use lib.ListN.{length, get_or}
+use lib.Seq.{length-take-le}
+use Rattle.num_whole.specs.Lists.{rest}
+use Rattle.num_whole.proofs.Walks.{rest_end, rest_more}
+use Rattle.byte_words.specs.Words.{lay}
+use Rattle.byte_words.proofs.Words.{length_lay}
+use Rattle.byte_section.specs.Section.{encoded}
+use Rattle.byte_section.proofs.Laid.{laid_none, laid_one}
+use lib.IntN.{pos}
+use mir.Syntax.{w64}
+use mir.ValLaws.{to_z-of_z}
+use Rattle.norm_kinds.specs.Kinds.{sum_bytes}
+use Rattle.norm_kinds.proofs.Records.{length_sum}
+use Rattle.norm_put.proofs.Laid.{section_laid}
+use Rattle.norm_put.proofs.put_sums.Given as goal
+
+abbrev pub invariant-loop-i : goal.invariant-loop-i
+invariant-loop-i l =
+    (l.i ≤ l.n)
+    × (l.at ≡ l.start + 4 + 8 * l.i)
+    × (length l.out ≡ length l.initial.out)
+    × (lay l.initial.out (l.start + 4) (encoded sum_bytes (rest l.sums l.n 0)) ≡ lay l.out l.at (encoded sum_bytes (rest l.sums l.n l.i)))
+
+abbrev pub decreases-loop-i : goal.decreases-loop-i
+decreases-loop-i l = l.n - l.i

@@ -1,0 +1,39 @@
+-- `norm_walk::first_entry` meets its contract. The loops' invariants: the first of the columns left is the first of all, and the first of
+-- the rows left is the first of the column; the loops are left at the first entry that breaks.
+use borrow.Author.Rules.{rules}
+use native.Mathlib.Omega.{arith}
+use mathlib.Core.Path.{◌≡◌, refl, ap, sym, ◌∙◌}
+use mathlib.Core.Bool.{Bool}
+use mathlib.Core.List.{List}
+use Prim.Native.Nat.{ℕ, ◌+◌, ◌-◌, ◌≤◌}
+use native.Mathlib.Nat.{sub-zero}
+use lib.IntN.{pos}
+use mir.Syntax.{w64}
+use mir.ValLaws.{to_z-of_z}
+use Rattle.num_packed.specs.Triangle.{tri}
+use Rattle.norm_system.specs.System.{breaks_in}
+use Rattle.num_packed.specs.declared.Walked.TheVariants.{Sound}
+use Rattle.num_packed.proofs.Places.{tri_next, tri_within}
+use Rattle.num_packed.specs.Found.{Found, at, first_from, columns_from, told_walked}
+use Rattle.num_packed.proofs.Found.{first_end, first_here, first_on, columns_end, columns_here, columns_on}
+use Rattle.norm_sum.specs.Sums.{sums_at}
+use Rattle.norm_walk.proofs.first_entry.Given as goal
+
+-- the test of the entries, and the walk over a column from row i on, n rows
+abbrev pub entries : Bool → List ℕ → ℕ → ℕ → ℕ → ℕ → ℕ → Bool
+entries small s start p bound = breaks_in small (pos bound) (sums_at s start (tri p))
+
+abbrev pub column : Bool → List ℕ → ℕ → ℕ → ℕ → ℕ → ℕ → ℕ → Found
+column small s start p bound j i n = first_from (λ v. entries small s start p bound v j) i n
+
+abbrev pub invariant-loop-i : goal.invariant-loop-i
+invariant-loop-i l = (l.i ≤ l.j + 1) × (l.found ≡ l.initial.found) × (column l.is_small l.s l.start l.p l.bound l.j 0 (l.j + 1) ≡ column l.is_small l.s l.start l.p l.bound l.j l.i (l.j + 1 - l.i))
+
+abbrev pub decreases-loop-i : goal.decreases-loop-i
+decreases-loop-i l = l.j + 1 - l.i
+
+abbrev pub invariant-all : goal.invariant-all
+invariant-all l = (l.j ≤ l.p) × (l.found ≡ Sound) × (columns_from (entries l.is_small l.s l.start l.p l.bound) 0 l.p ≡ columns_from (entries l.is_small l.s l.start l.p l.bound) l.j (l.p - l.j))
+
+abbrev pub decreases-all : goal.decreases-all
+decreases-all l = l.p - l.j

@@ -1,0 +1,29 @@
+-- `part::finish` meets its contract: 28, 6, or what the reading says.
+use mathlib.Core.Path.{◌≡◌, sym, ◌∙◌}
+use Rattle.part.proofs.Stops.{end_over, end_unsound, end_told}
+use borrow.Author.Rules.{rules}
+use Rattle.part.proofs.finish.Goals as goal
+
+pub returns-then-p : goal.returns-then-p
+returns-then-p c =
+    let got = end_over _ c.if-p.true in record {
+      answer_value = got.0;
+      position = got.1;
+    }
+
+pub end_of-requires : goal.end_of-requires
+end_of-requires c = (c.open_at-old.ensures, sym c.is_fair.ensures ∙ c.if-is_fair.true, c.if-p.false)
+
+pub returns-then-is_fair : goal.returns-then-is_fair
+returns-then-is_fair c =
+    let v = end_told c.args.p c.if-p.false (sym c.is_fair.ensures ∙ c.if-is_fair.true) in record {
+      answer_value = c.end_of.ensures.answer_value ∙ v.0;
+      position = c.end_of.ensures.position ∙ v.1;
+    }
+
+pub returns-else-is_fair : goal.returns-else-is_fair
+returns-else-is_fair c =
+    let got = end_unsound c.args.p c.if-p.false (sym c.is_fair.ensures ∙ c.if-is_fair.false) in record {
+      answer_value = got.0;
+      position = got.1;
+    }

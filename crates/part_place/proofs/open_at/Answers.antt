@@ -1,0 +1,37 @@
+-- `part_place::open_at` meets its contract: a length past the room is as all of it.
+use native.Mathlib.Omega.{arith}
+use mathlib.Core.Path.{◌≡◌, sym, ap, ◌∙◌}
+use lib.ListN.{length, take, length-map}
+use lib.Seq.{length-take-le}
+use Rattle.part_laws.specs.Beginning.{opened}
+use Rattle.part_place.proofs.Looks.{least_take}
+use borrow.Author.Rules.{rules}
+use Rattle.part_place.proofs.open_at.Lts
+use Rattle.part_place.proofs.open_at.Reads
+use Rattle.part_place.proofs.open_at.Tie
+use Rattle.part_place.proofs.open_at.Goals as goal
+
+-- the facts known at one place of the code
+abbrev At-After-least-len : Type 0
+At-After-least-len = Lts.After-least Tie.the-claims Reads.Pre Reads.Post
+
+long : (c : At-After-least-len) → length c.args.p.kept ≡ 1088
+long c = simp length-map at c.well-formed.0.1.1.0.1.0.1
+
+pub slice_bounds-kept-end : goal.slice_bounds-kept-end
+slice_bounds-kept-end c = omega (arith, c.least-len.ensures, long c)
+
+pub slice_bounds-open-end : goal.slice_bounds-open-end
+slice_bounds-open-end c = sym (length-take-le _ _ (array-share-prefix-kept c.before))
+
+pub returns : goal.returns
+returns c =
+    let p = c.args.p in
+    let o = c.open in
+    let n = c.least-len in
+    record {
+      told = o.ensures.0 ∙ ap opened (ap (λ k. take k p.kept) n.ensures ∙ least_take p.length 1088 p.kept (long c.before.before));
+      few = o.ensures.1;
+      start = omega (arith, o.ensures.2, slice-aggregate-open c.before, n.ensures);
+      count = o.ensures.3;
+    }

@@ -1,0 +1,27 @@
+use borrow.Author.Rules.{rules}
+use Prim.Native.Nat.{◌≤◌, ◌+◌, ◌*◌, ◌-◌}
+use mathlib.Core.Path.{◌≡◌}
+use native.Mathlib.Omega.{arith}
+use lib.ListN.{length, drop}
+use Rattle.take_counts.specs.Counts.{sum_of, Few}
+use Rattle.take_counts.proofs.Totals.{sum_end, sum_more}
+use Rattle.take_counts.proofs.accepted.Goals as goal
+
+pub loop-station-init : goal.loop-station-init
+loop-station-init c = (search rules, search rules, search rules, λ few. omega arith, omega arith)
+
+pub loop-station-preserved : goal.loop-station-preserved
+loop-station-preserved c =
+    let l = c.loop-station in
+    (
+      omega arith,
+      l.invariant.1,
+      omega (arith, c.wide-n.ensures.1),
+      λ few. omega (arith, l.invariant.3 few, few l.station (omega arith), c.wide-n.ensures.0),
+      omega (arith, l.invariant.4, c.wide-n.ensures.0, sum_more c.args.t1 l.station (omega arith)),
+    )
+
+pub returns : goal.returns
+returns c =
+    let l = c.loop-station in
+    (omega (arith, l.invariant.4, sum_end c.args.t1 l.station (omega arith)), λ few. omega (arith, l.invariant.3 few))

@@ -1,0 +1,10 @@
+-- `wheloruka::whl_normal_unpack` meets its contract.
+use mathlib.Core.Path.{◌∙◌}
+use Rattle.norm_unpack.specs.Unpack.{unpack_normal}
+use Rattle.wheloruka.proofs.Writes.{judged_number_lem}
+use borrow.Author.Rules.{rules}
+use Rattle.wheloruka.proofs.whl_normal_unpack.Goals as goal
+
+pub returns : goal.returns
+returns c =
+    let u = (c.unpack-r.ensures.result_value, (c.unpack-r.ensures.heads_after, (c.unpack-r.ensures.matrix_after, c.unpack-r.ensures.rights_after))) in (c.read_number.ensures ∙ judged_number_lem (unpack_normal _ _ _ _) _ u.0, u.1)

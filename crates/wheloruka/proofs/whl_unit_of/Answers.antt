@@ -1,0 +1,14 @@
+-- `wheloruka::whl_unit_of` meets its contract: the unit, or the refusal.
+use Rattle.call_rooms.specs.Result.{one}
+use Rattle.wheloruka.specs.Numbers.{unit_values}
+use Rattle.wheloruka.proofs.Numbers.{as_told}
+use borrow.Author.Rules.{rules}
+use Rattle.wheloruka.proofs.whl_unit_of.Goals as goal
+
+pub returns : goal.returns
+unfolding unit_values
+returns c =
+    let got = as_told one c.unit_of.ensures _ (c.give_unit.ensures.value, c.give_unit.ensures.left) in record {
+      value = got.0;
+      left = got.1;
+    }
