@@ -31,6 +31,10 @@ nonzero n u b d B D h e =
 
 div_is : (X S : Float) (s : Bool) (n b : ℕ) → 0 < b → HasValue X s n 1 → HasValue S false b 1 → div binary64 X S ≡ round binary64 s n b
 unfolding div
+div_is nan S s n b B v w = elim v [ ]
+div_is (inf _) S s n b B v w = elim v [ ]
+div_is (fin t m e) nan s n b B v w = elim w [ ]
+div_is (fin t m e) (inf _) s n b B v w = elim w [ ]
 div_is (fin t m e) (fin u k d) s n b B v w =
     let A = m * up e * down d in
     let C = k * up d * down e in
@@ -59,6 +63,8 @@ exact s n k h g =
 -- ---- in units of 2 ^ -1074
 exactly_of : (k : ℕ) (s : Bool) (n : ℕ) (x : Float) → k ≤ 52 → HasValue x s n (2 ^ k) → Exactly k (signed s n) x
 unfolding size
+exactly_of k s n nan g v = elim v [ ]
+exactly_of k s n (inf _) g v = elim v [ ]
 exactly_of k s n (fin t m e) g v =
     let j = 1074 - k in
     let p : 2 ^ 1074 ≡ 2 ^ k * 2 ^ j = ap (λ (x : ℕ). 2 ^ x) (sym (mid k g)) ∙ pow-add 2 k j in
@@ -75,10 +81,10 @@ exactly_of k s n (fin t m e) g v =
     mid k h = omega arith
 
 -- ---- the two casts
-pub in_float : (q : ℤ) → nat_abs q < 2 ^ 53 → T (in_float binary64 q)
+pub in_float_lem : (q : ℤ) → nat_abs q < 2 ^ 53 → T (in_float binary64 q)
 unfolding in_float
-in_float (pos n) h = le→leb n (2 ^ 53) (le_of_lt h)
-in_float (negsuc n) h = lt→ltb n (2 ^ 53) (le_of_lt h)
+in_float_lem (pos n) h = le→leb n (2 ^ 53) (le_of_lt h)
+in_float_lem (negsuc n) h = lt→ltb n (2 ^ 53) (le_of_lt h)
 
 -- the division is the quotient of the definition
 pub quotient_is : (k : ℕ) (q : ℤ) (S : Float) → nat_abs q < 2 ^ 53 → HasValue S false (2 ^ k) 1 → div binary64 (of_int binary64 q) S ≡ quotient k q

@@ -102,6 +102,8 @@ exact_is_near k q x h =
 
 finite_unit : (k : ℕ) (lo hi : ℤ) (x : Float) → T (finite x) → unit_within k lo hi x ≡ within lo hi (nearest_unit k x)
 unfolding unit_within
+finite_unit k lo hi nan t = elim t [ ]
+finite_unit k lo hi (inf _) t = elim t [ ]
 finite_unit k lo hi (fin s m e) t = refl
 
 pub round_trip : (k : ℕ) (lo hi q : ℤ) (x : Float) → Exactly k q x → unit_within k lo hi x ≡ within lo hi q
@@ -110,6 +112,8 @@ round_trip k lo hi q x h = finite_unit k lo hi x h.number ∙ ap (λ (z : ℤ). 
 -- ---- the reading of a pattern's bits
 value_size : (v : Float) (s : Bool) (a : ℕ) → HasValue v s a (2 ^ 1074) → times1074 v ≡ signed s a
 unfolding size
+value_size nan s a h = elim h [ ]
+value_size (inf _) s a h = elim h [ ]
 value_size (fin t m e) s a h = ap₂ (λ (b : Bool) (n : ℕ). signed b n) h.0 (ap (λ (x : ℕ). x / down e) h.1 ∙ mul-div_cancel a (down_pos e))
 
 fields_size : (s : Bool) (x t : ℕ) → eqb x 2047 ≡ false → times1074 (of_fields binary64 s x t) ≡ signed s (mant x t)

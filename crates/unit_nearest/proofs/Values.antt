@@ -18,6 +18,8 @@ use Rattle.num_whole.specs.Answer.{refused}
 pub unit_of_value : (k : ℕ) (lo hi : ℤ) (v : Float) (s : Bool) (a : ℕ) → HasValue v s a (2 ^ 1074)
     → unit_within k lo hi v ≡ within lo hi (signed s (closest (a * 2 ^ k) (2 ^ 1074)))
 unfolding unit_within
+unit_of_value k lo hi nan s a h = elim h [ ]
+unit_of_value k lo hi (inf _) s a h = elim h [ ]
 unit_of_value k lo hi (fin t m e) s a h =
     ap₂ (λ (b : Bool) (n : ℕ). within lo hi (signed b (closest (n * 2 ^ k) (2 ^ 1074)))) h.0
     (ap (λ (x : ℕ). x / down e) h.1 ∙ mul-div_cancel a (down_pos e))

@@ -7,4 +7,4 @@ use Rattle.arc_kinds.proofs.load_station.Goals as goal
 
 pub returns : goal.returns
 unfolding station_at
-returns c = rw (to_z-of_z w32 c.read_i32.result (record { sfits = c.read_i32.type-inv }), c.read_u16.ensures, c.read_i32.ensures)
+returns c = rw (to_z-of_z w32 c.read_i32.result (record { sfits = c.read_i32.type_inv }), c.read_u16.ensures, c.read_i32.ensures)

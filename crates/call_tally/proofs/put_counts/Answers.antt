@@ -12,7 +12,7 @@ use Rattle.call_tally.proofs.put_counts.Goals as goal
 
 pub loop-i-init : goal.loop-i-init
 loop-i-init c =
-    let long : length c.args.t1 ≡ 16 = search rules in
+    let long : length c.args.counts ≡ 16 = search rules in
     (search rules, long, refl, omega arith, ap (λ l. lay c.args.out.now 8 (encoded (bytes_of 4) l)) (rest_whole _ 16 long))
 
 pub loop-i-preserved : goal.loop-i-preserved

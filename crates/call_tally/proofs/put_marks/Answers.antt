@@ -12,7 +12,7 @@ use Rattle.call_tally.proofs.put_marks.Goals as goal
 
 pub loop-i-init : goal.loop-i-init
 loop-i-init c =
-    let long : length c.args.t1 ≡ 50 = search rules in
+    let long : length c.args.marks ≡ 50 = search rules in
     (search rules, long, refl, omega arith, ap (λ l. lay c.args.out.now 1352 (encoded (bytes_of 2) l)) (rest_whole _ 50 long))
 
 pub loop-i-preserved : goal.loop-i-preserved

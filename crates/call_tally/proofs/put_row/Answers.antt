@@ -13,7 +13,7 @@ use Rattle.call_tally.proofs.put_row.Goals as goal
 
 pub loop-i-init : goal.loop-i-init
 loop-i-init c =
-    let long : length c.args.t1.times ≡ 10 = search rules in
+    let long : length c.args.row.times ≡ 10 = search rules in
     (search rules, long, refl, omega arith, ap (λ l. lay c.args.out.now c.args.start (encoded (bytes_of 8) l)) (rest_whole _ 10 long))
 
 pub loop-i-preserved : goal.loop-i-preserved

@@ -14,7 +14,7 @@ abbrev decreases-loop : tie.decreases-loop
 decreases-loop word h k₀ k = 16 - k
 
 loop-holds : tie.Need-loop-init invariant-loop decreases-loop
-loop-holds c = (search rules, simp length-map at c.well-formed.0.1.1.1.1.1.1.0.1.0.1)
+loop-holds c = (search rules, simp length-map at c.well_formed.0.1.1.1.1.1.1.0.1.0.1)
 
 mul-s : tie.Need-overflow-mul-s invariant-loop decreases-loop
 mul-s c = search rules

@@ -18,7 +18,7 @@ least-requires : tie.Need-least-requires invariant-loop decreases-loop
 least-requires c κs = search rules
 
 loop-holds : tie.Need-loop-init invariant-loop decreases-loop
-loop-holds c = (omega arith, omega (arith, c.least.ensures), simp length-map at c.before.well-formed.0.1.1.1.1.1.0.1.0.1)
+loop-holds c = (omega arith, omega (arith, c.least.ensures), simp length-map at c.before.well_formed.0.1.1.1.1.1.0.1.0.1)
 
 mul-l : tie.Need-overflow-mul-l invariant-loop decreases-loop
 mul-l c = search rules

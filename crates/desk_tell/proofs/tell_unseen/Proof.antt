@@ -20,7 +20,7 @@ put-requires : tie.Need-put-requires invariant-loop decreases-loop
 put-requires c κs = search rules
 
 loop-holds : tie.Need-loop-init invariant-loop decreases-loop
-loop-holds c = (search rules, search rules, simp length-map at c.before.before.well-formed.0.1.1.1.1.1.0.1.0.1)
+loop-holds c = (search rules, search rules, simp length-map at c.before.before.well_formed.0.1.1.1.1.1.0.1.0.1)
 
 mul-l : tie.Need-overflow-mul-l invariant-loop decreases-loop
 mul-l c = search rules

@@ -16,7 +16,7 @@ use Rattle.list_lines.proofs.put_parameters.Goals as goal
 
 pub loop-i-init : goal.loop-i-init
 unfolding labels_of rest
-loop-i-init c = (search rules, simp length-map at c.well-formed.1.1.0.1.1.1.1.1.0.1.0.1, refl, refl)
+loop-i-init c = (search rules, simp length-map at c.well_formed.1.1.0.1.1.1.1.1.0.1.0.1, refl, refl)
 
 pub offset_bounds-matrix-k : goal.offset_bounds-matrix-k
 offset_bounds-matrix-k c = record { fits = omega (arith, c.place-k.ensures, place_small c.loop-i.i (omega arith)) }
@@ -34,7 +34,7 @@ loop-i-preserved c =
       omega (arith, more),
       l.invariant.1,
       c.put_parameter-at.auto.0 ∙ l.invariant.2,
-      lines_turn _ _ _ _ line (parameters_turn a.matrix.now a.rights.now a.t4.marks _ _ l.i (omega (arith, c.requires.0, l.invariant.1)) more) l.invariant.3,
+      lines_turn _ _ _ _ line (parameters_turn a.matrix.now a.rights.now a.t.marks _ _ l.i (omega (arith, c.requires.0, l.invariant.1)) more) l.invariant.3,
     )
 
 pub returns : goal.returns

@@ -10,7 +10,7 @@ returns-then-read_u32 c =
     let x = c.read_i64 in
     let y = c.read_i64-then-read_u32 in
     estimates_tell s.a.now s.p s.b.now s.q x.result y.result (sym c.read_u32.ensures ∙ c.if-read_u32.true ∙ c.read_u32-2.ensures) x.ensures y.ensures
-    (record { sfits = x.type-inv }) (record { sfits = y.type-inv })
+    (record { sfits = x.type_inv }) (record { sfits = y.type_inv })
 
 pub returns : goal.returns
 returns c = weights_differ _ _ _ _ (λ e. c.if-read_u32.false (c.read_u32.ensures ∙ e ∙ sym c.read_u32-2.ensures))

@@ -21,7 +21,7 @@ At-After-held_at-diagonal = Lts.After-held_at Tie.the-claims Reads.Pre Reads.Pos
 is_diagonal : (c : At-After-held_at-diagonal) → let s = c.args in to_z w64 (of_z w64 c.held_at-diagonal.result) ≡ held_at s.s.now (column_at s.start s.n s.k) s.k
 is_diagonal c =
     let s = c.args in
-    to_z-of_z w64 c.held_at-diagonal.result (record { sfits = c.held_at-diagonal.type-inv }) ∙ c.held_at-diagonal.ensures ∙ ap (λ d. held_at s.s.now d s.k) c.column_at-c.ensures.0
+    to_z-of_z w64 c.held_at-diagonal.result (record { sfits = c.held_at-diagonal.type_inv }) ∙ c.held_at-diagonal.ensures ∙ ap (λ d. held_at s.s.now d s.k) c.column_at-c.ensures.0
 
 pub returns-then-is_unseen : goal.returns-then-is_unseen
 unfolding field_by_seat

@@ -10,7 +10,7 @@ use Rattle.norm_gather.proofs.held_at.Goals as goal
 pub returns-then-i-c : goal.returns-then-i-c
 returns-then-i-c c =
     held_there c.args.s.now c.args.c c.args.i c.if-i-c.true
-    (to_z-of_z w64 c.sum_from.result (record { sfits = c.sum_from.type-inv }) ∙ c.sum_from.ensures)
+    (to_z-of_z w64 c.sum_from.result (record { sfits = c.sum_from.type_inv }) ∙ c.sum_from.ensures)
 
 pub returns : goal.returns
 returns c = held_past c.args.s.now c.args.c c.args.i (omega arith)

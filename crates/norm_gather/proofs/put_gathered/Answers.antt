@@ -26,7 +26,7 @@ loop-i-preserved c =
     let s = c.args in
     let f = side_gathered s.s.now s.c s.u.now in
     let e : c.put_sum.new.out ≡ lay l.out l.k (sum_bytes (f l.i)) =
-    c.put_sum.ensures ∙ ap (λ v. lay l.out l.k (sum_bytes v)) (to_z-of_z w64 c.held_at-x.result (record { sfits = c.held_at-x.type-inv }) ∙ c.held_at-x.ensures) in (
+    c.put_sum.ensures ∙ ap (λ v. lay l.out l.k (sum_bytes v)) (to_z-of_z w64 c.held_at-x.result (record { sfits = c.held_at-x.type_inv }) ∙ c.held_at-x.ensures) in (
       omega arith,
       omega (arith, l.invariant.1),
       ap length e ∙ length_lay _ _ _ ∙ l.invariant.2,

@@ -8,4 +8,4 @@ use Rattle.norm_kinds.proofs.load_label.Goals as goal
 pub returns : goal.returns
 unfolding normal_label_at
 returns c =
-    rw (to_z-of_z w64 c.read_i64.result (record { sfits = c.read_i64.type-inv }), c.read_u16.ensures, c.read_u16-2.ensures, c.read_u32.ensures, c.read_u32-2.ensures, c.read_i64.ensures)
+    rw (to_z-of_z w64 c.read_i64.result (record { sfits = c.read_i64.type_inv }), c.read_u16.ensures, c.read_u16-2.ensures, c.read_u32.ensures, c.read_u32-2.ensures, c.read_i64.ensures)

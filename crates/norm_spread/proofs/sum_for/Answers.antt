@@ -14,4 +14,4 @@ returns-then-field-eq2 c = yes _ _ _ (is_same _ _ c.if-field-eq2.true) refl
 pub returns : goal.returns
 unfolding unless_two
 returns c =
-    no _ _ _ (not_same _ _ c.if-field-eq2.false) (to_z-of_z w64 c.read_i64.result (record { sfits = c.read_i64.type-inv }) ∙ c.read_i64.ensures)
+    no _ _ _ (not_same _ _ c.if-field-eq2.false) (to_z-of_z w64 c.read_i64.result (record { sfits = c.read_i64.type_inv }) ∙ c.read_i64.ensures)

@@ -21,7 +21,7 @@ use Rattle.norm_state.proofs.put_labels.Goals as goal
 
 pub loop-i-init : goal.loop-i-init
 unfolding labels_of rest
-loop-i-init c = (omega arith, simp length-map at c.well-formed.0.1.1.1.1.1.0.1.0.1, refl, omega arith, refl)
+loop-i-init c = (omega arith, simp length-map at c.well_formed.0.1.1.1.1.1.0.1.0.1, refl, omega arith, refl)
 
 pub loop-i-preserved : goal.loop-i-preserved
 loop-i-preserved c =
@@ -37,7 +37,7 @@ loop-i-preserved c =
 pub returns : goal.returns
 returns c =
     let l = c.loop-i in
-    let h = c.args.t1 in
+    let h = c.args.h in
     let none = ap (map (label_of_arc h.settings.arc)) (rest_end h.labels h.parameters l.i (omega arith)) in
     sym (l.invariant.4 ∙ laid_none normal_label_bytes _ length_label _ _ none)
     ∙ section_laid normal_label_bytes _ _ _ _ _ c.write_u32.ensures (labels_long h (omega (arith, l.invariant.1)))

@@ -38,7 +38,7 @@ here : (c : At-After-sum_at-x) → let a = c.args in (n : ℕ) → tri (a.j + 1)
     → to_z w64 (of_z w64 c.sum_at-x.result) ≡ entry (sums_at a.s.now a.start n) a.i a.j
 here c n h =
     let a = c.args in
-    entry_read _ _ n _ _ (record { sfits = c.sum_at-x.type-inv }) c.sum_at-x.ensures _ _ c.place.ensures (omega (arith, tri_next a.j))
+    entry_read _ _ n _ _ (record { sfits = c.sum_at-x.type_inv }) c.sum_at-x.ensures _ _ c.place.ensures (omega (arith, tri_next a.j))
 
 within : (c : At-Else-is_past) → past c.args.bound (to_z w64 (of_z w64 c.sum_at-x.result)) ≡ false
 within c = sym c.is_past.ensures ∙ c.if-is_past.false
@@ -51,7 +51,7 @@ row_test : (c : At-After-is_zero-2) → let a = c.args in (n : ℕ) → tri (a.j
     → (t : Bool) → c.is_zero-2.result ≡ t → is_zero (entry (sums_at a.s.now a.start n) a.i a.i) ≡ t
 row_test c n h t e =
     let a = c.args in
-    let row = entry_read a.s.now a.start n _ _ (record { sfits = c.sum_at.type-inv }) c.sum_at.ensures a.i a.i c.place-2.ensures
+    let row = entry_read a.s.now a.start n _ _ (record { sfits = c.sum_at.type_inv }) c.sum_at.ensures a.i a.i c.place-2.ensures
     (omega (arith, tri_within a.i (a.j + 1) (omega arith))) in
     ap is_zero (sym row) ∙ sym c.is_zero-2.ensures ∙ e
 

@@ -30,7 +30,7 @@ here : (c : At-After-sum_at-y) → let a = c.args in (k : ℕ) → a.i < k
     → to_z w64 (of_z w64 c.sum_at-y.result) ≡ get_or (sums_at a.s.now a.rights k) a.i (pos 0)
 here c k g =
     let a = c.args in
-    sum_read a.s.now a.rights k a.i _ (record { sfits = c.sum_at-y.type-inv }) c.sum_at-y.ensures g
+    sum_read a.s.now a.rights k a.i _ (record { sfits = c.sum_at-y.type_inv }) c.sum_at-y.ensures g
 
 within : (c : At-Else-is_past) → past c.args.bound (to_z w64 (of_z w64 c.sum_at-y.result)) ≡ false
 within c = sym c.is_past.ensures ∙ c.if-is_past.false
@@ -49,6 +49,6 @@ pub returns : goal.returns
 returns c =
     let a = c.args in
     λ n k h g.
-    let diagonal = entry_read a.s.now a.matrix n _ _ (record { sfits = c.sum_at.type-inv }) c.sum_at.ensures a.i a.i c.place.ensures
+    let diagonal = entry_read a.s.now a.matrix n _ _ (record { sfits = c.sum_at.type_inv }) c.sum_at.ensures a.i a.i c.place.ensures
     (omega (arith, tri_next a.i)) in
     c.is_zero-2.ensures ∙ ap is_zero diagonal ∙ side_diagonal _ _ _ _ _ (here c.before.before.before.before.before.before.before.before k g) (within c.before.before.before.before.before.before) (sym c.is_zero.ensures ∙ c.if-is_zero.false)

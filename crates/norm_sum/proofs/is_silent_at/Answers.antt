@@ -13,4 +13,4 @@ sum_at-requires c = omega (arith, tri_next c.args.j, c.place.ensures)
 pub returns : goal.returns
 returns c =
     let a = c.args in
-    λ n h. c.is_zero.ensures ∙ ap is_zero (entry_read _ _ n _ _ (record { sfits = c.sum_at.type-inv }) c.sum_at.ensures _ _ c.place.ensures (omega (arith, tri_next a.j)))
+    λ n h. c.is_zero.ensures ∙ ap is_zero (entry_read _ _ n _ _ (record { sfits = c.sum_at.type_inv }) c.sum_at.ensures _ _ c.place.ensures (omega (arith, tri_next a.j)))

@@ -10,4 +10,4 @@ use Rattle.norm_sum.proofs.sum_at.Goals as goal
 
 pub returns : goal.returns
 returns c =
-    λ n h. to_z-of_z w64 c.sum_from.result (record { sfits = c.sum_from.type-inv }) ∙ c.sum_from.ensures ∙ sym (stands_at (signed_word w64 c.args.s.now) 8 n c.args.start c.args.k (pos 0) h)
+    λ n h. to_z-of_z w64 c.sum_from.result (record { sfits = c.sum_from.type_inv }) ∙ c.sum_from.ensures ∙ sym (stands_at (signed_word w64 c.args.s.now) 8 n c.args.start c.args.k (pos 0) h)

@@ -24,8 +24,8 @@ At-Start = Lts.Start Tie.the-claims Reads.Pre Reads.Post Tie.handed_clauses
 rest_all : (l : List ℕ) (k : ℕ) → take (length l - k) (drop k l) ≡ drop k l
 rest_all l k = take_all (length l - k) (drop k l) (omega (arith, length-drop k l))
 
-room : (c : At-Start) → length c.args.t4 ≡ 1088
-room c = c.well-formed.1.1.1.0.1.0.1
+room : (c : At-Start) → length c.args.front ≡ 1088
+room c = c.well_formed.1.1.1.0.1.0.1
 
 pub overflow_mul-end : goal.overflow_mul-end
 overflow_mul-end c =

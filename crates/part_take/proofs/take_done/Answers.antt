@@ -27,8 +27,8 @@ record Numbers (c : tie.After-struct-known) : Type 0 where
   start : (start-of-some c).args.start ≤ 956
   rest : (start-of-some c).args.start + (((start-of-some c).args.n - 1) * record_size (start-of-some c).args.h.parameters + record_size (start-of-some c).args.h.parameters) ≤ (start-of-some c).args.len + length (start-of-some c).args.bytes.now
 
-room : (c : At-After-struct_known-1) → length c.args.t4 ≡ 1088
-room c = c.well-formed.1.1.1.0.1.0.1
+room : (c : At-After-struct_known-1) → length c.args.front ≡ 1088
+room c = c.well_formed.1.1.1.0.1.0.1
 
 numbers : (c : At-After-struct_known-1) → Numbers c
 numbers c =
@@ -44,7 +44,7 @@ pub returns-then-n-eq0 : goal.returns-then-n-eq0
 unfolding run answers lay
 returns-then-n-eq0 c =
     let a = c.args in
-    let e = none_done a.h a.count a.start a.t4 a.len a.taken a.n a.bytes.now c.requires.ready c.well-formed.1.1.1.0.1.0.1 (omega arith) in record {
+    let e = none_done a.h a.count a.start a.t4 a.len a.taken a.n a.bytes.now c.requires.ready c.well_formed.1.1.1.0.1.0.1 (omega arith) in record {
       state = ap (run (record_step (frame_of a.h)) (state_of a.matrix.now a.rights.now a.t)) e;
       told = ap (λ x. lay a.answers.now 0 (answers (record_step (frame_of a.h)) (record_answer (frame_of a.h)) (state_of a.matrix.now a.rights.now a.t) x)) e;
     }

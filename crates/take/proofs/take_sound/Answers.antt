@@ -29,7 +29,7 @@ At-After-corrections_of-corrections = Lts.After-corrections_of Tie.the-claims Re
 -- what was handed in: a heading and a state found sound, in arrays that are whole
 handed : (c : At-After-triangle-k) → let a = c.args in Handed a.h (state_of a.matrix.now a.rights.now a.t)
 handed c =
-    let g = c.well-formed in
+    let g = c.well_formed in
     record {
       number = c.requires;
       listed = simp length-map at g.0.1.1.1.1.1.1.0.1.0.1;

@@ -18,10 +18,10 @@ loop-station-preserved c =
       l.invariant.1,
       omega (arith, c.wide-n.ensures.1),
       λ few. omega (arith, l.invariant.3 few, few l.station (omega arith), c.wide-n.ensures.0),
-      omega (arith, l.invariant.4, c.wide-n.ensures.0, sum_more c.args.t1 l.station (omega arith)),
+      omega (arith, l.invariant.4, c.wide-n.ensures.0, sum_more c.args.counts l.station (omega arith)),
     )
 
 pub returns : goal.returns
 returns c =
     let l = c.loop-station in
-    (omega (arith, l.invariant.4, sum_end c.args.t1 l.station (omega arith)), λ few. omega (arith, l.invariant.3 few))
+    (omega (arith, l.invariant.4, sum_end c.args.counts l.station (omega arith)), λ few. omega (arith, l.invariant.3 few))

@@ -29,7 +29,7 @@ moment c =
     let a = c.args in
     let t = c.time-t in
     ap (time_of a.day a.ms) (sym (to_z-of_z w32 a.correction c.ranges.correction))
-    ∙ sym t.ensures ∙ sym (to_z-of_z w64 t.result (record { sfits = t.type-inv }))
+    ∙ sym t.ensures ∙ sym (to_z-of_z w64 t.result (record { sfits = t.type_inv }))
 
 pub time-t-requires : goal.time-t-requires
 time-t-requires c = clock_small _ _ (sym c.clock_ok.ensures ∙ c.if-clock_ok.true)
@@ -40,8 +40,8 @@ in_window-requires c = settings_window _ c.requires
 pub overflow_cast-result : goal.overflow_cast-result
 overflow_cast-result c =
     let t = c.time-t in
-    let z = to_z-of_z w64 t.result (record { sfits = t.type-inv }) in
-    let small : nat_abs t.result ≤ 2 ^ 63 = fits_within w64 t.result (record { sfits = t.type-inv }) in
+    let z = to_z-of_z w64 t.result (record { sfits = t.type_inv }) in
+    let small : nat_abs t.result ≤ 2 ^ 63 = fits_within w64 t.result (record { sfits = t.type_inv }) in
     (window_above _ _ _ (sym c.in_window.ensures ∙ c.if-in_window.true), rw z (record { fits = omega arith }))
 
 pub returns-then-in_window : goal.returns-then-in_window

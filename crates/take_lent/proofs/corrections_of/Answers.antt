@@ -15,13 +15,13 @@ use Rattle.take_lent.proofs.corrections_of.Goals as goal
 pub loop-i-init : goal.loop-i-init
 unfolding corrections_of
 loop-i-init c =
-    let long : length c.args.t1.listed ≡ 16 = simp length-map at c.well-formed.0.1.1.1.1.1.1.0.1.0.1 in
-    (omega arith, long, refl, copy_start (λ t. t.correction) c.args.t1.listed _ (sym long))
+    let long : length c.args.h.listed ≡ 16 = simp length-map at c.well_formed.0.1.1.1.1.1.1.0.1.0.1 in
+    (omega arith, long, refl, copy_start (λ t. t.correction) c.args.h.listed _ (sym long))
 
 pub loop-i-preserved : goal.loop-i-preserved
 loop-i-preserved c =
     let l = c.loop-i in
-    let h = c.args.t1 in
+    let h = c.args.h in
     let v = to_z-of_z w32 (get_or h.listed l.i no_station).correction (search rules) in (
       omega arith,
       l.invariant.1,
@@ -34,4 +34,4 @@ pub returns : goal.returns
 unfolding corrections_of
 returns c =
     let l = c.loop-i in
-    sym (copy_end (λ t. t.correction) c.args.t1.listed l.a l.i (omega (arith, l.invariant.1))) ∙ c.loop-i.invariant.3
+    sym (copy_end (λ t. t.correction) c.args.h.listed l.a l.i (omega (arith, l.invariant.1))) ∙ c.loop-i.invariant.3

@@ -13,18 +13,18 @@ use Rattle.take_lent.proofs.numbers_of.Goals as goal
 pub loop-i-init : goal.loop-i-init
 unfolding numbers_of
 loop-i-init c =
-    let long : length c.args.t1.listed ≡ 16 = simp length-map at c.well-formed.0.1.1.1.1.1.1.0.1.0.1 in
-    (omega arith, long, refl, copy_start station_key c.args.t1.listed _ (sym long))
+    let long : length c.args.h.listed ≡ 16 = simp length-map at c.well_formed.0.1.1.1.1.1.1.0.1.0.1 in
+    (omega arith, long, refl, copy_start station_key c.args.h.listed _ (sym long))
 
 pub loop-i-preserved : goal.loop-i-preserved
 unfolding station_key
 loop-i-preserved c =
     let l = c.loop-i in
-    let h = c.args.t1 in
+    let h = c.args.h in
     (omega arith, l.invariant.1, rw length-set l.invariant.2, sym (copy_turn station_key h.listed l.a l.i no_station (omega arith)) ∙ l.invariant.3)
 
 pub returns : goal.returns
 unfolding numbers_of
 returns c =
     let l = c.loop-i in
-    sym (copy_end station_key c.args.t1.listed l.a l.i (omega (arith, l.invariant.1))) ∙ c.loop-i.invariant.3
+    sym (copy_end station_key c.args.h.listed l.a l.i (omega (arith, l.invariant.1))) ∙ c.loop-i.invariant.3

@@ -22,10 +22,10 @@ loop-k-init c = (omega arith, refl)
 pub loop-k-preserved : goal.loop-k-preserved
 loop-k-preserved c =
     let l = c.loop-k in
-    let counts = c.args.t1 in
+    let counts = c.args.counts in
     (omega arith, c.with_count-word.ensures ∙ ap (λ w. pick (less 0 (get_or counts l.k 0)) (with_mark w l.k) w) l.invariant.1 ∙ next counts l.k)
 
 pub returns : goal.returns
 returns c =
     let l = c.loop-k in
-    l.invariant.1 ∙ ap (heard_word c.args.t1) (le_antisymm l.invariant.0 (omega arith))
+    l.invariant.1 ∙ ap (heard_word c.args.counts) (le_antisymm l.invariant.0 (omega arith))

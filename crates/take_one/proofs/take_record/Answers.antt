@@ -42,7 +42,7 @@ abbrev frame-of : At-Start → Frame
 frame-of c = let a = c.args in frame a.settings (length a.rights.now) a.numbers.now a.corrections.now
 
 abbrev state-of : At-Start → State
-state-of c = let a = c.args in state_of a.matrix.now a.rights.now a.t4
+state-of c = let a = c.args in state_of a.matrix.now a.rights.now a.t
 
 -- a record that fits
 fit_at : (c : At-In-Is) → fitted (frame-of c.before.before.before.before) c.args.bytes.now ≡ given c.in-Is.x
@@ -56,10 +56,10 @@ place_small c = omega (arith, (ready_at c).place, c.requires.0.seats)
 
 -- a record that is accepted
 judged_at_lem : (c : At-In-Accepted) → let a = c.args in let x = c.in-Is.x in
-    judged_late a.settings.level x (get_or (get_or a.t4.rows x.place no_row).times x.column 0) (get_or a.t4.counts x.place 0) ≡ given c.in-Accepted.y
+    judged_late a.settings.level x (get_or (get_or a.t.rows x.place no_row).times x.column 0) (get_or a.t.counts x.place 0) ≡ given c.in-Accepted.y
 judged_at_lem c =
     let a = c.args in let x = c.in-Is.x in
-    ap (λ l. judged_late a.settings.level x l (get_or a.t4.counts x.place 0)) (sym c.last_of.ensures)
+    ap (λ l. judged_late a.settings.level x l (get_or a.t.counts x.place 0)) (sym c.last_of.ensures)
     ∙ sym c.judge.ensures ∙ ap told_judgement c.in-Accepted.is
 
 side_fits : (c : At-In-Accepted) → SFits w64 c.in-Accepted.y.side
@@ -152,7 +152,7 @@ returns-in-Accepted c =
     let add = (c.add_record.ensures.matrix, (c.add_record.ensures.rights, c.add_record.ensures.marks)) in
     let sides = add.1.0 ∙ ap (λ z. plus a.rights.now (times z (partials_in (length a.rights.now) a.bytes.now))) (to_z-of_z w64 y.side (side_fits c.before.before.before.before.before.before.before.before.before.before.before.before.before.before)) in record {
       answer_value = answered_given _ tt n;
-      state = (λ i. state_of (add.0 i) (sides i) (record { square = a.t4.square + y.square; counts = set a.t4.counts x.place (get_or a.t4.counts x.place 0 + 1); rows = set a.t4.rows x.place (c.row_with.ensures i); marks = add.1.1 i }))
+      state = (λ i. state_of (add.0 i) (sides i) (record { square = a.t.square + y.square; counts = set a.t.counts x.place (get_or a.t.counts x.place 0 + 1); rows = set a.t.rows x.place (c.row_with.ensures i); marks = add.1.1 i }))
           ∙ sym (step_books f a.bytes.now s n ∙ booked f a.bytes.now s x fit y j);
     }
 
@@ -161,7 +161,7 @@ returns-in-Refused-judge c =
     let a = c.args in
     let f = frame-of c.before.before.before.before.before.before.before.before.before.before in let s = state-of c.before.before.before.before.before.before.before.before.before.before in
     let e = c.in-Refused-judge.late in
-    let n = late_refused f a.bytes.now s _ (fit_at c.before.before.before.before.before.before) e (ap (λ l. judged_late a.settings.level c.in-Is.x l (get_or a.t4.counts c.in-Is.x.place 0)) (sym c.last_of.ensures) ∙ sym c.judge.ensures ∙ ap told_judgement c.in-Refused-judge.is) in record {
+    let n = late_refused f a.bytes.now s _ (fit_at c.before.before.before.before.before.before) e (ap (λ l. judged_late a.settings.level c.in-Is.x l (get_or a.t.counts c.in-Is.x.place 0)) (sym c.last_of.ensures) ∙ sym c.judge.ensures ∙ ap told_judgement c.in-Refused-judge.is) in record {
       answer_value = answered_by _ tt e n;
       state = sym (step_leaves f a.bytes.now s (λ z. not_none e (sym n ∙ z)));
     }

@@ -18,7 +18,7 @@ abbrev At-In-Sound : Type 0
 At-In-Sound = Lts.Past-After-enum_told Tie.the-claims Reads.Pre Reads.Post
 
 -- the state is accepted, and the parameter is one of the heading's
-found : (c : At-In-Sound) → let s = c.args in parameter_number s.h (state_of s.matrix.now s.rights.now s.t2) s.i ≡ 0
+found : (c : At-In-Sound) → let s = c.args in parameter_number s.h (state_of s.matrix.now s.rights.now s.t) s.i ≡ 0
 found c = by_given _ (sym (ap told_verdict c.in-Sound.is) ∙ c.judge_parameter.ensures)
 
 few : (c : At-In-Sound) → c.args.i < 50

@@ -17,7 +17,7 @@ use Rattle.take_tally.proofs.is_blank.Goals as goal
 abbrev At-Start : Type 0
 At-Start = Lts.Start Reads.Pre Reads.Post goal.the-invariant-loop-k goal.the-decreases-loop-k
 
-long : (c : At-Start) → length c.args.t1.times ≡ 10
+long : (c : At-Start) → length c.args.w.times ≡ 10
 long c = search rules
 
 pub loop-k-init : goal.loop-k-init

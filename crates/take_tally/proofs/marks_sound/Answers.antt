@@ -34,11 +34,11 @@ same_test p m t i small heard e =
 
 -- the test of parameter i, as the definition has it
 tested : (c : At-After-mark_sound) → let a = c.args in
-    mark_sound a.p a.matrix.now a.t2 c.loop-i.i ≡ c.mark_sound.result
+    mark_sound a.p a.matrix.now a.t c.loop-i.i ≡ c.mark_sound.result
 tested c =
     let a = c.args in
     let h = c.heard-heard in
-    sym (c.mark_sound.ensures.0 ∙ same_test a.p a.matrix.now a.t2 c.loop-i.i c.mark_sound.ensures.1 h.result h.ensures)
+    sym (c.mark_sound.ensures.0 ∙ same_test a.p a.matrix.now a.t c.loop-i.i c.mark_sound.ensures.1 h.result h.ensures)
 
 pub loop-i-init : goal.loop-i-init
 loop-i-init c = (omega arith, none_yet _)
@@ -59,4 +59,4 @@ unfolding marks_sound
 returns c =
     let l = c.loop-i in
     let a = c.args in
-    sym (subst (λ n. below (mark_sound a.p a.matrix.now a.t2) n ≡ true) (le_antisymm l.invariant.0 (omega arith)) l.invariant.1)
+    sym (subst (λ n. below (mark_sound a.p a.matrix.now a.t) n ≡ true) (le_antisymm l.invariant.0 (omega arith)) l.invariant.1)

@@ -7,11 +7,11 @@ use lib.Ieee.{binary64, of_int, in_float, div}
 use mir.Facts.{to_z-of_z}
 use borrow.Author.Rules.{rules}
 use Rattle.unit_nearest.proofs.Values.{up_to, power_value}
-use Rattle.unit_nearest.proofs.Back.{in_float, quotient_is}
+use Rattle.unit_nearest.proofs.Back.{in_float_lem, quotient_is}
 use Rattle.unit_nearest.proofs.double_of.Goals as goal
 
 pub int_to_float-result : goal.int_to_float-result
-int_to_float-result c = subst (λ (z : ℤ). T (in_float binary64 z)) (sym (to_z-of_z c.ranges.q)) (in_float c.args.q c.requires.0)
+int_to_float-result c = subst (λ (z : ℤ). T (in_float binary64 z)) (sym (to_z-of_z c.ranges.q)) (in_float_lem c.args.q c.requires.0)
 
 pub int_to_float-result-2 : goal.int_to_float-result-2
 unfolding in_float

@@ -12,3 +12,11 @@ returns-then-x-top c = let x = c.args.x in between x (lt (inf true) x) c.if-x-to
 pub returns-else-x-top : goal.returns-else-x-top
 unfolding of_bits
 returns-else-x-top c = not_below c.args.x c.if-x-top.false
+
+pub float_from_bits-top : goal.float_from_bits-top
+unfolding nan_bits
+float_from_bits-top c = tt
+
+pub float_from_bits-bottom : goal.float_from_bits-bottom
+unfolding nan_bits
+float_from_bits-bottom c = tt

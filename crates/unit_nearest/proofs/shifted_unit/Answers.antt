@@ -16,5 +16,5 @@ pub returns : goal.returns
 returns c =
     let a = c.args in
     c.limited.ensures
-    ∙ handed a.low a.high c.signed_of.result c.ranges.low c.ranges.high (record { sfits = c.signed_of.type-inv })
+    ∙ handed a.low a.high c.signed_of.result c.ranges.low c.ranges.high (record { sfits = c.signed_of.type_inv })
     ∙ ap (λ (q : ℤ). within a.low a.high q) (c.signed_of.ensures ∙ ap (λ (n : ℕ). signed a.negative n) c.shifted.ensures.is)

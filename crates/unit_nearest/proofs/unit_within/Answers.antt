@@ -56,7 +56,7 @@ returns-then-is_finite c =
     c.fields_unit.ensures
     ∙ limits_handed a.low a.high (unit_of a.k c.fields_of-f.result) c.ranges.low c.ranges.high
     ∙ ap (λ (f : Fields). fields_unit a.k a.low a.high f) c.fields_of-f.ensures
-    ∙ by_bits a.k a.low a.high a.x (subst T (sym c.well-formed.0.1) tt) (told a.x c.is_finite.result true c.is_finite.ensures c.if-is_finite.true)
+    ∙ by_bits a.k a.low a.high a.x (subst T (sym c.well_formed.0.1) tt) (told a.x c.is_finite.result true c.is_finite.ensures c.if-is_finite.true)
 
 pub returns : goal.returns
 returns c =

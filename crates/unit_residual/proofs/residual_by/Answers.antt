@@ -68,7 +68,7 @@ returns-in-Whole-c-2 c =
     let o = inside r c.args.observed _ (sym c.unit_in-o.ensures ∙ ap told_nearest c.in-Whole.is) in
     let d = inside r c.args.computed _ (sym c.unit_in-c.ensures ∙ ap told_nearest c.in-Whole-c-2.is) in
     yes _ _ _ (sym (holds _ _ o.number (sym d.number))) (yes _ _ _ (sym (holds _ _ o.fits (sym d.fits)))
-    (ap given (to_z-of_z (record { sfits = c.apart.type-inv }) ∙ c.apart.ensures
+    (ap given (to_z-of_z (record { sfits = c.apart.type_inv }) ∙ c.apart.ensures
     ∙ ap₂ (λ x y. apart_by r x y)
     (to_z-of_z (record { sfits = c.in-Whole.known_told-1-own.given.0.1 }) ∙ sym o.is)
     (to_z-of_z (record { sfits = c.in-Whole-c-2.known_told-in-Whole-1-own.given.0.1 }) ∙ sym d.is))))
