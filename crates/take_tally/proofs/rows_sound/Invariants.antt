@@ -13,7 +13,7 @@ use Rattle.take_tally.proofs.Rows.{rows_pass, rows_fail}
 use Rattle.take_tally.proofs.rows_sound.Given as goal
 
 abbrev pub invariant-loop-i : goal.invariant-loop-i
-invariant-loop-i l = (l.stations ≤ l.i) × ((k : ℕ) → k < l.i → l.stations ≤ k → all (λ l.t. same l.t 0) (get_or l.t.rows k no_row).times ≡ true)
+invariant-loop-i l = (l.stations ≤ l.i) × ((k : ℕ) → k < l.i → l.stations ≤ k → all (λ t. same t 0) (get_or l.t.rows k no_row).times ≡ true)
 
 abbrev pub decreases-loop-i : goal.decreases-loop-i
 decreases-loop-i l = 16 - l.i

@@ -50,7 +50,7 @@ returns-then-row c =
     let p = on_row a.row a.o c.ranges.o c.requires.0 c.on_circle.ensures in
     let q = on_row a.row a.c c.ranges.c c.requires.1 c.on_circle-then-row.ensures in
     yes _ _ _ c.if-row.true
-    (to_z-of_z (record { sfits = c.bring.type_inv }) ∙ c.bring.ensures
+    (to_z-of_z {w = w64} (record { sfits = c.bring.type_inv }) ∙ c.bring.ensures
     ∙ ap brought (minus_is c.on_circle.result c.on_circle-then-row.result (wide p) (wide q)
     ∙ ap₂ (λ x y. x -ℤ y) (by_row a.row c.ranges.o c.on_circle.ensures) (by_row a.row c.ranges.c c.on_circle-then-row.ensures)))
 
