@@ -11,7 +11,7 @@ use Rattle.arc_heading.proofs.labels_ascend.Goals as goal
 
 pub loop-i-init : goal.loop-i-init
 unfolding labels_of rest
-loop-i-init c = (search rules, simp length-map at c.well_formed.0.1.1.1.1.1.0.1.0.1, refl)
+loop-i-init c = (search rules, c.well_formed.0.1.1.1.1.1.0.1.0.1, refl)
 
 pub returns-then-key-floor : goal.returns-then-key-floor
 returns-then-key-floor c = sym (c.loop-i.invariant.2 ∙ ascend_fail _ _ _ _ _ no_label (omega arith) (omega arith) (omega arith))

@@ -11,7 +11,7 @@ use Rattle.arc_heading.proofs.stations_ascend.Goals as goal
 
 pub loop-i-init : goal.loop-i-init
 unfolding stations_of rest
-loop-i-init c = (search rules, simp length-map at c.well_formed.0.1.1.1.1.1.1.0.1.0.1, refl)
+loop-i-init c = (search rules, c.well_formed.0.1.1.1.1.1.1.0.1.0.1, refl)
 
 pub returns-then-number-floor : goal.returns-then-number-floor
 returns-then-number-floor c = sym (c.loop-i.invariant.2 ∙ ascend_fail _ _ _ _ _ no_station (omega arith) (omega arith) (omega arith))

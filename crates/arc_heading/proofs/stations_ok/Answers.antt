@@ -11,7 +11,7 @@ use Rattle.arc_heading.proofs.stations_ok.Goals as goal
 
 pub loop-i-init : goal.loop-i-init
 unfolding stations_of rest
-loop-i-init c = (search rules, simp length-map at c.well_formed.0.1.1.1.1.1.1.0.1.0.1, refl)
+loop-i-init c = (search rules, c.well_formed.0.1.1.1.1.1.1.0.1.0.1, refl)
 
 pub loop-i-preserved : goal.loop-i-preserved
 loop-i-preserved c =

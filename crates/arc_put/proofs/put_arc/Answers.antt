@@ -7,8 +7,8 @@ use Rattle.arc_put.proofs.put_arc.Goals as goal
 
 pub returns : goal.returns
 returns c =
-    let long = simp length-map at c.well_formed.0.1.1.1.1.1.0.1.0.1 in
-    let listed = simp length-map at c.well_formed.0.1.1.1.1.1.1.0.1.0.1 in
+    let long = c.well_formed.0.1.1.1.1.1.0.1.0.1 in
+    let listed = c.well_formed.0.1.1.1.1.1.1.0.1.0.1 in
     rw (
       c.put_run.ensures,
       c.write_u32-4.ensures,

@@ -17,7 +17,7 @@ use Rattle.arc_put.proofs.put_stations.Goals as goal
 
 pub loop-i-init : goal.loop-i-init
 unfolding stations_of rest
-loop-i-init c = (search rules, simp length-map at c.well_formed.0.1.1.1.1.1.1.0.1.0.1, refl, omega arith, refl)
+loop-i-init c = (search rules, c.well_formed.0.1.1.1.1.1.1.0.1.0.1, refl, omega arith, refl)
 
 pub loop-i-preserved : goal.loop-i-preserved
 loop-i-preserved c =

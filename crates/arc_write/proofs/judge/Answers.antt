@@ -15,14 +15,14 @@ judge_room-requires c =
 
 pub returns-in-Refused : goal.returns-in-Refused
 returns-in-Refused c =
-    let labels = simp length-map at c.well_formed.0.1.1.1.1.1.0.1.0.1 in
-    let listed = simp length-map at c.well_formed.0.1.1.1.1.1.1.0.1.0.1 in
+    let labels = c.well_formed.0.1.1.1.1.1.0.1.0.1 in
+    let listed = c.well_formed.0.1.1.1.1.1.1.0.1.0.1 in
     on_refused _ _ _ labels listed (sym c.is_allowed.ensures ∙ c.if-is_allowed.true) (sym c.judge.ensures ∙ ap told_verdict c.in-Refused.is)
 
 pub returns-in-Sound : goal.returns-in-Sound
 returns-in-Sound c =
-    let labels = simp length-map at c.well_formed.0.1.1.1.1.1.0.1.0.1 in
-    let listed = simp length-map at c.well_formed.0.1.1.1.1.1.1.0.1.0.1 in
+    let labels = c.well_formed.0.1.1.1.1.1.0.1.0.1 in
+    let listed = c.well_formed.0.1.1.1.1.1.1.0.1.0.1 in
     c.judge_room.ensures ∙ on_sound_lem _ _ _ labels listed (sym c.is_allowed.ensures ∙ c.if-is_allowed.true) (sym c.judge.ensures ∙ ap told_verdict c.in-Sound.is)
 
 pub returns-else-is_allowed : goal.returns-else-is_allowed

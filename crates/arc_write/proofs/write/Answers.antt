@@ -8,8 +8,8 @@ use Rattle.arc_write.proofs.write.Goals as goal
 
 pub put_arc-requires : goal.put_arc-requires
 put_arc-requires c =
-    let labels = simp length-map at c.well_formed.0.1.1.1.1.1.0.1.0.1 in
-    let listed = simp length-map at c.well_formed.0.1.1.1.1.1.1.0.1.0.1 in
+    let labels = c.well_formed.0.1.1.1.1.1.0.1.0.1 in
+    let listed = c.well_formed.0.1.1.1.1.1.1.0.1.0.1 in
     writable _ _ _ labels listed (sym c.judge.ensures ∙ ap told_write c.in-Is.is)
 
 pub returns-in-Refused : goal.returns-in-Refused

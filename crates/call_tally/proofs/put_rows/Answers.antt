@@ -15,7 +15,7 @@ use Rattle.call_tally.proofs.put_rows.Goals as goal
 
 pub loop-i-init : goal.loop-i-init
 loop-i-init c =
-    let long : length c.args.t.rows ≡ 16 = simp length-map at c.well_formed.0.1.1.1.1.0.1.0.1 in
+    let long : length c.args.t.rows ≡ 16 = c.well_formed.0.1.1.1.1.0.1.0.1 in
     let bytes : length (encoded row_bytes c.args.t.rows) ≡ length (encoded row_bytes (rest c.args.t.rows 16 0)) =
     ap (λ l. length (encoded row_bytes l)) (rest_whole _ 16 long) in
     (search rules, long, refl, omega arith, ap (λ l. lay c.args.out.now 72 (encoded row_bytes l)) (rest_whole _ 16 long), omega (arith, bytes))

@@ -16,7 +16,7 @@ use Rattle.list_lines.proofs.put_parameters.Goals as goal
 
 pub loop-i-init : goal.loop-i-init
 unfolding labels_of rest
-loop-i-init c = (search rules, simp length-map at c.well_formed.1.1.0.1.1.1.1.1.0.1.0.1, refl, refl)
+loop-i-init c = (search rules, c.well_formed.1.1.0.1.1.1.1.1.0.1.0.1, refl, refl)
 
 pub offset_bounds-matrix-k : goal.offset_bounds-matrix-k
 offset_bounds-matrix-k c = record { fits = omega (arith, c.place-k.ensures, place_small c.loop-i.i (omega arith)) }

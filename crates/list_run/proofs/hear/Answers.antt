@@ -26,7 +26,7 @@ note-requires c =
     c.told_room-told.result (room_long c.before.before.before.before.before.before.before.before) _ c.part-x.ensures.answer_value _ c.part-x.kept.1.1.1.1.1.0
 
 pub returns : goal.returns
-returns c =
+returns c s h =
     let a = c.args in let n = c.note in
     subst₂ (λ j t. AfterBy j (s ++ a.bytes.now) n.result.course c.part-x.new.answers c.part-x.new.answers.1.0 t) (sym n.ensures.answer) (sym n.ensures.table)
     (leads s a.c a.matrix.now a.rights.now a.table.now h a.bytes.now c.requires.1

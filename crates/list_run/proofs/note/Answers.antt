@@ -39,7 +39,7 @@ pub slice_bounds-count-end : goal.slice_bounds-count-end
 slice_bounds-count-end c = simp length-take (omega (arith, (fits_at c.before).0))
 
 pub count-requires : goal.count-requires
-count-requires c = simp length-take (omega (arith, (fits_at c.before).0, (fits_at c.before).1 k))
+count-requires c k = simp length-take (omega (arith, (fits_at c.before).0, (fits_at c.before).1 k))
 
 pub returns-in-Took : goal.returns-in-Took
 returns-in-Took c =

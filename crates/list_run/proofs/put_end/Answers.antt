@@ -16,12 +16,12 @@ put_text-requires c =
     ((c.requires.0.0, subst (λ r. AfterBy (told_answer r) c.requires.0.0 a.c a.matrix.now a.rights.now a.table.now) c.in-Read.is c.requires.0.1), c.requires.1, c.requires.2)
 
 pub returns-in-Read : goal.returns-in-Read
-returns-in-Read c =
+returns-in-Read c s h =
     let a = c.args in
     c.put_text.ensures s (subst (λ r. AfterBy (told_answer r) s a.c a.matrix.now a.rights.now a.table.now) c.in-Read.is h)
 
 pub returns-in-Refused : goal.returns-in-Refused
-returns-in-Refused c =
+returns-in-Refused c s h =
     let a = c.args in
     c.put_refused.ensures
     ∙ ap (laid a.room.now 0)

@@ -20,7 +20,7 @@ put_arc-requires c =
     (few, omega (arith, sums_fit_lem _ few, c.requires.1), omega (arith, c.requires.2))
 
 pub returns-in-Took : goal.returns-in-Took
-returns-in-Took c =
+returns-in-Took c s h =
     let a = c.args in
     let e = end_good s a.c a.matrix.now a.rights.now a.table.now h _ (sym (ap told_part c.in-Took.is) ∙ c.finish-f.ensures.answer_value) in
     c.put_arc.ensures
@@ -29,7 +29,7 @@ returns-in-Took c =
     ∙ text_good s a.c a.matrix.now a.rights.now a.table.now h e.0 e.1)
 
 pub returns-in-Broken : goal.returns-in-Broken
-returns-in-Broken c =
+returns-in-Broken c s h =
     let a = c.args in
     c.put_refused.ensures
     ∙ ap (laid a.room.now 0)
@@ -37,6 +37,6 @@ returns-in-Broken c =
     ∙ end_bad s a.c a.matrix.now a.rights.now a.table.now h _ _ _ (sym (ap told_part c.in-Broken.is) ∙ c.finish-f.ensures.answer_value))
 
 pub returns-in-Stopped : goal.returns-in-Stopped
-returns-in-Stopped c =
+returns-in-Stopped c s h =
     let a = c.args in
     absurd (end_never s a.c a.matrix.now a.rights.now a.table.now h _ (sym (ap told_part c.in-Stopped.is) ∙ c.finish-f.ensures.answer_value))

@@ -38,7 +38,7 @@ room c = (held_sound _ (held c.before.before.before) (sound c)).room
 
 long : (c : At-In-Sound) → length (state_bytes c.args.h (held c.before.before.before)) ≡ file_long 1 c.args.h.parameters
 long c =
-    let labels = simp length-map at c.well_formed.0.1.1.1.1.1.0.1.0.1 in
+    let labels = c.well_formed.0.1.1.1.1.1.0.1.0.1 in
     state_long c.args.h (held c.before.before.before) (omega (arith, (room c).sound.few)) (room c).matrix (room c).rights
 
 pub needed-n-requires : goal.needed-n-requires

@@ -10,7 +10,7 @@ use Rattle.norm_state.proofs.put_file.Goals as goal
 pub returns : goal.returns
 returns c =
     let a = c.args in
-    let long = simp length-map at c.well_formed.0.1.1.1.1.1.0.1.0.1 in
+    let long = c.well_formed.0.1.1.1.1.1.0.1.0.1 in
     rw (
       c.put_tail.ensures,
       c.put_labels.ensures,

@@ -21,7 +21,7 @@ use Rattle.norm_state.proofs.put_labels.Goals as goal
 
 pub loop-i-init : goal.loop-i-init
 unfolding labels_of rest
-loop-i-init c = (omega arith, simp length-map at c.well_formed.0.1.1.1.1.1.0.1.0.1, refl, omega arith, refl)
+loop-i-init c = (omega arith, c.well_formed.0.1.1.1.1.1.0.1.0.1, refl, omega arith, refl)
 
 pub loop-i-preserved : goal.loop-i-preserved
 loop-i-preserved c =

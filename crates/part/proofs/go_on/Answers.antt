@@ -33,13 +33,13 @@ abbrev At-In-Read : Type 0
 At-In-Read = Lts.Past-After-enum_told Tie.the-claims Reads.Pre Reads.Post Tie.handed_clauses
 
 counts : (c : At-Start) → length c.args.t.counts ≡ 16
-counts c = simp length-map at c.well_formed.1.1.1.1.0.1.1.1.0.1.0.1
+counts c = c.well_formed.1.1.1.1.0.1.1.1.0.1.0.1
 
 rows : (c : At-Start) → length c.args.t.rows ≡ 16
-rows c = simp length-map at c.well_formed.1.1.1.1.0.1.1.1.1.0.1.0.1
+rows c = c.well_formed.1.1.1.1.0.1.1.1.1.0.1.0.1
 
 marks : (c : At-Start) → length c.args.t.marks ≡ 50
-marks c = simp length-map at c.well_formed.1.1.1.1.0.1.1.1.1.1.0.1.0.1
+marks c = c.well_formed.1.1.1.1.0.1.1.1.1.1.0.1.0.1
 
 opens : (c : At-In-Read) → let a = c.args in
     opened ((position_of a.p).kept ++ a.bytes.now) ≡ good (record { heading = a.new.heading; count = a.new.count; start = a.new.start })

@@ -23,7 +23,7 @@ abbrev At-In-Read : Type 0
 At-In-Read = Lts.Past-After-enum_told Tie.the-claims Reads.Pre Reads.Post Tie.handed_clauses
 
 room : (c : At-Start) → length c.args.p.kept ≡ 1088
-room c = simp length-map at c.well_formed.0.1.1.0.1.0.1
+room c = c.well_formed.0.1.1.0.1.0.1
 
 -- what was opened
 opens : (c : At-In-Read) → let a = c.args in

@@ -19,7 +19,7 @@ abbrev At-After-least-held : Type 0
 At-After-least-held = Lts.After-least Tie.the-claims Reads.Pre Reads.Post
 
 long : (c : At-After-least-held) → length c.args.p.kept ≡ 1088
-long c = simp length-map at c.well_formed.0.1.1.0.1.0.1
+long c = c.well_formed.0.1.1.0.1.0.1
 
 pub overflow_sub-held : goal.overflow_sub-held
 overflow_sub-held c = omega (arith, c.least-held.ensures)

@@ -16,7 +16,7 @@ abbrev At-After-least-len : Type 0
 At-After-least-len = Lts.After-least Tie.the-claims Reads.Pre Reads.Post
 
 long : (c : At-After-least-len) → length c.args.p.kept ≡ 1088
-long c = simp length-map at c.well_formed.0.1.1.0.1.0.1
+long c = c.well_formed.0.1.1.0.1.0.1
 
 pub slice_bounds-kept-end : goal.slice_bounds-kept-end
 slice_bounds-kept-end c = omega (arith, c.least-len.ensures, long c)

@@ -19,7 +19,7 @@ abbrev At-Start : Type 0
 At-Start = Lts.Start Tie.the-claims Reads.Pre Reads.Post Tie.handed_clauses
 
 long : (c : At-Start) → length c.args.t.counts ≡ 16
-long c = simp length-map at c.well_formed.1.0.1.1.1.0.1.0.1
+long c = c.well_formed.1.0.1.1.1.0.1.0.1
 
 pub returns-in-Sound-first_broken_side : goal.returns-in-Sound-first_broken_side
 returns-in-Sound-first_broken_side c =

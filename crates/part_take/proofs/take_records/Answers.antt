@@ -22,9 +22,9 @@ held : (c : At-Start) → Held c.args.h (state_of c.args.matrix.now c.args.right
 held c =
     record {
       number = c.requires.t_value;
-      counts = simp length-map at c.well_formed.1.0.1.1.1.0.1.0.1;
-      rows = simp length-map at c.well_formed.1.0.1.1.1.1.0.1.0.1;
-      marks = simp length-map at c.well_formed.1.0.1.1.1.1.1.0.1.0.1;
+      counts = c.well_formed.1.0.1.1.1.0.1.0.1;
+      rows = c.well_formed.1.0.1.1.1.1.0.1.0.1;
+      marks = c.well_formed.1.0.1.1.1.1.1.0.1.0.1;
     }
 
 single : (c : At-Start) → 1 ≤ length (take 1 c.args.answers.now)

@@ -32,10 +32,10 @@ handed c =
     let g = c.well_formed in
     record {
       number = c.requires;
-      listed = simp length-map at g.0.1.1.1.1.1.1.0.1.0.1;
-      counts = simp length-map at g.1.0.1.1.1.0.1.0.1;
-      rows = simp length-map at g.1.0.1.1.1.1.0.1.0.1;
-      marks = simp length-map at g.1.0.1.1.1.1.1.0.1.0.1;
+      listed = g.0.1.1.1.1.1.1.0.1.0.1;
+      counts = g.1.0.1.1.1.0.1.0.1;
+      rows = g.1.0.1.1.1.1.0.1.0.1;
+      marks = g.1.0.1.1.1.1.1.0.1.0.1;
     }
 
 numbers_long : (c : At-After-numbers_of-numbers) → length c.numbers_of-numbers.result ≡ 16

@@ -11,7 +11,7 @@ use mir.Facts.{sfits_widen}
 use Rattle.num_whole.proofs.Ints.{*-within, within_fits, fits_within}
 use Rattle.take_add.proofs.scale.Goals as goal
 
-module _ (c : tie.Start) where
+module _ (c : goal.Start) where
   wide : SFits w64 c.args.x
   wide = sfits_widen {w = w16} tt c.ranges.x
 

@@ -19,7 +19,7 @@ unfolding is_type
 overflow_sub-result c = (between_true _ _ _ c.requires.1).0
 
 pub returns-in-Is-residual_of : goal.returns-in-Is-residual_of
-returns-in-Is-residual_of c =
+returns-in-Is-residual_of c f b s l g k e =
     let a = c.args in
     let type : is_type (record_in b).kind ≡ true = sym (type_is f b a.r e) ∙ c.requires.1 in
     let sigma : sigma_ok (record_in b).sigma ≡ true = sym (sigma_is f b a.r e) ∙ sym c.sigma_ok.ensures ∙ c.if-sigma_ok.true in
@@ -28,7 +28,7 @@ returns-in-Is-residual_of c =
     ap given (fit_is f b a.r e a.place l a.row k _ time _ left) ∙ it_fits f b a.place l type sigma _ time _ left
 
 pub returns-in-Refused-residual_of : goal.returns-in-Refused-residual_of
-returns-in-Refused-residual_of c =
+returns-in-Refused-residual_of c f b s l g k e =
     let a = c.args in
     let type : is_type (record_in b).kind ≡ true = sym (type_is f b a.r e) ∙ c.requires.1 in
     let sigma : sigma_ok (record_in b).sigma ≡ true = sym (sigma_is f b a.r e) ∙ sym c.sigma_ok.ensures ∙ c.if-sigma_ok.true in
@@ -37,7 +37,7 @@ returns-in-Refused-residual_of c =
     no_residual f b a.place l type sigma _ time c.in-Refused-residual_of.e left
 
 pub returns-in-Refused : goal.returns-in-Refused
-returns-in-Refused c =
+returns-in-Refused c f b s l g k e =
     let a = c.args in
     let type : is_type (record_in b).kind ≡ true = sym (type_is f b a.r e) ∙ c.requires.1 in
     let sigma : sigma_ok (record_in b).sigma ≡ true = sym (sigma_is f b a.r e) ∙ sym c.sigma_ok.ensures ∙ c.if-sigma_ok.true in
@@ -45,7 +45,7 @@ returns-in-Refused c =
     no_time f b a.place l type sigma c.in-Refused.e time
 
 pub returns : goal.returns
-returns c =
+returns c f b s l g k e =
     let a = c.args in
     let type : is_type (record_in b).kind ≡ true = sym (type_is f b a.r e) ∙ c.requires.1 in
     no_sigma f b a.place l type (sym (sigma_is f b a.r e) ∙ sym c.sigma_ok.ensures ∙ c.if-sigma_ok.false)

@@ -22,21 +22,21 @@ pub fit_listed-requires : goal.fit_listed-requires
 fit_listed-requires c = (c.requires.settings_value, (row_found _ _ (sym (ap told_row c.in-Is.is) ∙ c.row_of.ensures)).0)
 
 pub returns-in-Is : goal.returns-in-Is
-returns-in-Is c =
+returns-in-Is c p b e =
     let a = c.args in
     let f = frame a.settings p a.numbers.now a.corrections.now in
     let k = row_found _ _ (sym (ap told_row c.in-Is.is) ∙ c.row_of.ensures) in
     c.fit_listed.ensures f b refl (sym (station_is f b a.r e) ∙ sym c.find.ensures ∙ ap told_seat c.in-At.is) (sym (to_z-of_z w32 _ (search rules))) k.1 e
 
 pub returns-in-Refused : goal.returns-in-Refused
-returns-in-Refused c =
+returns-in-Refused c p b e =
     let a = c.args in
     let f = frame a.settings p a.numbers.now a.corrections.now in
     let k = row_none _ c.in-Refused.e (sym (ap told_row c.in-Refused.is) ∙ c.row_of.ensures) in
     ap refused k.1 ∙ no_type f b _ (sym (station_is f b a.r e) ∙ sym c.find.ensures ∙ ap told_seat c.in-At.is) (sym (type_is f b a.r e) ∙ k.0)
 
 pub returns-in-Nowhere : goal.returns-in-Nowhere
-returns-in-Nowhere c =
+returns-in-Nowhere c p b e =
     let a = c.args in
     let f = frame a.settings p a.numbers.now a.corrections.now in
     no_station_lem f b (sym (station_is f b a.r e) ∙ sym c.find.ensures ∙ ap told_seat c.in-Nowhere.is)

@@ -15,7 +15,7 @@ use Rattle.take_lent.proofs.corrections_of.Goals as goal
 pub loop-i-init : goal.loop-i-init
 unfolding corrections_of
 loop-i-init c =
-    let long : length c.args.h.listed ≡ 16 = simp length-map at c.well_formed.0.1.1.1.1.1.1.0.1.0.1 in
+    let long : length c.args.h.listed ≡ 16 = c.well_formed.0.1.1.1.1.1.1.0.1.0.1 in
     (omega arith, long, refl, copy_start (λ t. t.correction) c.args.h.listed _ (sym long))
 
 pub loop-i-preserved : goal.loop-i-preserved

@@ -13,7 +13,7 @@ use Rattle.take_lent.proofs.numbers_of.Goals as goal
 pub loop-i-init : goal.loop-i-init
 unfolding numbers_of
 loop-i-init c =
-    let long : length c.args.h.listed ≡ 16 = simp length-map at c.well_formed.0.1.1.1.1.1.1.0.1.0.1 in
+    let long : length c.args.h.listed ≡ 16 = c.well_formed.0.1.1.1.1.1.1.0.1.0.1 in
     (omega arith, long, refl, copy_start station_key c.args.h.listed _ (sym long))
 
 pub loop-i-preserved : goal.loop-i-preserved

@@ -27,7 +27,7 @@ inside first days (pos n) p q =
 inside first days (negsuc n) p q = absurd (apart (sym p))
 
 pub returns-then-from-t : goal.returns-then-from-t
-returns-then-from-t c =
+returns-then-from-t c e =
     let a = c.args in
     let f = c.ranges.t in
     let begins : le_z (pos (a.first * 86400000 + 27000)) a.t ≡ true = rw (to_z_pos w64 (a.first * 86400000 + 27000) (omega arith), to_z-of_z w64 a.t f) at c.if-from-t.true in
@@ -35,4 +35,4 @@ returns-then-from-t c =
     inside a.first a.days a.t begins ends
 
 pub returns-else-from-t : goal.returns-else-from-t
-returns-else-from-t c = absurd (apart (sym e))
+returns-else-from-t c e = absurd (apart (sym e))

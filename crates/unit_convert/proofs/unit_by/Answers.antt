@@ -11,10 +11,9 @@ use Rattle.unit_convert.proofs.unit_by.Goals as goal
 pub returns-in-Whole : goal.returns-in-Whole
 unfolding turned
 returns-in-Whole c =
-    let q = c.in-Whole.q.given in
     ap given (to_z-of_z (record { sfits = c.on_circle.type_inv }) ∙ c.on_circle.ensures
     ∙ ap (λ z. on_circle c.args.row z) (to_z-of_z (record { sfits = c.in-Whole.known_told-1-own.given.0.1 })))
-    ∙ ap (λ a. turned c.args.row a) (sym (ap told_nearest q.1) ∙ c.unit_in.ensures)
+    ∙ ap (λ a. turned c.args.row a) (sym (ap told_nearest c.in-Whole.is) ∙ c.unit_in.ensures)
 
 pub returns-in-NotFinite : goal.returns-in-NotFinite
 unfolding turned
