@@ -8,12 +8,12 @@ use borrow.Author.Rules.{rules}
 use Rattle.call_part.proofs.part.Goals as goal
 
 pub give_parted-requires : goal.give_parted-requires
-give_parted-requires c = state_long _ _ _ (sym c.has_rooms.ensures ∙ c.if1.taken)
+give_parted-requires c = state_long _ _ _ (sym c.has_rooms.ensures ∙ c.if-has_rooms.true)
 
 pub returns-then-has_rooms : goal.returns-then-has_rooms
 returns-then-has_rooms c =
     let a = c.args in
-    let lent = sym c.has_rooms.ensures ∙ c.if1.taken in
+    let lent = sym c.has_rooms.ensures ∙ c.if-has_rooms.true in
     let p = c.position_in-p.ensures in
     let t = c.tally_in-t.ensures in
     let put = (c.give_parted.ensures.value, (c.give_parted.ensures.position, (c.give_parted.ensures.tally, c.give_parted.ensures.left))) in let got = part_done _ _ _ _ lent _ _ _ _ _

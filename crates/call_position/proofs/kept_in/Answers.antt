@@ -8,10 +8,10 @@ use borrow.Author.Rules.{rules}
 use Rattle.call_position.proofs.kept_in.Goals as goal
 
 pub slice_bounds-put_run-end : goal.slice_bounds-put_run-end
-slice_bounds-put_run-end c = sym (length-take-le _ _ (omega (arith, c.least.ensures)))
+slice_bounds-put_run-end c = sym (length-take-le _ _ (omega (arith, c.least-n.ensures)))
 
 pub put_run-requires : goal.put_run-requires
-put_run-requires c = omega (arith, slice-aggregate-put-run c.before.before, c.least.ensures)
+put_run-requires c = omega (arith, slice-aggregate-put-run c.before.before, c.least-n.ensures)
 
 pub returns : goal.returns
-returns c = kept_laid _ _ _ c.least.ensures c.put_run.ensures
+returns c = kept_laid _ _ _ c.least-n.ensures c.put_run.ensures

@@ -16,7 +16,7 @@ pub slice_bounds-put_text-end : goal.slice_bounds-put_text-end
 slice_bounds-put_text-end c = count_inside _ _ c.requires c.put_listing-n.ensures
 
 pub slice_bounds-put_text-end-2 : goal.slice_bounds-put_text-end-2
-slice_bounds-put_text-end-2 c = simp length-take (omega (arith, count_inside _ _ c.requires c.put-listing.ensures))
+slice_bounds-put_text-end-2 c = simp length-take (omega (arith, count_inside _ _ c.requires c.put_listing-n.ensures))
 
 pub returns : goal.returns
 returns c =

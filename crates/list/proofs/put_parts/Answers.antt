@@ -90,7 +90,7 @@ returns-in-Refused c =
     ∙ refused_so (take e a.file.now) (drop e a.file.now) _ _ (told_at c.before.before.before.before.before.before.before.before.before.before.before.before _ c.in-Refused.is) ∙ ap listing (take-append-drop e a.file.now))
 
 pub put_text-requires : goal.put_text-requires
-put_text-requires c = let l = c.loop in ((_, l.invariant.5), l.invariant.2, l.invariant.3)
+put_text-requires c = let l = c.loop-at in ((_, l.invariant.5), l.invariant.2, l.invariant.3)
 
 pub shape_of-room : goal.shape_of-room
 shape_of-room c = c.put_text.auto.1.1.1.1.0 ∙ ap length c.loop-at.invariant.1
@@ -108,4 +108,4 @@ pub returns : goal.returns
 returns c =
     let l = c.loop-at in let a = c.args in
     c.put_text.ensures _ l.invariant.5
-    ∙ ap (λ r. laid r 0 (listing (take l.at a.file.now))) l.invariant.1 ∙ ap (λ s. laid a.room.now 0 (listing s)) (take_all l.at a.file.now (omega (arith, c.loop-test.false)))
+    ∙ ap (λ r. laid r 0 (listing (take l.at a.file.now))) l.invariant.1 ∙ ap (λ s. laid a.room.now 0 (listing s)) (take_all l.at a.file.now (omega (arith, c.loop-at-test.false)))

@@ -29,10 +29,10 @@ abbrev lent-of-counted : At-After-slice_known-in-Took-1 → goal.After-count-arg
 lent-of-counted c = c.before.before.before
 
 -- so many records were taken
-took_at : (c : goal.After-count-arg2) → told_part (start-of-lent c).args.answer ≡ took c.before.before.before.answer.given.0.0
+took_at : (c : goal.After-count-arg2) → told_part (start-of-lent c).args.answer ≡ took c.answer.given.0.0
 took_at c = ap told_part c.before.before.before.answer.given.1
 
-fits_at : (c : goal.After-count-arg2) → let a = (start-of-lent c).args in Countable (took c.before.before.before.answer.given.0.0) a.table.now a.told.now
+fits_at : (c : goal.After-count-arg2) → let a = (start-of-lent c).args in Countable (took c.answer.given.0.0) a.table.now a.told.now
 fits_at c = let a = (start-of-lent c).args in subst (λ t. Countable t a.table.now a.told.now) (took_at c) (start-of-lent c).requires
 
 pub slice_bounds-count-end : goal.slice_bounds-count-end

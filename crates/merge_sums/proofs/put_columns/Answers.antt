@@ -59,17 +59,17 @@ slice_bounds-put_column-end c =
 
 pub slice_bounds-put_column-end-in-loop-j : goal.slice_bounds-put_column-end-in-loop-j
 slice_bounds-put_column-end-in-loop-j c =
-    let j = c.join-column in
-    let l = c.loop in
+    let j = c.join_column-d in
+    let l = c.loop-j in
     let long = ap length j.ensures.0 ∙ length_rows _ _ _ in
-    sym (ap length (front_take j.new.0 l.room (l.j + 1) long) ∙ long)
+    sym (ap length (front_take j.new.col l.room (l.j + 1) long) ∙ long)
 
 pub put_column-requires : goal.put_column-requires
 put_column-requires c =
-    let j = c.join-column in
-    let l = c.loop in
+    let j = c.join_column-d in
+    let l = c.loop-j in
     let long = ap length j.ensures.0 ∙ length_rows _ _ _ in
-    omega (arith, (fits c.before.before.before.before.before.before).1, ap length (front_take j.new.0 l.room (l.j + 1) long) ∙ long)
+    omega (arith, (fits c.before.before.before.before.before.before).1, ap length (front_take j.new.col l.room (l.j + 1) long) ∙ long)
 
 pub overflow_mul-k : goal.overflow_mul-k
 overflow_mul-k c = omega (arith, (fits c.before.before.before.before.before.before.before.before.before).1)
@@ -79,22 +79,21 @@ overflow_add-k c = omega (arith, (fits c.before.before.before.before.before.befo
 
 pub loop-j-preserved : goal.loop-j-preserved
 loop-j-preserved c =
-    let s = c.before in
-    let l = c.loop in
-    let j = c.join-column in
+    let l = c.loop-j in
+    let j = c.join_column-d in
     let w = c.put_column in
-    let more : l.j < s.args.count = c.loop-test.true in
-    let f = both_places s.args.a.now s.args.start s.args.ta.now s.args.b.now s.args.begin s.args.tb.now in
+    let more : l.j < c.args.count = c.loop-j-test.true in
+    let f = both_places c.args.a.now c.args.start c.args.ta.now c.args.b.now c.args.begin c.args.tb.now in
     let long = ap length j.ensures.0 ∙ length_rows _ _ _ in
     let e : w.new.out ≡ lay l.out l.k (bytes_in (rows_of (λ i. f i l.j) 0 (l.j + 1))) =
-    w.ensures ∙ ap (λ r. lay l.out l.k (bytes_in r)) (front_take j.new.0 l.room (l.j + 1) long ∙ j.ensures.0) in (
+    w.ensures ∙ ap (λ r. lay l.out l.k (bytes_in r)) (front_take j.new.col l.room (l.j + 1) long ∙ j.ensures.0) in (
       omega (arith, more),
       omega (arith, l.invariant.1, tri_next l.j),
       ap length e ∙ length_lay _ _ _ ∙ l.invariant.2,
-      front_long j.new.0 l.room (l.j + 1) long (fits c.before.before.before.before.before.before.before.before.before).0 ∙ l.invariant.3,
+      front_long j.new.col l.room (l.j + 1) long (fits c.before.before.before.before.before.before.before.before.before).0 ∙ l.invariant.3,
       j.ensures.1,
       j.ensures.2,
-      l.invariant.6 ∙ columns_turn l.out l.k f s.args.count l.j more ∙ ap (λ o. lay o (l.k + 8 * (l.j + 1)) (bytes_in (columns_of f (l.j + 1) (s.args.count - (l.j + 1))))) (sym e),
+      l.invariant.6 ∙ columns_turn l.out l.k f c.args.count l.j more ∙ ap (λ o. lay o (l.k + 8 * (l.j + 1)) (bytes_in (columns_of f (l.j + 1) (c.args.count - (l.j + 1))))) (sym e),
     )
 
 pub shape_of-out : goal.shape_of-out

@@ -6,6 +6,4 @@ use borrow.Author.Rules.{rules}
 use Rattle.merge_sums.proofs.put_sides.Goals as goal
 
 pub returns : goal.returns
-returns c =
-    let s = c.before in
-    c.put_column.ensures ∙ ap (λ l. lay s.args.out.now s.args.at (bytes_in l)) c.join-sides.ensures
+returns c = c.put_column.ensures ∙ ap (λ l. lay c.args.out.now c.args.at (bytes_in l)) c.join_sides.ensures

@@ -47,7 +47,7 @@ room_is : (c : At-After-is_roomy) → let a = c.args in
     sums_roomy (parameters_in (position_of a.p).kept) (length a.matrix.now) (length a.rights.now) ≡ c.is_roomy.result
 room_is c =
     let a = c.args in
-    sym (c.is_roomy.ensures ∙ room_asked _ _ a.matrix.now a.rights.now c.parameters-at.ensures (parameters_most_lem (position_of a.p).kept))
+    sym (c.is_roomy.ensures ∙ room_asked _ _ a.matrix.now a.rights.now c.parameters_at-parameters.ensures (parameters_most_lem (position_of a.p).kept))
 
 roomy : (c : At-After-is_roomy) → c.is_roomy.result ≡ true → let a = c.args in
     sums_roomy (parameters_in (position_of a.p).kept) (length a.matrix.now) (length a.rights.now) ≡ true
@@ -95,7 +95,7 @@ overflow_add-f c =
 pub is_given-requires : goal.is_given-requires
 is_given-requires c =
     let a = c.args in
-    let e = c.parameters-at.ensures in
+    let e = c.parameters_at-parameters.ensures in
     let g = room_given _ _ _ (roomy c.before.before.before.before.before.before.before.before.before c.if-is_roomy.true) in
     (e, subst (λ n. tri n ≤ length a.matrix.now) (sym e) g.0, subst (λ n. n ≤ length a.rights.now) (sym e) g.1)
 
@@ -104,7 +104,7 @@ go_on-requires c =
     let a = c.args in
     let o = c.open-new in
     record {
-      number = goes a.p (state_of a.matrix.now a.rights.now a.t) a.bytes.now a.answers.now c.if1.left (roomy c.before.before.before.before.before.before.before.before.before.before.before.before.before.before c.if-is_roomy.true) (omega (arith, many c.before.before.before.before.before.before.before, c.if3.true)) (sym c.is_given.ensures ∙ c.if-is_given.true);
+      number = goes a.p (state_of a.matrix.now a.rights.now a.t) a.bytes.now a.answers.now c.if-p.false (roomy c.before.before.before.before.before.before.before.before.before.before.before.before.before.before c.if-is_roomy.true) (omega (arith, many c.before.before.before.before.before.before.before, c.if-n-answers.true)) (sym c.is_given.ensures ∙ c.if-is_given.true);
       opens = opens c.before.before.before.before.before.before.before.before.before;
       few = o.ensures.1;
       count = o.ensures.3;
@@ -115,7 +115,7 @@ go_on-requires c =
 pub returns-then-n-answers : goal.returns-then-n-answers
 returns-then-n-answers c =
     let a = c.args in
-    let v = stop_unsound a.p (state_of a.matrix.now a.rights.now a.t) a.bytes.now a.answers.now c.if1.left (roomy c.before.before.before.before.before.before.before.before.before.before.before.before c.if-is_roomy.true) (omega (arith, many c.before.before.before.before.before, c.if3.true)) (sym c.is_given.ensures ∙ c.if-is_given.false) in
+    let v = stop_unsound a.p (state_of a.matrix.now a.rights.now a.t) a.bytes.now a.answers.now c.if-p.false (roomy c.before.before.before.before.before.before.before.before.before.before.before.before c.if-is_roomy.true) (omega (arith, many c.before.before.before.before.before, c.if-n-answers.true)) (sym c.is_given.ensures ∙ c.if-is_given.false) in
     let x = c.stopped-then-n-answers in record {
       answer_value = x.ensures.0 ∙ v.says;
       position = x.ensures.1 ∙ v.leads;
@@ -126,7 +126,7 @@ returns-then-n-answers c =
 pub returns-then-is_roomy : goal.returns-then-is_roomy
 returns-then-is_roomy c =
     let a = c.args in
-    let v = stop_answers a.p (state_of a.matrix.now a.rights.now a.t) a.bytes.now a.answers.now c.if1.left (roomy c.before.before.before.before.before.before.before.before.before.before c.if-is_roomy.true) (omega (arith, many c.before.before.before, c.if-n-answers.false)) in
+    let v = stop_answers a.p (state_of a.matrix.now a.rights.now a.t) a.bytes.now a.answers.now c.if-p.false (roomy c.before.before.before.before.before.before.before.before.before.before c.if-is_roomy.true) (omega (arith, many c.before.before.before, c.if-n-answers.false)) in
     let x = c.stopped-then-is_roomy in record {
       answer_value = x.ensures.0 ∙ v.says;
       position = x.ensures.1 ∙ v.leads;
@@ -137,7 +137,7 @@ returns-then-is_roomy c =
 pub returns : goal.returns
 returns c =
     let a = c.args in
-    let v = stop_room a.p (state_of a.matrix.now a.rights.now a.t) a.bytes.now a.answers.now c.if1.false (room_is c.before.before.before ∙ c.if-is_roomy.false) in
+    let v = stop_room a.p (state_of a.matrix.now a.rights.now a.t) a.bytes.now a.answers.now c.if-p.false (room_is c.before.before.before ∙ c.if-is_roomy.false) in
     let x = c.stopped-2 in record {
       answer_value = x.ensures.0 ∙ v.says;
       position = x.ensures.1 ∙ v.leads;

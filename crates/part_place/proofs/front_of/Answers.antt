@@ -31,16 +31,17 @@ pub slice_bounds-keep-end : goal.slice_bounds-keep-end
 slice_bounds-keep-end c = sym (length-take-le _ _ (array-share-prefix-kept c.before.before))
 
 pub slice_bounds-keep-end-2 : goal.slice_bounds-keep-end-2
-slice_bounds-keep-end-2 c = sym (length-take-le _ _ (omega (arith, c.least2.ensures)))
+slice_bounds-keep-end-2 c = sym (length-take-le _ _ (omega (arith, c.least-n.ensures)))
 
 pub keep-room-requires : goal.keep-room-requires
-keep-room-requires c = omega (arith, slice-aggregate-keep c.before.before, slice-aggregate-keep-2 c.before, c.least2.ensures, c.least.ensures)
+keep-room-requires c =
+    omega (arith, slice-aggregate-keep c.before.before, slice-aggregate-keep-2 c.before, c.least-n.ensures, c.least-held.ensures)
 
 pub returns : goal.returns
 returns c =
-    let a = c.before.args in
-    let k = c.least in
-    let n = c.least2 in
+    let a = c.args in
+    let k = c.least-held in
+    let n = c.least-n in
     let same_bytes : take k.result a.p.kept ≡ (position_of a.p).kept = ap (λ m. take m a.p.kept) k.ensures ∙ least_take a.p.length 1088 a.p.kept (long c.before.before.before.before.before) in
     let held-long : k.result ≡ length (take k.result a.p.kept) = slice-aggregate-keep c.before.before.before in
     let many : n.result ≡ min (1088 - length (take k.result a.p.kept)) (length a.bytes.now) = n.ensures ∙ ap (λ m. min (1088 - m) (length a.bytes.now)) held-long in

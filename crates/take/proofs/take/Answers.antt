@@ -21,7 +21,7 @@ returns-in-Sound c =
 
 pub returns-in-Refused : goal.returns-in-Refused
 returns-in-Refused c =
-    let a = c.before.before.args in
+    let a = c.args in
     let s = state_of a.matrix.now a.rights.now a.t in
     let r = c.in-Refused.e in
     let e = some_by _ _ r c.judge_state.ensures c.in-Refused.is in record {

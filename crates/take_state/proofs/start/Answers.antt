@@ -17,7 +17,7 @@ abbrev At-In-Sound : Type 0
 At-In-Sound = Lts.Past-After-enum_told Tie.the-claims Reads.Pre Reads.Post Tie.handed_clauses
 
 -- the heading is accepted, with room
-room : (c : At-In-Sound) → let s = c.before.before in room_number s.args.h s.args.matrix.now s.args.rights.now ≡ 0
+room : (c : At-In-Sound) → room_number c.args.h c.args.matrix.now c.args.rights.now ≡ 0
 room c = by_given _ (sym (ap told_verdict c.in-Sound.is) ∙ c.judge_room.ensures)
 
 pub place-requires : goal.place-requires
@@ -38,7 +38,7 @@ returns-in-Refused c =
 
 pub returns-in-Sound : goal.returns-in-Sound
 returns-in-Sound c =
-    let m = c.before.before.args.matrix.now in record {
+    let m = c.args.matrix.now in record {
       answer_value = sym (ap told_verdict c.in-Sound.is) ∙ c.judge_room.ensures;
       state = started_cleared _ _ _ _ _ _ (room c.before.before.before.before.before.before.before.before) (c.clear.ensures ∙ ap (λ k. cleared k m) (c.place.ensures ∙ add-zero _)) c.clear-in-Sound.ensures c.no_tally-in-Sound.ensures;
     }

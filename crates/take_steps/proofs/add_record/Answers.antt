@@ -26,7 +26,7 @@ laid c = c.partials.ensures ∙ ap (λ n. partials_in n c.args.bytes.now) c.requ
 
 pub add_matrix-requires : goal.add_matrix-requires
 add_matrix-requires c =
-    let n : length c.partials.new.1.0 ≡ length c.args.rights.now = ap length (laid c.before.before.before.before.before) ∙ length_partials_in _ _ in record {
+    let n : length c.partials.new.out.1.0 ≡ length c.args.rights.now = ap length (laid c.before.before.before.before.before) ∙ length_partials_in _ _ in record {
       a_in_bounds = rw n (rw c.requires.rights_len_bound.1 (omega arith));
       w_le_weight_top = (c.requires.weight_le_weight_top.0, rw n c.requires.rights_len_bound.0);
       a_in_bounds_2 = (rw n (rw c.requires.weight_le_weight_top.2 c.requires.rights_len_bound.0), c.requires.weight_le_weight_top.3);
@@ -36,7 +36,7 @@ add_matrix-requires c =
 pub returns : goal.returns
 returns c =
     let l = laid c.before.before.before.before.before.before.before.before.before.before.before in record {
-      matrix = c.add-matrix.ensures.0 ∙ ap (λ a. plus c.args.matrix.now (triangle_terms (pos c.args.weight) a)) l;
+      matrix = c.add_matrix.ensures.sums_after ∙ ap (λ a. plus c.args.matrix.now (triangle_terms (pos c.args.weight) a)) l;
       rights = c.add_times.ensures ∙ ap₂ (λ f a. plus c.args.rights.now (times f a)) (to_z-of_z w64 c.args.side c.ranges.side) l;
-      marks = c.add-matrix.ensures.1 ∙ ap (λ a. marks_with c.args.row a c.args.marks.now) l;
+      marks = c.add_matrix.ensures.marks ∙ ap (λ a. marks_with c.args.row a c.args.marks.now) l;
     }

@@ -1,4 +1,5 @@
 -- `unit_residual::residual_by` meets its contract: the two answers say how the definition's tests go.
+use mir.Syntax.{w64}
 use mathlib.Core.Path.{refl, sym, ap, ap₂, ◌∙◌}
 use mir.Facts.{to_z-of_z}
 use borrow.Author.Rules.{rules}
@@ -14,10 +15,9 @@ use Rattle.unit_residual.proofs.residual_by.Goals as goal
 pub apart-requires : goal.apart-requires
 apart-requires c =
     let r = c.args.row in
-    let o = c.in-Whole.o.given in
-    let d = c.in-Whole-c-2.c.given in (
-      word_within o.0.0 (inside_small r c.args.observed _ c.requires (sym c.unit_in-o.ensures ∙ ap told_nearest o.1)),
-      word_within d.0.0 (inside_small r c.args.computed _ c.requires (sym c.unit_in-c.ensures ∙ ap told_nearest d.1)),
+    (
+      word_within c.in-Whole.o (inside_small r c.args.observed _ c.requires (sym c.unit_in-o.ensures ∙ ap told_nearest c.in-Whole.is)),
+      word_within c.in-Whole-c-2.c (inside_small r c.args.computed _ c.requires (sym c.unit_in-c.ensures ∙ ap told_nearest c.in-Whole-c-2.is)),
     )
 
 pub returns-in-NotFinite : goal.returns-in-NotFinite
@@ -68,7 +68,7 @@ returns-in-Whole-c-2 c =
     let o = inside r c.args.observed _ (sym c.unit_in-o.ensures ∙ ap told_nearest c.in-Whole.is) in
     let d = inside r c.args.computed _ (sym c.unit_in-c.ensures ∙ ap told_nearest c.in-Whole-c-2.is) in
     yes _ _ _ (sym (holds _ _ o.number (sym d.number))) (yes _ _ _ (sym (holds _ _ o.fits (sym d.fits)))
-    (ap given (to_z-of_z (record { sfits = c.apart.type_inv }) ∙ c.apart.ensures
+    (ap given (to_z-of_z {w = w64} (record { sfits = c.apart.type_inv }) ∙ c.apart.ensures
     ∙ ap₂ (λ x y. apart_by r x y)
-    (to_z-of_z (record { sfits = c.in-Whole.known_told-1-own.given.0.1 }) ∙ sym o.is)
-    (to_z-of_z (record { sfits = c.in-Whole-c-2.known_told-in-Whole-1-own.given.0.1 }) ∙ sym d.is))))
+    (to_z-of_z {w = w64} (record { sfits = c.in-Whole.known_told-1-own.given.0.1 }) ∙ sym o.is)
+    (to_z-of_z {w = w64} (record { sfits = c.in-Whole-c-2.known_told-in-Whole-1-own.given.0.1 }) ∙ sym d.is))))
