@@ -9,4 +9,4 @@ pub returns : goal.returns
 returns c =
     let t = c.put_text in
     let d = c.digits-k in
-    t.ensures ∙ ap (laid _ _) (part_to_end d.result d.new.last.1.0 ∙ d.ensures.1)
+    t.ensures ∙ ap (laid _ _) (part_to_end d.result d.new.last ∙ d.ensures.1)

@@ -30,15 +30,15 @@ ahead x = (omega (arith, x.least.ensures), omega (arith, x.least.ensures, x.loop
 
 -- what the part was answered, of the bytes up to its end
 told_at : (x : At-After-hear-x) (r : ReadAnswer) → x.hear-x.result.answer ≡ r → let l = x.loop-at in let file = x.args.file.now in
-    AfterBy (told_answer r) (take (l.at + x.least.result) file) x.hear-x.result.course x.hear-x.new.rights x.hear-x.new.table x.hear-x.new.table.1.0
+    AfterBy (told_answer r) (take (l.at + x.least.result) file) x.hear-x.result.course x.hear-x.new.matrix x.hear-x.new.rights x.hear-x.new.table
 told_at x r e =
     let l = x.loop-at in let file = x.args.file.now in
     let k = x.least.result in
-    subst (λ s. AfterBy (told_answer r) s x.hear-x.result.course x.hear-x.new.rights x.hear-x.new.table x.hear-x.new.table.1.0) (part_next file l.at k)
-    (subst (λ z. AfterBy (told_answer z) (take l.at file ++ take (l.at + k - l.at) (drop l.at file)) x.hear-x.result.course x.hear-x.new.rights x.hear-x.new.table x.hear-x.new.table.1.0) e (x.hear-x.ensures (take l.at file) l.invariant.5))
+    subst (λ s. AfterBy (told_answer r) s x.hear-x.result.course x.hear-x.new.matrix x.hear-x.new.rights x.hear-x.new.table) (part_next file l.at k)
+    (subst (λ z. AfterBy (told_answer z) (take l.at file ++ take (l.at + k - l.at) (drop l.at file)) x.hear-x.result.course x.hear-x.new.matrix x.hear-x.new.rights x.hear-x.new.table) e (x.hear-x.ensures (take l.at file) l.invariant.5))
 
 pub loop-at-init : goal.loop-at-init
-loop-at-init c = (omega arith, refl, c.begin-c.auto.0 ∙ c.requires.0, c.begin-c.auto.1.0 ∙ c.requires.1, refl, c.begin-c.ensures)
+loop-at-init c = (omega arith, refl, c.begin-c.auto.matrix ∙ c.requires.0, c.begin-c.auto.rights ∙ c.requires.1, refl, c.begin-c.ensures)
 
 pub overflow_add-e : goal.overflow_add-e
 overflow_add-e c =
@@ -61,14 +61,14 @@ loop-at-preserved c =
     let l = c.loop-at in (
       (ahead c.before.before.before.before.before.before.before).0,
       l.invariant.1,
-      c.hear-x.auto.1.0 ∙ l.invariant.2,
-      c.hear-x.auto.1.1.0 ∙ l.invariant.3,
-      c.hear-x.auto.1.1.1.0 ∙ l.invariant.4,
+      c.hear-x.auto.matrix ∙ l.invariant.2,
+      c.hear-x.auto.rights ∙ l.invariant.3,
+      c.hear-x.auto.table ∙ l.invariant.4,
       told_at c.before.before.before.before.before.before.before _ c.in-Read.is,
     )
 
 pub shape_of-room-in-Refused : goal.shape_of-room-in-Refused
-shape_of-room-in-Refused c = c.put_refused.auto.0 ∙ ap length c.loop-at.invariant.1
+shape_of-room-in-Refused c = c.put_refused.auto.room ∙ ap length c.loop-at.invariant.1
 
 pub shape_of-matrix-in-Refused : goal.shape_of-matrix-in-Refused
 shape_of-matrix-in-Refused c = c.hear-x.kept.1.0 ∙ c.loop-at.invariant.2 ∙ sym c.requires.0
@@ -93,7 +93,7 @@ pub put_text-requires : goal.put_text-requires
 put_text-requires c = let l = c.loop-at in ((_, l.invariant.5), l.invariant.2, l.invariant.3)
 
 pub shape_of-room : goal.shape_of-room
-shape_of-room c = c.put_text.auto.1.1.1.1.0 ∙ ap length c.loop-at.invariant.1
+shape_of-room c = c.put_text.auto.room ∙ ap length c.loop-at.invariant.1
 
 pub shape_of-matrix : goal.shape_of-matrix
 shape_of-matrix c = c.loop-at.invariant.2 ∙ sym c.requires.0

@@ -33,7 +33,7 @@ loop-i-preserved c =
     (to_z-of_z w64 _ (search rules)) (to_z-of_z w64 _ (search rules)) c.put_parameter-at.ensures in (
       omega (arith, more),
       l.invariant.1,
-      c.put_parameter-at.auto.0 ∙ l.invariant.2,
+      c.put_parameter-at.auto.room ∙ l.invariant.2,
       lines_turn _ _ _ _ line (parameters_turn a.matrix.now a.rights.now a.t.marks _ _ l.i (omega (arith, c.requires.0, l.invariant.1)) more) l.invariant.3,
     )
 

@@ -28,7 +28,7 @@ note-requires c =
 pub returns : goal.returns
 returns c s h =
     let a = c.args in let n = c.note in
-    subst₂ (λ j t. AfterBy j (s ++ a.bytes.now) n.result.course c.part-x.new.answers c.part-x.new.answers.1.0 t) (sym n.ensures.answer) (sym n.ensures.table)
+    subst₂ (λ j t. AfterBy j (s ++ a.bytes.now) n.result.course c.part-x.new.matrix c.part-x.new.rights t) (sym n.ensures.answer) (sym n.ensures.table)
     (leads s a.c a.matrix.now a.rights.now a.table.now h a.bytes.now c.requires.1
-    c.told_room-told.result (room_long c.before.before.before.before.before.before.before.before.before.before.before) _ c.part-x.ensures.answer_value n.result.course c.part-x.new.answers c.part-x.new.answers.1.0 c.part-x.new.answers.1.1.1.0
-    (n.ensures.course.0 ∙ c.part-x.ensures.position) (ap (state_of c.part-x.new.answers c.part-x.new.answers.1.0) n.ensures.course.1 ∙ c.part-x.ensures.state) c.part-x.ensures.told)
+    c.told_room-told.result (room_long c.before.before.before.before.before.before.before.before.before.before.before) _ c.part-x.ensures.answer_value n.result.course c.part-x.new.matrix c.part-x.new.rights c.part-x.new.answers
+    (n.ensures.course.0 ∙ c.part-x.ensures.position) (ap (state_of c.part-x.new.matrix c.part-x.new.rights) n.ensures.course.1 ∙ c.part-x.ensures.state) c.part-x.ensures.told)

@@ -22,7 +22,7 @@ loop-i-preserved c =
     let more : l.i < length told = omega (arith, c.loop-i-test.true) in
     let new = c.count_one.ensures in (
       omega arith,
-      c.count_one.auto.0 ∙ l.invariant.1,
+      c.count_one.auto.table ∙ l.invariant.1,
       (λ k. omega (arith, ap (λ t. get_or t k 0) new, bumped_most l.table (get_or told l.i 0) k, l.invariant.2 k)),
       ap (λ t. counted t (drop (l.i + 1) told)) new ∙ counted_turn l.table told l.i more ∙ l.invariant.3,
     )

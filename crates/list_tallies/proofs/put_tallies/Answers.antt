@@ -15,7 +15,7 @@ pub loop-k-preserved : goal.loop-k-preserved
 loop-k-preserved c =
     let l = c.loop-k in
     let table = c.args.table.now in
-    (omega arith, omega arith, c.put_tally-at.auto.0 ∙ l.invariant.2, lines_turn _ _ _ _ c.put_tally-at.ensures (tallies_turn table l.k (omega arith)) l.invariant.3)
+    (omega arith, omega arith, c.put_tally-at.auto.room ∙ l.invariant.2, lines_turn _ _ _ _ c.put_tally-at.ensures (tallies_turn table l.k (omega arith)) l.invariant.3)
 
 pub returns : goal.returns
 returns c = lines_end _ _ c.least.ensures (tallies_end _ _ (omega arith)) c.loop-k.invariant.3

@@ -33,10 +33,10 @@ ky : (c : At-Start) → Known c.args.b.now c.args.y
 ky c = known _ _ c.requires.as_read.1
 
 -- the keys of each file, in the room that they were loaded into
-ka_part : (c : At-After-load_keys) → let a = c.args in let room = c.load_keys.new.keys.1.1.1.0 in (a.x.parameters ≤ length room) × (take a.x.parameters room ≡ keys_of (system_in_file a.a.now))
+ka_part : (c : At-After-load_keys) → let a = c.args in let room = c.load_keys.new.keys in (a.x.parameters ≤ length room) × (take a.x.parameters room ≡ keys_of (system_in_file a.a.now))
 ka_part c = keys_part _ _ (kx c.before.before.before.before.before.before.before) _ _ refl c.load_keys.ensures
 
-kb_part : (c : At-After-load_keys-2) → let a = c.args in let room = c.load_keys-2.new.keys.1.1.1.0 in (a.y.parameters ≤ length room) × (take a.y.parameters room ≡ keys_of (system_in_file a.b.now))
+kb_part : (c : At-After-load_keys-2) → let a = c.args in let room = c.load_keys-2.new.keys in (a.y.parameters ≤ length room) × (take a.y.parameters room ≡ keys_of (system_in_file a.b.now))
 kb_part c = keys_part _ _ (ky c.before.before.before.before.before.before.before.before.before.before.before) _ _ refl c.load_keys-2.ensures
 
 pub overflow_mul-x : goal.overflow_mul-x

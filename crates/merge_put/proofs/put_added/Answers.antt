@@ -47,12 +47,12 @@ py : (c : At-Start) → Places c.args.n c.args.y.stored c.args.tb.now
 py c = right_places _ _ (kx c) _ _ (ky c) _ _ _ c.requires.b_value.1
 
 -- the room is as long as it was
-room_long : (c : At-After-put_columns) → c.args.n ≤ length c.put_columns.new.room.1.1.1.1.1.1.1.1.0
+room_long : (c : At-After-put_columns) → c.args.n ≤ length c.put_columns.new.room
 room_long c =
-    let long : length c.put_columns.new.room.1.1.1.1.1.1.1.1.0 ≡ 500 = c.put_columns.auto.1.1.1.1.1.1.1.1.1.0 in
+    let long : length c.put_columns.new.room ≡ 500 = c.put_columns.auto.room in
     omega (arith, few c.before.before.before.before.before.before.before.before.before.before.before.before.before)
 
-front_long : (c : At-After-put_columns) → let n = c.args.n in length (take n c.put_columns.new.room.1.1.1.1.1.1.1.1.0) ≡ n
+front_long : (c : At-After-put_columns) → let n = c.args.n in length (take n c.put_columns.new.room) ≡ n
 front_long c = length-take-le _ _ (room_long c)
 
 pub triangle-sums-requires : goal.triangle-sums-requires

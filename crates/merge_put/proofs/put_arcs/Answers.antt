@@ -32,10 +32,10 @@ ky : (c : At-Start) → Known c.args.b.now c.args.y
 ky c = known _ _ c.requires.as_read.1
 
 -- the arcs of each file, in the room that they were loaded into
-us_part : (c : At-After-load_arcs) → let a = c.args in let room = c.load_arcs.new.arcs.1.1.0 in (a.x.arcs ≤ length room) × (take a.x.arcs room ≡ (system_in_file a.a.now).arcs)
+us_part : (c : At-After-load_arcs) → let a = c.args in let room = c.load_arcs.new.arcs in (a.x.arcs ≤ length room) × (take a.x.arcs room ≡ (system_in_file a.a.now).arcs)
 us_part c = arcs_part _ _ (kx c.before.before.before.before.before) _ _ refl c.load_arcs.ensures
 
-vs_part : (c : At-After-load_arcs-2) → let a = c.args in let room = c.load_arcs-2.new.arcs.1.1.0 in (a.y.arcs ≤ length room) × (take a.y.arcs room ≡ (system_in_file a.b.now).arcs)
+vs_part : (c : At-After-load_arcs-2) → let a = c.args in let room = c.load_arcs-2.new.arcs in (a.y.arcs ≤ length room) × (take a.y.arcs room ≡ (system_in_file a.b.now).arcs)
 vs_part c = arcs_part _ _ (ky c.before.before.before.before.before.before.before.before) _ _ refl c.load_arcs-2.ensures
 
 pub load_arcs-requires : goal.load_arcs-requires

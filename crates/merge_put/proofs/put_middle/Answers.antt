@@ -39,11 +39,11 @@ few : (c : At-Start) → c.args.n ≤ 500
 few c = omega (arith, c.requires.b_value.1.count, (mergeable _ _ c.requires.b_value.0).labels_fit)
 
 -- the front of each room is the places of the labels whose sums the file stores
-left_part : (c : At-After-locate-p) → let room = c.locate-p.new.t.1.1.1.1.1.0 in let m = c.locate-p.result in (m ≤ length room) × (take m room ≡ seats (union (keys_of (system_in_file c.args.a.now)) (keys_of (system_in_file c.args.b.now))) (keys_of (stored_in_file c.args.a.now)))
+left_part : (c : At-After-locate-p) → let room = c.locate-p.new.t in let m = c.locate-p.result in (m ≤ length room) × (take m room ≡ seats (union (keys_of (system_in_file c.args.a.now)) (keys_of (system_in_file c.args.b.now))) (keys_of (stored_in_file c.args.a.now)))
 left_part c =
     left_found _ _ (kx c.before.before.before.before.before.before.before.before) _ _ (ky c.before.before.before.before.before.before.before.before) _ _ _ c.requires.b_value.1 _ _ (few c.before.before.before.before.before.before.before.before) _ c.locate-p.ensures.0 c.locate-p.ensures.1
 
-right_part : (c : At-After-locate-q) → let room = c.locate-q.new.t.1.1.1.1.1.0 in let m = c.locate-q.result in (m ≤ length room) × (take m room ≡ seats (union (keys_of (system_in_file c.args.a.now)) (keys_of (system_in_file c.args.b.now))) (keys_of (stored_in_file c.args.b.now)))
+right_part : (c : At-After-locate-q) → let room = c.locate-q.new.t in let m = c.locate-q.result in (m ≤ length room) × (take m room ≡ seats (union (keys_of (system_in_file c.args.a.now)) (keys_of (system_in_file c.args.b.now))) (keys_of (stored_in_file c.args.b.now)))
 right_part c =
     right_found _ _ (kx c.before.before.before.before.before.before.before.before.before.before.before.before) _ _ (ky c.before.before.before.before.before.before.before.before.before.before.before.before) _ _ _ c.requires.b_value.1 _ _ (few c.before.before.before.before.before.before.before.before.before.before.before.before) _ c.locate-q.ensures.0 c.locate-q.ensures.1
 

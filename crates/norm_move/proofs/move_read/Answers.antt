@@ -42,15 +42,15 @@ kn c = known c.args.file.now c.args.r c.requires.0 c.requires.1
 abbrev w-found : At-After-seat_labels → List ℕ
 w-found c = let k = kn c.before.before.before.before.before in w c.args.file.now k.file k.is c.args.r k.told
 
-room_w : (c : At-After-seat_labels) → c.args.r.parameters ≤ length c.seat_labels.new.w.1.1.1.1.0
+room_w : (c : At-After-seat_labels) → c.args.r.parameters ≤ length c.seat_labels.new.w
 room_w c =
-    let long : length c.seat_labels.new.w.1.1.1.1.0 ≡ 500 = c.seat_labels.auto.1.1.1.1.0 in
+    let long : length c.seat_labels.new.w ≡ 500 = c.seat_labels.auto.w in
     omega (arith, (kn c.before.before.before.before.before).few_labels)
 
-w_part : (c : At-After-seat_labels) → let p = c.args.r.parameters in length (take p c.seat_labels.new.w.1.1.1.1.0) ≡ p
+w_part : (c : At-After-seat_labels) → let p = c.args.r.parameters in length (take p c.seat_labels.new.w) ≡ p
 w_part c = length-take-le _ _ (room_w c)
 
-front_w : (c : At-After-seat_labels) → take c.args.r.parameters c.seat_labels.new.w.1.1.1.1.0 ≡ w-found c
+front_w : (c : At-After-seat_labels) → take c.args.r.parameters c.seat_labels.new.w ≡ w-found c
 front_w c =
     let k = kn c.before.before.before.before.before in
     ap (take c.args.r.parameters) c.seat_labels.ensures
@@ -71,15 +71,15 @@ few_kept c =
     let k = kn c.before.before.before.before.before.before.before.before.before in
     omega (arith, kept_many c, kept_few (fields c) (w-found c.before.before.before.before), w_long c.args.file.now k.file k.is c.args.r k.told, k.few_labels)
 
-room_u : (c : At-After-keep_seats-m) → c.keep_seats-m.result ≤ length c.keep_seats-m.new.u.1.1.1.1.1.0
+room_u : (c : At-After-keep_seats-m) → c.keep_seats-m.result ≤ length c.keep_seats-m.new.u
 room_u c =
-    let long : length c.keep_seats-m.new.u.1.1.1.1.1.0 ≡ 500 = c.keep_seats-m.auto.1.1.1.1.1.0 in
+    let long : length c.keep_seats-m.new.u ≡ 500 = c.keep_seats-m.auto.u in
     omega (arith, few_kept c)
 
-u_part : (c : At-After-keep_seats-m) → let m = c.keep_seats-m.result in length (take m c.keep_seats-m.new.u.1.1.1.1.1.0) ≡ m
+u_part : (c : At-After-keep_seats-m) → let m = c.keep_seats-m.result in length (take m c.keep_seats-m.new.u) ≡ m
 u_part c = length-take-le _ _ (room_u c)
 
-front_u : (c : At-After-keep_seats-m) → take c.keep_seats-m.result c.keep_seats-m.new.u.1.1.1.1.1.0 ≡ u-found c
+front_u : (c : At-After-keep_seats-m) → take c.keep_seats-m.result c.keep_seats-m.new.u ≡ u-found c
 front_u c =
     ap (take c.keep_seats-m.result) c.keep_seats-m.ensures.1
     ∙ front_of _ _ c.keep_seats-m.result (sym c.keep_seats-m.ensures.0) (few_kept c)

@@ -95,6 +95,6 @@ returns c =
     let f = (λ i. frame a.h.settings (length (take a.h.parameters a.rights.now)) (take a.h.stations (c.numbers_of-numbers.ensures i)) (take a.h.stations (c.corrections_of-corrections.ensures i))) ∙ frame_is a.h s v in
     let p : state_of (take c.triangle-k.result a.matrix.now) (take a.h.parameters a.rights.now) a.t ≡ part a.h s v = λ i. state_of (take (c.triangle-k.ensures.0 i) a.matrix.now) (take a.h.parameters a.rights.now) a.t in record {
       answer_value = c.take_record.ensures.answer_value ∙ ap₂ (λ g u. answered (record_answer g a.bytes.now u) tt) f p ∙ ap (λ k. answered k tt) (answer_back a.h s v a.bytes.now);
-      state = (λ i. state_of (c.take_record.new.room.1.1.0 ++ drop (c.triangle-k.ensures.0 i) a.matrix.now) (c.take_record.new.room.1.1.1.0 ++ drop a.h.parameters a.rights.now) c.take_record.result.tally)
+      state = (λ i. state_of (c.take_record.new.matrix ++ drop (c.triangle-k.ensures.0 i) a.matrix.now) (c.take_record.new.rights ++ drop a.h.parameters a.rights.now) c.take_record.result.tally)
           ∙ step_back a.h s v a.bytes.now _ _ _ (c.take_record.ensures.state ∙ ap₂ (λ g u. record_step g a.bytes.now u) f p);
     }

@@ -107,7 +107,7 @@ returns c =
     let p : state_of (take c.triangle-k.result a.matrix.now) (take a.h.parameters a.rights.now) a.t ≡ part a.h s v = λ i. state_of (take (c.triangle-k.ensures.0 i) a.matrix.now) (take a.h.parameters a.rights.now) a.t in
     let e = c.requires in
     let bs = records_are a.h a.run.now (parameters_few a.h s v) in record {
-      state = (λ i. state_of (c.take_all.new.out.1.0 ++ drop (c.triangle-k.ensures.0 i) a.matrix.now) (c.take_all.new.out.1.1.0 ++ drop a.h.parameters a.rights.now) c.take_all.result)
+      state = (λ i. state_of (c.take_all.new.matrix ++ drop (c.triangle-k.ensures.0 i) a.matrix.now) (c.take_all.new.rights ++ drop a.h.parameters a.rights.now) c.take_all.result)
           ∙ run_back a.h s v (records_in a.h a.run.now) _ _ _ (c.take_all.ensures.state ∙ ap₂ (λ g u. run_by g u a.run.now) f p ∙ ap (run (record_step (frame_of a.h)) (part a.h s v)) (sym bs))
           ∙ sym (state_taken a.h a.run.now (length a.out.now) s e);
       told = c.take_all.ensures.told ∙ ap₂ (λ g u. lay a.out.now 0 (answers_by g u a.run.now)) f p

@@ -219,7 +219,7 @@ loop-i-preserved-in-Accepted c =
     let sides = add.1.0 ∙ ap (λ z. plus l.rights (times z (partials_in (length l.rights) (take (l.at + size - l.at) (drop l.at a.run.now))))) (to_z-of_z w64 y.side (side_fits c.before.before.before.before.before.before.before.before.before.before.before.before.before))
     ∙ ap₂ (λ k r. plus l.rights (times y.side (partials_in k r))) wide whole in
     let marks = add.1.1 ∙ ap₂ (λ k r. marks_with x.place (partials_in k r) l.marks) wide whole in
-    let after : state_of c.add_record.new.matrix c.add_record.new.rights (record { square = l.u.square + y.square; counts = set l.u.counts x.place (get_or l.u.counts x.place 0 + 1); rows = set l.u.rows x.place c.row_with.result; marks = c.add_record.new.marks.1.1.1.0 }) ≡ record_step f b s =
+    let after : state_of c.add_record.new.matrix c.add_record.new.rights (record { square = l.u.square + y.square; counts = set l.u.counts x.place (get_or l.u.counts x.place 0 + 1); rows = set l.u.rows x.place c.row_with.result; marks = c.add_record.new.marks }) ≡ record_step f b s =
     (λ i. state_of (sums i) (sides i) (record { square = l.u.square + y.square; counts = set l.u.counts x.place (get_or l.u.counts x.place 0 + 1); rows = set l.u.rows x.place (c.row_with.ensures i); marks = marks i }))
     ∙ sym (step_books f b s n ∙ booked f b s x fit y j) in
     next c.before.before.before.before.before.before.before.before.before.before.before.before.before.before.before.before.before.before.before.before.before _ 0 c.add_record.new.room
