@@ -16,12 +16,12 @@ loop-i-preserved c =
       e.within_left,
       e.within_right,
       omega (arith, e.on),
-      length-set l.false l.n _ ∙ l.invariant.3,
+      length-set l.left l.n _ ∙ l.invariant.3,
       length-set l.right l.n _ ∙ l.invariant.4,
-      walk_on _ _ _ _ l.false l.right l.i l.j l.n c.step-t.result e l.invariant.5,
+      walk_on _ _ _ _ l.left l.right l.i l.j l.n c.step-t.result e l.invariant.5,
     )
 
 pub returns : goal.returns
 returns c =
     let l = c.loop-i in
-    walk_ends _ _ _ _ l.false l.right l.i l.j l.n (search rules) (search rules) (omega arith) (omega arith) l.invariant.5
+    walk_ends _ _ _ _ l.left l.right l.i l.j l.n (search rules) (search rules) (omega arith) (omega arith) l.invariant.5

@@ -18,4 +18,4 @@ returns c =
     let n = m + 8 + 8 * c.triangle.result + 8 * length u in
     c.put_totals.ensures
     ∙ ap (λ o. lay o n (totals_copied s.s.now s.r)) (c.put_sums.ensures ∙ ap (λ o. lay o m (sums_gathered s.s.now s.r u)) c.put_heads.ensures)
-    ∙ parts_laid s.is_small_lem s.s.now s.r w u s.out.now m n refl (omega (arith, c.triangle.ensures.0))
+    ∙ parts_laid s.is_small s.s.now s.r w u s.out.now m n refl (omega (arith, c.triangle.ensures.0))

@@ -19,8 +19,8 @@ returns c =
     let r = s.r in
     let next = 4 + 4 * r.arcs in
     c.put_labels.ensures
-    ∙ ap (λ o. lay o (next + 4) (encoded fielded_bytes (rows_of (fielded_by_seat s.is_small_lem s.s.now (next + 4) r.matrix r.stored s.w.now) 0 (length s.w.now))))
+    ∙ ap (λ o. lay o (next + 4) (encoded fielded_bytes (rows_of (fielded_by_seat s.is_small s.s.now (next + 4) r.matrix r.stored s.w.now) 0 (length s.w.now))))
     (c.write_u32-2.ensures
     ∙ ap (λ o. lay o next (bytes_of 4 (length s.w.now)))
     (c.put_arcs.ensures ∙ ap (λ o. lay o 4 (encoded arc_number_bytes (arcs_at s.s.now r.arcs))) c.write_u32.ensures))
-    ∙ head_part_laid s.is_small_lem s.s.now r s.w.now s.out.now next (next + 4) refl (omega arith)
+    ∙ head_part_laid s.is_small s.s.now r s.w.now s.out.now next (next + 4) refl (omega arith)

@@ -23,14 +23,14 @@ starts out at f n =
 pub loop-i-init : goal.loop-i-init
 loop-i-init c =
     let s = c.args in
-    (omega arith, refl, starts s.out.now s.at (fielded_by_seat s.is_small_lem s.s.now s.labels s.start s.n s.w.now) (length s.w.now))
+    (omega arith, refl, starts s.out.now s.at (fielded_by_seat s.is_small s.s.now s.labels s.start s.n s.w.now) (length s.w.now))
 
 pub loop-i-preserved : goal.loop-i-preserved
 unfolding fielded_by_seat
 loop-i-preserved c =
     let l = c.loop-i in
     let s = c.args in
-    let f = fielded_by_seat s.is_small_lem s.s.now s.labels s.start s.n s.w.now in
+    let f = fielded_by_seat s.is_small s.s.now s.labels s.start s.n s.w.now in
     let e : c.put_fields.new.out ≡ lay l.out (s.at + 24 * l.i) (fielded_bytes (f l.i)) =
     c.put_fields.ensures
     ∙ (λ i. lay l.out (s.at + 24 * l.i) (fielded_bytes (record { label = c.load_label-l.ensures i; c.before.before.before.before.before.before = c.field_in-field.ensures i }))) in

@@ -10,17 +10,17 @@ use Rattle.norm_heads.proofs.Loops.{reaching, reach_start, reach_end, reach_good
 use Rattle.norm_heads.proofs.walk_labels.Goals as goal
 
 pub loop-i-init : goal.loop-i-init
-loop-i-init c = (search rules, search rules, reach_start (fielded_kind c.args.is_small_lem c.args.arcs.now) _ _ _)
+loop-i-init c = (search rules, search rules, reach_start (fielded_kind c.args.is_small c.args.arcs.now) _ _ _)
 
 pub loop-i-preserved : goal.loop-i-preserved
 loop-i-preserved c =
     let e = sym c.read_label.ensures ∙ ap told_floor c.in-Next.is in
-    (search rules, search rules, c.loop-i.invariant.2 ∙ reach_good (fielded_kind c.args.is_small_lem c.args.arcs.now) _ _ _ _ _ (omega arith) _ e)
+    (search rules, search rules, c.loop-i.invariant.2 ∙ reach_good (fielded_kind c.args.is_small c.args.arcs.now) _ _ _ _ _ (omega arith) _ e)
 
 pub returns-in-Refused : goal.returns-in-Refused
 returns-in-Refused c =
     let e = sym c.read_label.ensures ∙ ap told_floor c.in-Refused.is in
-    sym (c.loop-i.invariant.2 ∙ reach_bad (fielded_kind c.args.is_small_lem c.args.arcs.now) _ _ _ _ _ (omega arith) _ _ e)
+    sym (c.loop-i.invariant.2 ∙ reach_bad (fielded_kind c.args.is_small c.args.arcs.now) _ _ _ _ _ (omega arith) _ _ e)
 
 pub returns : goal.returns
-returns c = sym (c.loop-i.invariant.2 ∙ reach_end (fielded_kind c.args.is_small_lem c.args.arcs.now) _ _ _ _ _ (omega arith))
+returns c = sym (c.loop-i.invariant.2 ∙ reach_end (fielded_kind c.args.is_small c.args.arcs.now) _ _ _ _ _ (omega arith))

@@ -7,4 +7,4 @@ use mir.ValLaws.{to_z-of_z}
 use Rattle.norm_judge.proofs.bound_of.Goals as goal
 
 pub returns : goal.returns
-returns c = to_z-of_z w64 (pos c.bound_of.result) (cast-result c) ∙ ap pos c.bound_of.ensures.0
+returns c = to_z-of_z w64 (pos c.bound_of.result) (search rules) ∙ ap pos c.bound_of.ensures.0

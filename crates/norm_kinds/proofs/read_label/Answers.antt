@@ -20,16 +20,16 @@ At-After-label_ok = Lts.After-label_ok Tie.the-claims Reads.Pre Reads.Post
 
 -- what the tests of the fields say
 fields : (c : At-After-label_ok) (t : Bool) → c.label_ok.result ≡ t
-    → let a = c.args in fielded_at_ok a.is_small_lem a.arcs.now a.s.now a.at ≡ t
+    → let a = c.args in fielded_at_ok a.is_small a.arcs.now a.s.now a.at ≡ t
 fields c t e =
     let a = c.args in
-    field_on a.is_small_lem a.arcs.now a.s.now a.at _ c.read_u32-field.ensures c.load_label-l.result
+    field_on a.is_small a.arcs.now a.s.now a.at _ c.read_u32-field.ensures c.load_label-l.result
     (sym c.field_ok.ensures ∙ c.if-field_ok.true) c.load_label-l.ensures (sym c.label_ok.ensures ∙ e)
 
 pub returns-then-left-lt24 : goal.returns-then-left-lt24
 returns-then-left-lt24 c =
     let a = c.args in
-    floor_short (fielded_kind a.is_small_lem a.arcs.now) _ _ _ (omega arith)
+    floor_short (fielded_kind a.is_small a.arcs.now) _ _ _ (omega arith)
 
 pub overflow_add-result : goal.overflow_add-result
 overflow_add-result c = omega (arith, label_kind_lem _ _ (sym c.label_ok.ensures ∙ c.if-label_ok.true))
@@ -37,22 +37,22 @@ overflow_add-result c = omega (arith, label_kind_lem _ _ (sym c.label_ok.ensures
 pub returns-then-floor-key : goal.returns-then-floor-key
 returns-then-floor-key c =
     let a = c.args in
-    let is = fielded_is a.is_small_lem a.arcs.now a.s.now a.at _ c.read_u32-field.ensures c.load_label-l.result c.load_label-l.ensures in
+    let is = fielded_is a.is_small a.arcs.now a.s.now a.at _ c.read_u32-field.ensures c.load_label-l.result c.load_label-l.ensures in
     ap (λ k. good (k + 1)) c.label_key-key.ensures.0
-    ∙ floor_next (fielded_kind a.is_small_lem a.arcs.now) _ _ _ (omega arith) (fields c.before.before.before.before _ c.if-label_ok.true) _ is (omega arith)
+    ∙ floor_next (fielded_kind a.is_small a.arcs.now) _ _ _ (omega arith) (fields c.before.before.before.before _ c.if-label_ok.true) _ is (omega arith)
 
 pub returns-else-floor-key : goal.returns-else-floor-key
 returns-else-floor-key c =
     let a = c.args in
-    let is = fielded_is a.is_small_lem a.arcs.now a.s.now a.at _ c.read_u32-field.ensures c.load_label-l.result c.load_label-l.ensures in
-    floor_order (fielded_kind a.is_small_lem a.arcs.now) _ _ _ (omega arith) (fields c.before.before.before.before _ c.if-label_ok.true) _ is (omega arith)
+    let is = fielded_is a.is_small a.arcs.now a.s.now a.at _ c.read_u32-field.ensures c.load_label-l.result c.load_label-l.ensures in
+    floor_order (fielded_kind a.is_small a.arcs.now) _ _ _ (omega arith) (fields c.before.before.before.before _ c.if-label_ok.true) _ is (omega arith)
 
 pub returns-else-label_ok : goal.returns-else-label_ok
 returns-else-label_ok c =
     let a = c.args in
-    floor_limits (fielded_kind a.is_small_lem a.arcs.now) _ _ _ (omega arith) (fields c.before.before _ c.if-label_ok.false)
+    floor_limits (fielded_kind a.is_small a.arcs.now) _ _ _ (omega arith) (fields c.before.before _ c.if-label_ok.false)
 
 pub returns-else-field_ok : goal.returns-else-field_ok
 returns-else-field_ok c =
     let a = c.args in
-    floor_limits (fielded_kind a.is_small_lem a.arcs.now) _ _ _ (omega arith) (field_off a.is_small_lem a.arcs.now a.s.now a.at _ c.read_u32-field.ensures (sym c.field_ok.ensures ∙ c.if-field_ok.false))
+    floor_limits (fielded_kind a.is_small a.arcs.now) _ _ _ (omega arith) (field_off a.is_small a.arcs.now a.s.now a.at _ c.read_u32-field.ensures (sym c.field_ok.ensures ∙ c.if-field_ok.false))

@@ -58,10 +58,10 @@ front_w c =
 
 -- ---- those that the form stores
 abbrev u-found : At-After-keep_seats-m → List ℕ
-u-found c = let k = kn c.before.before.before.before.before.before.before.before.before in u c.args.file.now k.file k.is c.args.r k.told c.args.is_small_lem
+u-found c = let k = kn c.before.before.before.before.before.before.before.before.before in u c.args.file.now k.file k.is c.args.r k.told c.args.is_small
 
 abbrev fields : At-After-keep_seats-m → ℕ → ℕ
-fields c = field_by_seat c.args.is_small_lem c.args.file.now c.args.r.matrix c.args.r.stored
+fields c = field_by_seat c.args.is_small c.args.file.now c.args.r.matrix c.args.r.stored
 
 kept_many : (c : At-After-keep_seats-m) → c.keep_seats-m.result ≡ length (u-found c)
 kept_many c = c.keep_seats-m.ensures.0 ∙ ap (λ l. length (kept_seats (fields c) l)) (front_w c.before.before.before.before)
@@ -86,13 +86,13 @@ front_u c =
     ∙ ap (kept_seats (fields c)) (front_w c.before.before.before.before)
 
 -- ---- the length that is asked for
-long_is : (c : At-After-triangle) → 36 + 4 * c.args.r.arcs + 24 * c.args.r.parameters + 8 * c.triangle.result + 8 * c.keep_seats-m.result ≡ length (form_bytes c.args.is_small_lem (kn c.before.before.before.before.before.before.before.before.before.before.before.before).file.holds)
+long_is : (c : At-After-triangle) → 36 + 4 * c.args.r.arcs + 24 * c.args.r.parameters + 8 * c.triangle.result + 8 * c.keep_seats-m.result ≡ length (form_bytes c.args.is_small (kn c.before.before.before.before.before.before.before.before.before.before.before.before).file.holds)
 long_is c =
     let k = kn c.before.before.before.before.before.before.before.before.before.before.before.before in
     ap (λ n. 36 + 4 * c.args.r.arcs + 24 * c.args.r.parameters + 8 * n + 8 * c.keep_seats-m.result) c.triangle.ensures.0
-    ∙ form_long c.args.is_small_lem c.args.file.now k.file k.is c.args.r.arcs c.args.r.parameters c.keep_seats-m.result
+    ∙ form_long c.args.is_small c.args.file.now k.file k.is c.args.r.arcs c.args.r.parameters c.keep_seats-m.result
     (ap (λ d. d.arcs) k.told) (ap (λ d. d.parameters) k.told)
-    (kept_many c.before.before.before ∙ u_many c.args.file.now k.file k.is c.args.r k.told c.args.is_small_lem)
+    (kept_many c.before.before.before ∙ u_many c.args.file.now k.file k.is c.args.r k.told c.args.is_small)
 
 pub overflow_mul-r : goal.overflow_mul-r
 overflow_mul-r c = omega (arith, (kn c.before.before.before.before).few_arcs)
@@ -152,7 +152,7 @@ pub returns-then-out-long : goal.returns-then-out-long
 returns-then-out-long c =
     let k = kn c.before.before.before.before.before.before.before.before.before.before.before.before.before.before in
     let short = subst (λ n. length c.args.out.now < n) (long_is c.before.before) c.if-out-long.true in
-    (answer_short c.args.is_small_lem c.args.file.now k.file k.is _ short, left_short c.args.is_small_lem c.args.file.now k.file k.is c.args.out.now short)
+    (answer_short c.args.is_small c.args.file.now k.file k.is _ short, left_short c.args.is_small c.args.file.now k.file k.is c.args.out.now short)
 
 pub slice_bounds-w-end-2 : goal.slice_bounds-w-end-2
 slice_bounds-w-end-2 c = room_w c.before.before.before.before.before.before.before.before.before.before
@@ -181,7 +181,7 @@ put_file-requires c =
 pub returns : goal.returns
 returns c =
     let k = kn c.before.before.before.before.before.before.before.before.before.before.before.before.before.before.before.before.before.before.before.before in
-    let small = c.args.is_small_lem in
+    let small = c.args.is_small in
     let file = c.args.file.now in
     let r = c.args.r in
     let fits = subst (λ n. n ≤ length c.args.out.now) (long_is c.before.before.before.before.before.before.before.before) (omega (arith, c.if-out-long.false)) in (

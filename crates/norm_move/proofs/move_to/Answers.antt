@@ -11,4 +11,4 @@ returns-in-Refused c =
     let s = c.args in
     let read = c.read-r in
     let e = refused s.file.now read.result read.ensures _ _ c.in-Refused.is in
-    (answer_refused s.is_small_lem s.file.now _ _ e _, left_refused s.is_small_lem s.file.now _ _ e s.out.now)
+    (answer_refused s.is_small s.file.now _ _ e _, left_refused s.is_small s.file.now _ _ e s.out.now)

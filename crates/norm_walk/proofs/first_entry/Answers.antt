@@ -27,13 +27,13 @@ At-After-is_broken = Lts.After-is_broken Tie.the-claims Reads.Pre Reads.Post goa
 
 test : (c : At-After-is_broken) (t : Bool) → c.is_broken.result ≡ t
     → let a = c.args in
-    entries a.is_small_lem a.s.now a.start a.p a.bound c.loop-i.i c.all.j ≡ t
+    entries a.is_small a.s.now a.start a.p a.bound c.loop-i.i c.all.j ≡ t
 test c t e =
     let a = c.args in
     let j = c.all.j in
     let o = c.least_of-least in
     let low = to_z-of_z w64 o.result (record { sfits = o.ok }) ∙ o.ensures in
-    sym (c.is_broken.ensures a.is_small_lem _ low (omega (arith, tri_next j, tri_within j a.p (omega arith)))) ∙ e
+    sym (c.is_broken.ensures a.is_small _ low (omega (arith, tri_next j, tri_within j a.p (omega arith)))) ∙ e
 
 pub all-init : goal.all-init
 all-init c = (search rules, refl, rw sub-zero)
@@ -64,7 +64,7 @@ loop-i-preserved c =
     let l = c.loop-i in
     let j = c.all.j in
     let a = c.args in
-    let f = entries a.is_small_lem a.s.now a.start a.p a.bound in
+    let f = entries a.is_small a.s.now a.start a.p a.bound in
     (omega arith, l.invariant.1, l.invariant.2 ∙ first_on (λ v. f v j) (j + 1) l.i (omega arith) (test c.before.before _ c.if-is_broken.false))
 
 pub all-preserved : goal.all-preserved
@@ -72,7 +72,7 @@ all-preserved c =
     let l = c.loop-i in
     let w = c.all in
     let a = c.args in
-    let f = entries a.is_small_lem a.s.now a.start a.p a.bound in (
+    let f = entries a.is_small a.s.now a.start a.p a.bound in (
       omega arith,
       l.invariant.1 ∙ w.invariant.1,
       w.invariant.2 ∙ columns_on f _ w.j (omega arith) (l.invariant.2 ∙ first_end (λ v. f v w.j) (w.j + 1) l.i (omega arith)),
@@ -88,6 +88,6 @@ returns-then-is_broken c =
     let l = c.loop-i in
     let w = c.all in
     let a = c.args in
-    let f = entries a.is_small_lem a.s.now a.start a.p a.bound in
+    let f = entries a.is_small a.s.now a.start a.p a.bound in
     let found = l.invariant.2 ∙ first_here (λ v. f v w.j) (w.j + 1) l.i (omega arith) (test c.before.before.before _ c.if-is_broken.true) in
     ap at c.place.ensures ∙ sym (w.invariant.2 ∙ columns_here f _ w.j (omega arith) l.i found)

@@ -86,7 +86,7 @@ slice_bounds-room-end c =
     omega (arith, front_room a.p a.bytes.now _ w, front_fits a.p a.bytes.now _ w)
 
 pub slice_bounds-open-end : goal.slice_bounds-open-end
-slice_bounds-open-end c = sym (length-take-le _ _ (array-share-prefix-room c.before.before))
+slice_bounds-open-end c = sym (length-take-le _ _ (slice_bounds-room-end c.before.before))
 
 pub overflow_add-f : goal.overflow_add-f
 overflow_add-f c =

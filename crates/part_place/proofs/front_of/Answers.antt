@@ -28,14 +28,14 @@ pub slice_bounds-kept-end : goal.slice_bounds-kept-end
 slice_bounds-kept-end c = omega (arith, c.least-held.ensures, long c.before.before)
 
 pub slice_bounds-keep-end : goal.slice_bounds-keep-end
-slice_bounds-keep-end c = sym (length-take-le _ _ (array-share-prefix-kept c.before.before))
+slice_bounds-keep-end c = sym (length-take-le _ _ (slice_bounds-kept-end c.before.before))
 
 pub slice_bounds-keep-end-2 : goal.slice_bounds-keep-end-2
 slice_bounds-keep-end-2 c = sym (length-take-le _ _ (omega (arith, c.least-n.ensures)))
 
 pub keep-room-requires : goal.keep-room-requires
 keep-room-requires c =
-    omega (arith, slice-aggregate-keep c.before.before, slice-aggregate-keep-2 c.before, c.least-n.ensures, c.least-held.ensures)
+    omega (arith, slice_bounds-keep-end c.before.before, slice_bounds-keep-end-2 c.before, c.least-n.ensures, c.least-held.ensures)
 
 pub returns : goal.returns
 returns c =
@@ -43,7 +43,7 @@ returns c =
     let k = c.least-held in
     let n = c.least-n in
     let same_bytes : take k.result a.p.kept ≡ (position_of a.p).kept = ap (λ m. take m a.p.kept) k.ensures ∙ least_take a.p.length 1088 a.p.kept (long c.before.before.before.before.before) in
-    let held-long : k.result ≡ length (take k.result a.p.kept) = slice-aggregate-keep c.before.before.before in
+    let held-long : k.result ≡ length (take k.result a.p.kept) = slice_bounds-keep-end c.before.before.before in
     let many : n.result ≡ min (1088 - length (take k.result a.p.kept)) (length a.bytes.now) = n.ensures ∙ ap (λ m. min (1088 - m) (length a.bytes.now)) held-long in
     record {
       room = c.keep-room.ensures ∙ ap (padded 1088 0) (front_cut (take k.result a.p.kept) a.bytes.now 1088 n.result (omega (arith, held-long, k.ensures)) many ∙ ap (λ x. take 1088 (x ++ a.bytes.now)) same_bytes);

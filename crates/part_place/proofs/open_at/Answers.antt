@@ -22,7 +22,7 @@ pub slice_bounds-kept-end : goal.slice_bounds-kept-end
 slice_bounds-kept-end c = omega (arith, c.least-len.ensures, long c)
 
 pub slice_bounds-open-end : goal.slice_bounds-open-end
-slice_bounds-open-end c = sym (length-take-le _ _ (array-share-prefix-kept c.before))
+slice_bounds-open-end c = sym (length-take-le _ _ (slice_bounds-kept-end c.before))
 
 pub returns : goal.returns
 returns c =
@@ -32,6 +32,6 @@ returns c =
     record {
       told = o.ensures.0 ∙ ap opened (ap (λ k. take k p.kept) n.ensures ∙ least_take p.length 1088 p.kept (long c.before.before));
       few = o.ensures.1;
-      start = omega (arith, o.ensures.2, slice-aggregate-open c.before, n.ensures);
+      start = omega (arith, o.ensures.2, slice_bounds-open-end c.before, n.ensures);
       count = o.ensures.3;
     }

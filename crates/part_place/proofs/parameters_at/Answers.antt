@@ -22,7 +22,7 @@ pub slice_bounds-kept-end : goal.slice_bounds-kept-end
 slice_bounds-kept-end c = omega (arith, c.least-len.ensures, long c)
 
 pub slice_bounds-parameters_in-end : goal.slice_bounds-parameters_in-end
-slice_bounds-parameters_in-end c = sym (length-take-le _ _ (array-share-prefix-kept c.before))
+slice_bounds-parameters_in-end c = sym (length-take-le _ _ (slice_bounds-kept-end c.before))
 
 pub returns : goal.returns
 returns c =

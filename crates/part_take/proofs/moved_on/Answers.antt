@@ -67,7 +67,7 @@ slice_bounds-keep-end c =
 
 pub keep-kept-requires : goal.keep-kept-requires
 keep-kept-requires c =
-    let a = c.args in let q = c.requires.parameters_le_parameters_most in let upto = a.start + a.n * record_size a.h.parameters - a.len in omega (arith, rest_fits a.h a.count a.start a.t4 a.len a.taken a.n a.bytes.now c.requires.ready (room c.before.before.before.before.before.before.before) q.0 q.2 (omega arith) (omega arith), ap length (rest_all a.bytes.now upto), slice-aggregate-keep c.before.before)
+    let a = c.args in let q = c.requires.parameters_le_parameters_most in let upto = a.start + a.n * record_size a.h.parameters - a.len in omega (arith, rest_fits a.h a.count a.start a.t4 a.len a.taken a.n a.bytes.now c.requires.ready (room c.before.before.before.before.before.before.before) q.0 q.2 (omega arith) (omega arith), ap length (rest_all a.bytes.now upto), slice_bounds-keep-end c.before.before)
 
 pub returns : goal.returns
 returns c =

@@ -36,7 +36,7 @@ side : (c : At-After-magnitude-size) → let a = c.args in
     to_z w64 c.weight-w.result *ℤ to_z w64 (of_z w64 (to_z w64 (of_z w64 a.residual) *ℤ to_z w64 a.factor)) ≡ pos (weight_of a.sigma) *ℤ (a.residual *ℤ pos a.factor)
 side c =
     let w = c.weight-w in
-    ap₂ (λ x y. x *ℤ y) (to_z_pos w64 w.result (omega (arith, w.ensures.1)) ∙ ap pos w.ensures.0) (to_z-of_z w64 _ (mul-scaled c.before) ∙ scaled c.before)
+    ap₂ (λ x y. x *ℤ y) (to_z_pos w64 w.result (omega (arith, w.ensures.1)) ∙ ap pos w.ensures.0) (to_z-of_z w64 _ (overflow_mul-scaled c.before) ∙ scaled c.before)
 
 side_small : (c : At-After-magnitude-size) → let a = c.args in nat_abs (pos (weight_of a.sigma) *ℤ (a.residual *ℤ pos a.factor)) ≤ 2 ^ 28
 side_small c =
@@ -46,7 +46,7 @@ side_small c =
 
 -- the size of R
 size : (c : At-After-magnitude-size) → let a = c.args in c.magnitude-size.result ≡ nat_abs (a.residual *ℤ pos a.factor)
-size c = c.magnitude-size.ensures ∙ ap nat_abs (to_z-of_z w64 _ (mul-scaled c.before) ∙ scaled c.before)
+size c = c.magnitude-size.ensures ∙ ap nat_abs (to_z-of_z w64 _ (overflow_mul-scaled c.before) ∙ scaled c.before)
 
 pub overflow_mul-scaled : goal.overflow_mul-scaled
 overflow_mul-scaled c =
@@ -71,6 +71,6 @@ unfolding terms_by
 returns c =
     λ i. record {
       weight = c.weight-w.ensures.0 i;
-      side = (to_z-of_z w64 _ (mul-t9 c) ∙ side c) i;
+      side = (to_z-of_z w64 _ (overflow_mul-result c) ∙ side c) i;
       square = c.weight-w.ensures.0 i * (size c i * size c i);
     }

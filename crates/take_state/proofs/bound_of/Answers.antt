@@ -24,4 +24,4 @@ pub overflow_cast-result : goal.overflow_cast-result
 overflow_cast-result c = record { sfits = omega (arith, small c) }
 
 pub returns : goal.returns
-returns c = to_z-of_z w64 (pos (c.args.n * c.args.unit)) (cast-result c)
+returns c = to_z-of_z w64 (pos (c.args.n * c.args.unit)) (overflow_cast-result c)

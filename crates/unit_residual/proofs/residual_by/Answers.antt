@@ -16,8 +16,8 @@ pub apart-requires : goal.apart-requires
 apart-requires c =
     let r = c.args.row in
     (
-      word_within c.in-Whole.o (inside_small r c.args.observed _ c.requires (sym c.unit_in-o.ensures ∙ ap told_nearest c.in-Whole.is)),
-      word_within c.in-Whole-c-2.c (inside_small r c.args.computed _ c.requires (sym c.unit_in-c.ensures ∙ ap told_nearest c.in-Whole-c-2.is)),
+      word_within c.in-Whole.p (inside_small r c.args.observed _ c.requires (sym c.unit_in-o.ensures ∙ ap told_nearest c.in-Whole.is)),
+      word_within c.in-Whole-c-2.q (inside_small r c.args.computed _ c.requires (sym c.unit_in-c.ensures ∙ ap told_nearest c.in-Whole-c-2.is)),
     )
 
 pub returns-in-NotFinite : goal.returns-in-NotFinite
