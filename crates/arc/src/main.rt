@@ -1,6 +1,7 @@
 // The arc program: reads an arc file of any length on standard input, 64 KiB at a time, and prints its listing and nothing else. An input that can't
 // be read is told on standard error, and nothing is listed.
 #![tactic(auto)]
+
 ghost use Rattle.std.specs.Prelude.{◌≡◌, length};
 ghost use Rattle.list_run.specs.Rooms.{part_most};
 

@@ -1,5 +1,6 @@
 // Inner to the writers of an arc file: lengths, and one record of each section put into lent room.
 #![tactic(auto)]
+
 ghost use Rattle.std.specs.Prelude.{◌≡◌, ◌+◌, ◌/◌, ◌≤◌, length};
 ghost use Rattle.num_limits.specs.Capacities.{parameters_most, records_most, stations_most};
 ghost use Rattle.byte_words.specs.Words.{lay};

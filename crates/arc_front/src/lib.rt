@@ -1,5 +1,6 @@
 // Inner to the readers of arc files: the heading, read from a file's beginning.
 #![tactic(auto)]
+
 ghost use Rattle.std.specs.Prelude.{◌≡◌, ◌≤◌};
 ghost use Rattle.num_limits.specs.Capacities.{parameters_most};
 ghost use Rattle.num_whole.specs.Answer.{bad};

@@ -1,5 +1,6 @@
 // The heading of an arc, by value: its settings, labels and stations, and the judging of one that is handed in.
 #![tactic(auto)]
+
 ghost use Rattle.std.specs.Prelude.{◌≡◌, ◌≤◌, ◌<◌};
 ghost use Rattle.num_limits.specs.Capacities.{parameters_most, stations_most};
 ghost use Rattle.num_whole.specs.Lists.{all, ascend};

@@ -1,5 +1,6 @@
 // One record of the settings, the parameters and the stations of an arc file, read and judged.
 #![tactic(auto)]
+
 ghost use Rattle.std.specs.Prelude.{◌≡◌, ◌+◌, ◌<◌, ◌^◌};
 ghost use Rattle.byte_section.specs.Section.{judged_at};
 ghost use Rattle.arc_limits.specs.Limits.{label_key, station_key};

@@ -1,5 +1,6 @@
 // Settings, labels and stations of an arc, by value: the limits of their fields, and the order of labels.
 #![tactic(auto)]
+
 ghost use Rattle.std.specs.Prelude.{◌≡◌, ◌<◌};
 ghost use Rattle.cells.specs.Cells.{is_parameter};
 ghost use Rattle.arc_limits.specs.Limits.{

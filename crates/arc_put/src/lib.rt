@@ -1,5 +1,6 @@
 // The numbers of an arc file that is written, judged, and the bytes of its sections, put into lent room.
 #![tactic(auto)]
+
 ghost use Rattle.std.specs.Prelude.{◌≡◌, ◌+◌, ◌≤◌, length};
 ghost use Rattle.num_limits.specs.Capacities.{parameters_most, stations_most};
 ghost use Rattle.byte_words.specs.Words.{lay};

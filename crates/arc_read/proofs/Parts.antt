@@ -2,19 +2,16 @@
 -- Assumes nothing.
 use Prim.Native.Nat.{ℕ, zero, suc, ◌+◌, ◌≤◌, ◌<◌}
 use mathlib.Core.Path.{◌≡◌, refl, sym, ap, ◌∙◌}
-use mathlib.Core.List.{List, [], ◌∷◌}
+use mathlib.Core.List.{List, ◌∷◌}
 use native.Mathlib.Omega.{arith}
 use lib.ListN.{length}
 use Rattle.arc_limits.specs.Limits.{no_label, no_station}
 use Rattle.num_whole.specs.Answer.{Judged, good, bad}
 use Rattle.num_whole.proofs.Cases.{yes, no, is_less, not_less}
-use Rattle.refusal.specs.Number.{number_of}
-use Rattle.refusal.specs.declared.Refusal.{Refusal}
 use Rattle.byte_section.specs.Section.{Kind, Run, and_then, count_at, judged_at, records, section_at, closed}
-use Rattle.byte_section.proofs.Walk.{good_same, then_good, then_bad, then_read, counted, records_next}
+use Rattle.byte_section.proofs.Walk.{then_good, then_bad, then_read, counted}
 use Rattle.byte_section.proofs.Chains.{then_then, then_made, then_same}
 use Rattle.arc_limits.specs.declared.Settings.{Settings}
-use Rattle.arc_limits.specs.declared.Label.{Label}
 use Rattle.arc_heading.specs.declared.Heading.{Heading}
 use Rattle.arc_kinds.specs.Kinds.{settings_kind, label_kind, station_kind}
 use Rattle.arc_kinds.specs.Told.{settings_part}
@@ -23,9 +20,6 @@ use Rattle.arc_sections.specs.Sections.{Slots, slotted, labels_from, labels_part
 use Rattle.arc_front.specs.Parts.{heading_part}
 use Rattle.arc_read.specs.Parts.{arc_from}
 use Rattle.byte_section.specs.Told.{Span, span_of}
-use Rattle.byte_section.specs.declared.ReadAnswer.TheVariants as Answers
-use Rattle.byte_section.specs.declared.SectionAnswer.{SectionAnswer}
-use Rattle.byte_section.specs.declared.SectionAnswer.TheVariants as SectionAnswers
 
 -- ---- the settings are one record, and end at 16
 one_record : (s : List ℕ) {B : Type 0} (f : Run Settings → Judged B)

@@ -1,5 +1,6 @@
 // The arc file, read: for every list of bytes the heading, the number of records and where they stand, or the first refusal and its place.
 #![tactic(auto)]
+
 ghost use Rattle.std.specs.Prelude.{◌≡◌, ◌≤◌};
 ghost use Rattle.num_limits.specs.Capacities.{parameters_most};
 ghost use Rattle.refusal.specs.Number.{number_of};

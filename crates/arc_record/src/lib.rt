@@ -1,5 +1,6 @@
 // A tracking record: its bytes in a file, its fields by value, and its partials.
 #![tactic(auto)]
+
 ghost use Rattle.std.specs.Prelude.{◌≡◌, ◌+◌, ◌*◌, ◌≤◌, length};
 ghost use Rattle.std.specs.Int.{w16};
 ghost use Rattle.byte_words.specs.Words.{signed_word};

@@ -1,5 +1,6 @@
 // Inner to `arc_read`: the sections of an arc file after its settings, each read whole or refused at a place.
 #![tactic(auto)]
+
 ghost use Rattle.std.specs.Prelude.{◌≡◌, ◌≤◌, length, replicate};
 ghost use Rattle.num_limits.specs.Capacities.{parameters_most, stations_most};
 ghost use Rattle.arc_limits.specs.Limits.{no_label, no_station};

@@ -1,5 +1,6 @@
 // The arc file, written: the bytes of a heading and a run of records into lent room, or a refusal that changes nothing.
 #![tactic(auto)]
+
 ghost use Rattle.std.specs.Prelude.{◌≡◌, ◌/◌, ◌≤◌, length};
 ghost use Rattle.num_limits.specs.Capacities.{parameters_most, records_most, stations_most};
 ghost use Rattle.arc_kinds.specs.Kinds.{record_size};

@@ -1,6 +1,7 @@
 // For the benchmarks' drivers: an arc file's records taken from an empty state, as one run, one by one, or in parts as they arrive; a normal file read, and two merged. The
 // functions promise only that they are safe and end; what the entries promise stands in `take`, `part`, `norm_read` and `merge`.
 #![tactic(auto)]
+
 ghost use Rattle.std.specs.Prelude.{◌≤◌, length};
 
 use arc_heading::Heading;

@@ -1,5 +1,6 @@
 // Little-endian words at a place of a slice, read. Every place may be named: a byte past the end reads as 0.
 #![tactic(auto)]
+
 ghost use Rattle.std.specs.Prelude.{◌≡◌, ◌+◌, ◌≤◌, ◌<◌, ◌^◌, length, get_or};
 ghost use Rattle.byte_words.specs.Words.{word};
 

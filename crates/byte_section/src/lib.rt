@@ -1,6 +1,7 @@
 // The generic section of a file, and what readers and writers of files answer. A section's count is read here; how records follow it is in
 // specs/, with its laws in proofs/.
 #![tactic(auto)]
+
 ghost use Rattle.std.specs.Prelude.{◌≡◌};
 ghost use Rattle.byte_section.specs.Section.{count_at, told_count};
 

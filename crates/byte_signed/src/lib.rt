@@ -1,6 +1,7 @@
 // Little-endian signed words at a place of a slice, read and written. Every place may be named: a byte past the end reads as 0, and none is
 // written there.
 #![tactic(auto)]
+
 ghost use Rattle.std.specs.Prelude.{◌≡◌};
 ghost use Rattle.std.specs.Int.{w16, w32, w64};
 ghost use Rattle.byte_words.specs.Words.{lay, signed_word, signed_bytes};

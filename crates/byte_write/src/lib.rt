@@ -1,5 +1,6 @@
 // Little-endian words at a place of a slice, written. Every place may be named: no byte is written past the end.
 #![tactic(auto)]
+
 ghost use Rattle.std.specs.Prelude.{◌≡◌, ◌+◌, ◌≤◌, length};
 ghost use Rattle.byte_words.specs.Words.{bytes_of, lay};
 

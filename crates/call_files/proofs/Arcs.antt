@@ -2,11 +2,11 @@
 -- Assumes nothing.
 use Prim.Native.Nat.{ℕ, ◌≤◌, ◌<◌}
 use mathlib.Core.Path.{◌≡◌, refl, sym, ap, ◌∙◌}
-use mathlib.Core.List.{List, []}
+use mathlib.Core.List.{List}
 use mathlib.Core.Bool.{Bool, true, false}
 use lib.ListN.{length}
 use Rattle.num_whole.specs.Tests.{same, pick}
-use Rattle.num_whole.specs.Answer.{Answered, given, refused}
+use Rattle.num_whole.specs.Answer.{given, refused}
 use Rattle.num_whole.proofs.Cases.{is_up_to, not_up_to}
 use Rattle.byte_words.specs.Words.{lay}
 use Rattle.byte_section.proofs.Writing.{none_laid}

@@ -1,5 +1,6 @@
 // Inner to `wheloruka`: what a call answers for what an entry told, in numbers, with its results in lent room.
 #![tactic(auto)]
+
 ghost use Rattle.std.specs.Prelude.{◌≡◌, ◌≤◌, length};
 ghost use Rattle.num_limits.specs.Capacities.{parameters_most, stations_most};
 ghost use Rattle.byte_words.specs.Words.{lay};

@@ -1,5 +1,6 @@
 // A heading in lent bytes, read and written: what callers that have numbers and slices only hand in and get back.
 #![tactic(auto)]
+
 ghost use Rattle.std.specs.Prelude.{◌≡◌, ◌≤◌, min};
 ghost use Rattle.num_limits.specs.Capacities.{parameters_most, stations_most};
 ghost use Rattle.byte_words.specs.Words.{word, lay};

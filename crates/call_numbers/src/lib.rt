@@ -1,6 +1,7 @@
 // Inner to `wheloruka`: what days, cells, units and residuals answer, put into lent room; cells by their letters' numbers,
 // residuals by their types'.
 #![tactic(auto)]
+
 ghost use Rattle.std.specs.Prelude.{◌≡◌, length};
 ghost use Rattle.call_rooms.specs.Result.{result_number, result_left, told_values, one};
 ghost use Rattle.days.specs.Calendar.{told_day, told_date};

@@ -3,7 +3,7 @@
 use Prim.Native.Nat.{ℕ, ◌≤◌, zero-le}
 use mathlib.Core.Path.{◌≡◌, refl, sym, ap, ◌∙◌, subst}
 use mathlib.Core.List.{List}
-use mathlib.Core.Bool.{Bool, true, false}
+use mathlib.Core.Bool.{true, false}
 use native.Mathlib.Omega.{arith}
 use lib.ListN.{length}
 use Rattle.num_whole.specs.Tests.{same}
@@ -18,12 +18,12 @@ use Rattle.part_laws.specs.Entries.{stopped, position_of, held_of, placed, ends,
 use Rattle.part_laws.specs.declared.Position as ByValue
 use Rattle.part_laws.proofs.Front.{opened_start}
 use Rattle.part_laws.proofs.Six.{placed_before, placed_amid, part_placed}
-use Rattle.part_laws.proofs.Over.{placed_short, count_most_lem, feed_moved, part_ends, finish_ends}
+use Rattle.part_laws.proofs.Over.{placed_short, count_most_lem, part_ends, finish_ends}
 use Rattle.part.proofs.Stops.{fine}
 use Rattle.call_position.specs.Position.{position_in}
 use Rattle.call_position.proofs.Bytes.{PositionFits, position_stays}
 use Rattle.call_told.specs.Told.{changes, with_all}
-use Rattle.call_part.specs.Calls.{Rooms, place_in, rooms_state, has_state, begin_call, begin_left, part_lent, part_call, part_left, place_lent, finish_call, finish_left}
+use Rattle.call_part.specs.Calls.{Rooms, place_in, rooms_state, begin_call, begin_left, part_lent, part_call, part_left, place_lent, finish_call, finish_left}
 use Rattle.call_part.proofs.Calls.{position_long_lem, place_long, state_long}
 
 -- ---- a position that the entries give has numbers of their widths

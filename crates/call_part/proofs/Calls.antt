@@ -2,8 +2,8 @@
 -- Assumes nothing.
 use Prim.Native.Nat.{ℕ, ◌≤◌}
 use mathlib.Core.Path.{◌≡◌, refl, sym, ap, ap₂, ◌∙◌}
-use mathlib.Core.List.{List, [], ◌∷◌}
-use mathlib.Core.Bool.{Bool, true, false}
+use mathlib.Core.List.{List}
+use mathlib.Core.Bool.{true, false}
 use native.Mathlib.Omega.{arith}
 use lib.IntN.{ℤ}
 use lib.ListN.{length}
@@ -21,7 +21,7 @@ use Rattle.take_state.specs.State.{State, state_of}
 use Rattle.take_state.proofs.Rooms.{by_given, by_refused}
 use Rattle.call_tally.specs.Tally.{tally_bytes}
 use Rattle.part_laws.specs.Feeding.{begun, feed}
-use Rattle.part_laws.specs.Entries.{Told, took, stopped, broken, position_of, held_of, told_form, begin_number, begin_state, part_number, part_told, part_position, part_state, part_answers, finish_told, finish_position}
+use Rattle.part_laws.specs.Entries.{Told, stopped, position_of, held_of, told_form, begin_number, begin_state, part_number, part_told, part_position, part_state, part_answers, finish_told, finish_position}
 use Rattle.part_laws.specs.declared.Position.{Position}
 use Rattle.call_position.specs.Position.{position_long, position_in, position_bytes, has_position}
 use Rattle.call_told.specs.Told.{told_number, told_out, changes, with_all}

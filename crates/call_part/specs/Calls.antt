@@ -1,7 +1,7 @@
 -- What the calls for an arc file in parts answer and leave, for a position and a state in lent room, of any values. 20 comes first where a position,
 -- a tally or the room for two numbers is not there whole. "A longer buffer keeps its rest. A refusal changes nothing lent", but for a refusal in the
 -- file's form: the records completed before it stay taken.
-use Rattle.std.specs.Prelude.{ℕ, List, [], ◌∷◌, Bool, ℤ, length}
+use Rattle.std.specs.Prelude.{ℕ, List, ◌∷◌, Bool, ℤ, length}
 use Rattle.num_whole.specs.Tests.{up_to, same, pick, both}
 use Rattle.byte_words.specs.Words.{lay}
 use Rattle.refusal.specs.First.{unless, first}
@@ -14,7 +14,7 @@ use Rattle.part_laws.specs.Feeding.{begun}
 use Rattle.part_laws.specs.Entries.{Told, took, stopped, broken, held_of, begin_number, begin_state, part_told, part_position, part_state, part_answers, finish_told, finish_position, heading_told, heading_given}
 use Rattle.part_laws.specs.declared.Position.{Position}
 use Rattle.call_position.specs.Position.{position_in, position_bytes, has_position, marked}
-use Rattle.call_told.specs.Told.{told_number, told_out, changes, tells, with_all, head_roomy}
+use Rattle.call_told.specs.Told.{changes, tells, with_all, head_roomy}
 
 -- a position and a state in lent room: the position's bytes, the tally's, the matrix sums, the right sides
 pub record Rooms : Type 0 where

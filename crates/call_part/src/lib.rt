@@ -1,5 +1,6 @@
 // Inner to `wheloruka`: the calls for an arc file in parts, on a position and a state in lent room.
 #![tactic(auto)]
+
 ghost use Rattle.std.specs.Prelude.{◌≡◌, ◌≤◌, length};
 ghost use Rattle.num_limits.specs.Capacities.{parameters_most, stations_most};
 ghost use Rattle.num_whole.specs.Tests.{up_to, pick, both};

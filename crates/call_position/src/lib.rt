@@ -1,5 +1,6 @@
 // Inner to `call_part`: a position in lent bytes, read and written.
 #![tactic(auto)]
+
 ghost use Rattle.std.specs.Prelude.{◌≡◌, ◌≤◌, length, take};
 ghost use Rattle.num_whole.specs.Tests.{up_to, pick};
 ghost use Rattle.num_whole.specs.Lists.{padded};

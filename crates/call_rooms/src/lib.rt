@@ -1,5 +1,6 @@
 // Results in lent room: a few values put at its front, or 20 and nothing changed.
 #![tactic(auto)]
+
 ghost use Rattle.std.specs.Prelude.{◌≡◌, [], ◌∷◌, ◌≤◌, length};
 ghost use Rattle.num_whole.specs.Answer.{given};
 ghost use Rattle.call_rooms.specs.Result.{result_number, result_left, room_for};

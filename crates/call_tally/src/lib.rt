@@ -1,5 +1,6 @@
 // Inner to `call_heading` and `wheloruka`: a tally in lent bytes, read and written.
 #![tactic(auto)]
+
 ghost use Rattle.std.specs.Prelude.{◌≡◌, ◌≤◌, length};
 ghost use Rattle.num_limits.specs.Capacities.{stations_most, parameters_most};
 ghost use Rattle.byte_words.specs.Words.{word, bytes_of, lay};

@@ -1,5 +1,6 @@
 // Inner to `call_part`: what an entry for a file in parts told, in numbers, and a heading in its room.
 #![tactic(auto)]
+
 ghost use Rattle.std.specs.Prelude.{◌≡◌, ◌≤◌, length};
 ghost use Rattle.num_limits.specs.Capacities.{parameters_most, stations_most};
 ghost use Rattle.num_whole.specs.Tests.{pick};

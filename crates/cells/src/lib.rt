@@ -1,5 +1,6 @@
 // Geopotential cells: the table of 990, and both directions between a cell and its index.
 #![tactic(auto)]
+
 mod table;
 
 ghost use Rattle.std.specs.Prelude.{◌≡◌};

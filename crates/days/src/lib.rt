@@ -1,5 +1,6 @@
 // Calendar days: from a date to its day number and back, for every input.
 #![tactic(auto)]
+
 ghost use Rattle.std.specs.Prelude.{◌≡◌, true, ◌+◌, ◌-◌, ◌≤◌};
 ghost use Rattle.num_limits.specs.Capacities.{last_day};
 ghost use Rattle.days.specs.Calendar.{

@@ -1,15 +1,13 @@
 -- The listed days by sixes and the days between them: how many lie before a day, where the day stands among those between.
 -- Assumes nothing.
 use Prim.Native.Nat.{ℕ, ◌+◌, ◌≤◌, ◌<◌}
-use mathlib.Core.Path.{◌≡◌, refl, sym, ap, ◌∙◌, subst}
-use mathlib.Core.Bool.{true}
-use mathlib.Core.List.{List, [], ◌∷◌, ◌++◌}
+use mathlib.Core.Path.{◌≡◌, refl, ap, ◌∙◌}
+use mathlib.Core.List.{List, ◌∷◌, ◌++◌}
 use native.Mathlib.Omega.{arith}
-use lib.ListN.{length}
 use Rattle.num_whole.specs.Tests.{up_to, both}
 use Rattle.num_whole.specs.Lists.{ascend}
 use Rattle.days_leap.specs.Leap.{days_before, listed_days, listed_before}
-use Rattle.days_leap.proofs.Counts.{Rises, before_none, before_one, before_all, before_append}
+use Rattle.days_leap.proofs.Counts.{before_none, before_one, before_all, before_append}
 use Rattle.days_leap.proofs.Listed.{listing, listed_so}
 
 abbrev pub six1 : List ℕ

@@ -1,5 +1,6 @@
 // The days that end in a leap second: which they are, how many lie before a day, when a day begins and how long it lasts.
 #![tactic(auto)]
+
 ghost use Rattle.std.specs.Prelude.{◌≡◌, [], ◌∷◌, ◌≤◌, ◌<◌};
 ghost use Rattle.num_whole.specs.Tests.{up_to};
 ghost use Rattle.num_limits.specs.Capacities.{last_day, day_after_last};

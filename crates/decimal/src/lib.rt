@@ -1,5 +1,6 @@
 // Numbers and texts in ASCII, written into lent room one after another: each entry gives the place after what it wrote, where the next begins.
 #![tactic(auto)]
+
 ghost use Rattle.std.specs.Prelude.{◌≡◌, ◌+◌, ◌≤◌, ◌<◌, min, length, drop};
 ghost use Rattle.decimal.specs.Decimal.{decimal, signed_decimal};
 ghost use Rattle.decimal.specs.Laid.{laid};

@@ -1,5 +1,6 @@
 // What the programs share of arc files: one is read from a descriptor in parts of 64 KiB, and its records are taken as they complete.
 #![tactic(auto)]
+
 ghost use Rattle.std.specs.Prelude.{◌≡◌, [], length};
 ghost use Rattle.num_limits.specs.Capacities.{arc_sums_most, parameters_most};
 ghost use Rattle.list_lines.specs.Lines.{tallies_of};

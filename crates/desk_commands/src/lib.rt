@@ -3,6 +3,7 @@
 // An arc file is read in parts, so that its length does not matter. The rooms for normal files are locals of one function that is called from
 // several places: a function that is called from one place only becomes a part of its caller.
 #![tactic(auto)]
+
 ghost use Rattle.std.specs.Prelude.{◌≡◌, length};
 ghost use Rattle.io.specs.Counts.{IsPrefixLen};
 ghost use Rattle.num_limits.specs.Capacities.{arc_sums_most, parameters_most};

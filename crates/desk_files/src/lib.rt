@@ -1,6 +1,7 @@
 // What the programs share: room for whole files, reading one whole, and writing one that is not there yet. What the system refuses is told on
 // standard error, and only while no file is open for writing: it could have the number of standard error, where that was closed.
 #![tactic(auto)]
+
 ghost use Rattle.std.specs.Prelude.{◌≡◌, ◌+◌, ◌≤◌, length};
 ghost use Rattle.io.specs.Counts.{IsPrefixLen};
 ghost use Rattle.libc.specs.Io.{Ended};

@@ -1,6 +1,7 @@
 // What the programs that run vectors share: a text's lines, a line's words and numbers, and the pieces of a line
 // that is written. Nothing here refuses: past the end a byte is 0, and where no digit stands the number is 0.
 #![tactic(auto)]
+
 ghost use Rattle.std.specs.Prelude.{◌+◌, ◌<◌, ◌≤◌, min, length};
 
 use libc::{STDIN_FILENO, STDOUT_FILENO};

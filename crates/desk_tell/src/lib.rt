@@ -1,6 +1,7 @@
 // What the desk program says of a file: its name, the refusal's number and place, and the sentence of the paper's table, in one line; and what an
 // arc's records came to, with the stations of each parameter.
 #![tactic(auto)]
+
 ghost use Rattle.std.specs.Prelude.{◌≡◌, ◌+◌, ◌<◌, ◌≤◌, length};
 ghost use Rattle.num_limits.specs.Capacities.{parameters_most, stations_most};
 

@@ -1,6 +1,6 @@
 -- Edge 7, by computation.
 -- Assumes nothing.
-use mathlib.Core.Path.{refl, sym}
+use mathlib.Core.Path.{refl}
 use lib.Count.{ones_in, ones}
 use lib.Ieee.{of_bits, round}
 use Rattle.num_whole.specs.Tests.{less, up_to, same, pick, both, either, between}

@@ -1,5 +1,6 @@
 // The arc program's whole output: an arc file read, its records taken from the empty state, and what came of it as text in lent room.
 #![tactic(auto)]
+
 ghost use Rattle.std.specs.Prelude.{◌≡◌, [], length};
 ghost use Rattle.num_limits.specs.Capacities.{arc_sums_most, parameters_most};
 ghost use Rattle.byte_section.specs.Told.{told_write};

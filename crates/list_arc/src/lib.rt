@@ -1,5 +1,6 @@
 // Inner to `list`: the whole listing of an arc, written into lent room.
 #![tactic(auto)]
+
 ghost use Rattle.std.specs.Prelude.{◌≡◌, ◌≤◌, length};
 ghost use Rattle.num_limits.specs.Capacities.{parameters_most};
 ghost use Rattle.decimal.specs.Laid.{laid};

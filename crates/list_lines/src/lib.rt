@@ -1,6 +1,7 @@
 // The lines of the arc program's listing, each written into lent room at a place; each function gives the place after its lines. What was
 // answered is `list_tallies`, the whole listing of an arc `list_arc`.
 #![tactic(auto)]
+
 ghost use Rattle.std.specs.Prelude.{◌≡◌, not, ◌≤◌, length};
 ghost use Rattle.num_limits.specs.Capacities.{parameters_most};
 ghost use Rattle.num_whole.specs.Tests.{pick};

@@ -1,15 +1,14 @@
 -- How the listing of a file goes on with each part, and that its text is the listing of the bytes handed over.
 -- Assumes nothing.
 use Prim.Native.Nat.{ℕ, ◌+◌, ◌-◌, ◌*◌, ◌/◌, ◌≤◌}
-use mathlib.Core.Path.{◌≡◌, refl, sym, ap, ap₂, ◌∙◌, subst, subst₂}
-use mathlib.Core.List.{List, [], ◌∷◌, ◌++◌, append-nil}
-use mathlib.Core.Bool.{Bool, true, false}
+use mathlib.Core.Path.{◌≡◌, refl, sym, ap, ap₂, ◌∙◌, subst}
+use mathlib.Core.List.{List, ◌++◌, append-nil}
+use mathlib.Core.Bool.{true, false}
 use native.Mathlib.Omega.{arith}
 use native.Mathlib.Nat.{mul-le-mul_left, mul-div_cancel}
 use lib.IntN.{ℤ, pos}
 use lib.ListN.{length, replicate, take, drop, get_or, length-append, length-drop, drop_of_length-le}
 use lib.Seq.{take_at}
-use Rattle.num_whole.specs.Tests.{same, pick}
 use Rattle.num_whole.specs.Answer.{Judged, good, bad}
 use Rattle.num_whole.proofs.Cases.{yes, holds, is_same, is_up_to}
 use Rattle.num_limits.specs.Capacities.{parameters_most, arc_sums_most, records_most}
@@ -19,7 +18,6 @@ use Rattle.byte_words.proofs.Words.{lay_front}
 use Rattle.byte_section.specs.Section.{and_then}
 use Rattle.byte_section.proofs.Walk.{by_judged}
 use Rattle.arc_heading.proofs.Sound.{sound}
-use Rattle.arc_heading.specs.declared.Heading.{Heading}
 use Rattle.arc_read.specs.Arc.{Arc, read_arc}
 use Rattle.arc_read.proofs.Accepted.{run_long}
 use Rattle.num_packed.specs.Triangle.{tri}
@@ -28,13 +26,12 @@ use Rattle.take_room.specs.Room.{cleared}
 use Rattle.take_state.specs.State.{State, state_of}
 use Rattle.take_laws.specs.Machine.{run, answers}
 use Rattle.take_laws.specs.Taking.{frame_of, record_answer, record_step, records_in}
-use Rattle.part_laws.specs.Beginning.{opened, size_of, done, left, read_at, opened_heading}
+use Rattle.part_laws.specs.Beginning.{opened, size_of, done, left, opened_heading}
 use Rattle.part_laws.specs.Feeding.{Position, begun, Fed, moved, handed, feed, finish, fed_on}
 use Rattle.part_laws.specs.OneGo.{emptied}
 use Rattle.num_packed.specs.Room.{sums_roomy}
-use Rattle.part_laws.specs.Entries.{position_most, position_of, held_of, tidy, fair, Told, took, stopped, broken, part_told, part_position, part_state, part_answers, told_form, told_end, begin_number, begin_state, finish_number, finish_told, heading_given}
+use Rattle.part_laws.specs.Entries.{position_of, held_of, tidy, fair, Told, took, stopped, broken, part_told, part_position, part_state, part_answers, told_form, told_end, begin_number, begin_state, finish_number, finish_told, heading_given}
 use Rattle.part_laws.specs.Sequence.{form_of}
-use Rattle.part_laws.specs.declared.Position as ByValue
 use Rattle.part_laws.proofs.ByValue.{position_back, held_tidy}
 use Rattle.part_laws.proofs.Cuts.{done_good, done_bad, heading_good, opened_left}
 use Rattle.part_laws.proofs.Front.{done_number, done_within}

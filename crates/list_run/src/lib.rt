@@ -1,5 +1,6 @@
 // Inner to `list` and the programs: the listing of an arc file as the file arrives, part by part. What is put is a function of the bytes handed over.
 #![tactic(auto)]
+
 ghost use Rattle.std.specs.Prelude.{◌≡◌, [], ◌≤◌, length};
 ghost use Rattle.num_limits.specs.Capacities.{arc_sums_most, parameters_most};
 ghost use Rattle.byte_section.specs.Told.{told_answer};

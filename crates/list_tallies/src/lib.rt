@@ -1,5 +1,6 @@
 // Inner to the listing: the table of what records were answered, kept as they are taken, and the lines of the refusals.
 #![tactic(auto)]
+
 ghost use Rattle.std.specs.Prelude.{◌≡◌, ◌+◌, ◌<◌, ◌^◌, length, get_or, set};
 ghost use Rattle.decimal.specs.Laid.{laid};
 ghost use Rattle.list_lines.specs.Lines.{tally_line, tally_lines};

@@ -1,5 +1,6 @@
 // Two normal files of either form merged: the bytes of the merged file, in the old form, into lent room, or the first refusal, which changes nothing.
 #![tactic(auto)]
+
 ghost use Rattle.std.specs.Prelude.{◌≡◌, ◌≤◌, length};
 ghost use Rattle.num_limits.specs.Capacities.{labels_most};
 ghost use Rattle.merge_laws.specs.Merge.{merge_number};

@@ -1,5 +1,6 @@
 // Inner to `merge_laws`: two ascending lists of numbers united, with the places of each number of the union in both.
 #![tactic(auto)]
+
 ghost use Rattle.std.specs.Prelude.{◌≡◌, true, ◌+◌, ◌≤◌, ◌<◌, length};
 ghost use Rattle.norm_labels.specs.Seats.{ascending};
 ghost use Rattle.merge_join.specs.Join.{Joins};

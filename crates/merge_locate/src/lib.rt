@@ -1,5 +1,6 @@
 // Inner to `merge_put`: where the labels whose sums one file stores stand among united ones, found once.
 #![tactic(auto)]
+
 ghost use Rattle.std.specs.Prelude.{◌≡◌, ◌+◌, ◌*◌, ◌≤◌, length};
 ghost use Rattle.byte_words.specs.Words.{lay};
 ghost use Rattle.merge_locate.specs.Locate.{stored_at, stored_for, numbers_where};

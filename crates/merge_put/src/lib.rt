@@ -1,5 +1,6 @@
 // Inner to `merge`: the arcs and labels of two normal files that were read, joined, and the merged file written into lent bytes.
 #![tactic(auto)]
+
 ghost use Rattle.std.specs.Prelude.{◌≡◌, ◌+◌, ◌*◌, ◌≤◌, length};
 ghost use Rattle.num_limits.specs.Capacities.{labels_most};
 ghost use Rattle.byte_words.specs.Words.{lay};

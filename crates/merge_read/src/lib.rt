@@ -1,5 +1,6 @@
 // Inner to the merging of normal files: labels read from a file's bytes, and those of two files compared.
 #![tactic(auto)]
+
 ghost use Rattle.std.specs.Prelude.{◌≡◌, ◌+◌, ◌*◌, ◌≤◌, length};
 ghost use Rattle.num_whole.specs.Tests.{below};
 ghost use Rattle.byte_words.specs.Words.{lay};

@@ -1,5 +1,6 @@
 // Inner to `merge_put`: the sums of two normal files, added column by column in lent room and written into lent bytes.
 #![tactic(auto)]
+
 ghost use Rattle.std.specs.Prelude.{◌≡◌, true, ℕ, ◌+◌, ◌*◌, ◌≤◌, ◌<◌, length, get_or};
 ghost use Rattle.std.specs.Int.{w64};
 ghost use Rattle.num_limits.specs.Capacities.{labels_most};

@@ -1,5 +1,6 @@
 // Inner to merging: the sums of one normal file, added into a target at the places that the target has for their labels.
 #![tactic(auto)]
+
 ghost use Rattle.std.specs.Prelude.{◌≡◌, true, ℕ, ◌+◌, ◌*◌, ◌^◌, ◌≤◌, ◌<◌, pos, ◌+ℤ◌, nat_abs, length, get_or, set};
 ghost use Rattle.num_limits.specs.Capacities.{labels_most};
 ghost use Rattle.num_whole.specs.Sums.{plus};

@@ -1,5 +1,6 @@
 // Inner to `norm_judge`: the arcs and labels of a system that stands in lent room, of any values, judged: 2, 4, 5.
 #![tactic(auto)]
+
 ghost use Rattle.std.specs.Prelude.{◌≡◌, true, ◌+◌, ◌*◌, ◌≤◌, length, take};
 ghost use Rattle.num_limits.specs.Capacities.{arcs_most, labels_most};
 ghost use Rattle.num_whole.specs.Lists.{all, ascend};

@@ -1,12 +1,12 @@
 -- A normal file that was read, in its own form: its fields and its stored sums are those of what it holds.
 -- Assumes nothing.
-use Prim.Native.Nat.{ℕ, ◌≤◌}
-use mathlib.Core.Path.{◌≡◌, refl, sym, ap, ap₂, ◌∙◌, subst}
-use mathlib.Core.List.{List, [], ◌∷◌}
-use mathlib.Core.Bool.{Bool, true, false, not}
+use Prim.Native.Nat.{ℕ}
+use mathlib.Core.Path.{◌≡◌, refl, sym, ap, ap₂, ◌∙◌}
+use mathlib.Core.List.{List, ◌∷◌}
+use mathlib.Core.Bool.{true, false, not}
 use native.Mathlib.Omega.{arith}
 use native.Mathlib.Nat.{le_refl}
-use Rattle.num_whole.specs.Tests.{same, pick, between}
+use Rattle.num_whole.specs.Tests.{same, between}
 use Rattle.num_whole.specs.Lists.{Each}
 use Rattle.num_whole.proofs.Cases.{yes, no, between_true, same_true, same_false, by_cases}
 use Rattle.num_packed.specs.Sound.{is_zero}
@@ -15,10 +15,10 @@ use Rattle.byte_section.proofs.Written.{each_of}
 use Rattle.norm_system.specs.System.{has}
 use Rattle.norm_system.proofs.Sound.{stored_sound}
 use Rattle.norm_labels.specs.Seats.{seat}
-use Rattle.norm_labels.specs.Labels.{keys_of, value, side, on_labels}
+use Rattle.norm_labels.specs.Labels.{keys_of, value, on_labels}
 use Rattle.norm_labels.proofs.Values.{within, value_there, value_no_row}
 use Rattle.norm_labels.proofs.On.{on_own, on_alike}
-use Rattle.norm_kinds.specs.Kinds.{Fielded, labels_in, fielded_key, field_ok, stored_of}
+use Rattle.norm_kinds.specs.Kinds.{Fielded, fielded_key, field_ok, stored_of}
 use Rattle.norm_kinds.specs.Bytes.{file_bytes}
 use Rattle.norm_read.specs.Normal.{Normal}
 use Rattle.norm_read.proofs.Stored.{stored_keys}

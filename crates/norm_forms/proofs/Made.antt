@@ -1,12 +1,12 @@
 -- A sound system as a file of either form stores it: the file is one that is accepted, and it holds the system.
 -- Assumes nothing.
-use Prim.Native.Nat.{ℕ, ◌+◌, ◌*◌, ◌^◌, ◌≤◌, ◌<◌}
-use mathlib.Core.Path.{◌≡◌, refl, sym, ap, ap₂, ◌∙◌, subst}
-use mathlib.Core.List.{List, [], ◌∷◌, map}
+use Prim.Native.Nat.{ℕ, ◌^◌, ◌≤◌, ◌<◌}
+use mathlib.Core.Path.{◌≡◌, refl, sym, ap, ◌∙◌, subst}
+use mathlib.Core.List.{List, ◌∷◌, map}
 use mathlib.Core.Bool.{Bool, true, false, not}
 use native.Mathlib.Omega.{arith}
 use native.Mathlib.Nat.{le_refl}
-use lib.IntN.{ℤ, pos, nat_abs}
+use lib.IntN.{pos}
 use lib.ListN.{length, get_or, length-map}
 use Rattle.num_whole.specs.Tests.{less, same, pick, both, either, between}
 use Rattle.num_whole.specs.Lists.{Each, all, ascend}

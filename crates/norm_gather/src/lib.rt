@@ -1,5 +1,6 @@
 // Inner to `norm_move`: a normal file that was read, written in a form into lent bytes.
 #![tactic(auto)]
+
 ghost use Rattle.std.specs.Prelude.{◌≡◌, ◌+◌, ◌*◌, ◌≤◌, ◌++◌, length};
 ghost use Rattle.num_limits.specs.Capacities.{arcs_most, labels_most};
 ghost use Rattle.byte_words.specs.Words.{lay};

@@ -1,6 +1,7 @@
 // The arcs and the labels of a normal file of either form, read and judged where they stand: how many of each, the form, how many labels have
 // their sums stored, and the place after them; or the first refusal and its place.
 #![tactic(auto)]
+
 ghost use Rattle.std.specs.Prelude.{◌≡◌, ◌+◌, ◌*◌, ◌≤◌, length, take};
 ghost use Rattle.num_limits.specs.Capacities.{arcs_most, labels_most};
 ghost use Rattle.num_whole.specs.Tests.{pick};

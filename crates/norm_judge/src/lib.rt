@@ -1,5 +1,6 @@
 // Inner to `norm_write`: a system that stands in three lent rooms, of any values, judged: 2, 4, 5, 6, and 20 for the rooms.
 #![tactic(auto)]
+
 ghost use Rattle.std.specs.Prelude.{◌≡◌, true, false, ◌+◌, ◌*◌, ◌≤◌, ◌^◌, pos, length};
 ghost use Rattle.num_limits.specs.Capacities.{arcs_most, labels_most};
 ghost use Rattle.refusal.specs.First.{answered};

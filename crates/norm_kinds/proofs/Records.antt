@@ -4,13 +4,13 @@
 use Prim.Native.Nat.{ℕ, ◌+◌, ◌-◌, ◌^◌, ◌≤◌, ◌<◌}
 use mathlib.Core.Path.{◌≡◌, refl, sym, ap, ◌∙◌}
 use mathlib.Core.List.{List, ◌++◌, append_assoc}
-use mathlib.Core.Bool.{Bool, true, false}
+use mathlib.Core.Bool.{Bool, true}
 use native.Mathlib.Omega.{arith}
 use lib.IntN.{ℤ}
 use lib.ListN.{length, take, drop, length-append}
 use mir.Syntax.{w64}
 use mir.Val.{SFits, to_z}
-use Rattle.num_whole.specs.Tests.{same, between, pick}
+use Rattle.num_whole.specs.Tests.{same, between}
 use Rattle.num_whole.specs.Lists.{all}
 use Rattle.num_whole.proofs.Cases.{yes, no, holds, same_true, between_true, by_cases}
 use Rattle.byte_words.specs.Words.{word, bytes_of, signed_word, signed_bytes}

@@ -1,5 +1,6 @@
 // Inner to the readers of normal files: one record of the arcs and of the labels, read and judged, with the definitions of a normal file's records.
 #![tactic(auto)]
+
 ghost use Rattle.std.specs.Prelude.{◌≡◌, ◌+◌, ◌*◌, ◌≤◌, length};
 ghost use Rattle.byte_words.specs.Stands.{stands};
 ghost use Rattle.norm_kinds.specs.Kinds.{arc_kind, normal_label_at, field_ok, fielded_at, fielded_kind, is_small_form, stored_of};

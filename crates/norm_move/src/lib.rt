@@ -1,6 +1,7 @@
 // A normal file moved to the small form, or back to the old one: its bytes in that form into lent room, or the first refusal with its place, which
 // changes nothing. 20 comes last.
 #![tactic(auto)]
+
 ghost use Rattle.std.specs.Prelude.{◌≡◌, true, false, length};
 ghost use Rattle.norm_read.specs.Normal.{read_normal, shown_normal, told_normal_read};
 ghost use Rattle.byte_section.specs.declared.ReadAnswer.TheVariants.{Read};

@@ -1,5 +1,6 @@
 // Inner to the writers of normal files: the bytes of a system that stands in three lent rooms, and the sections that a state's file shares.
 #![tactic(auto)]
+
 ghost use Rattle.std.specs.Prelude.{◌≡◌, ◌+◌, ◌*◌, ◌%◌, ◌≤◌, [], ◌++◌, length, take};
 ghost use Rattle.num_limits.specs.Capacities.{arcs_most, labels_most, sums_most};
 ghost use Rattle.byte_words.specs.Words.{bytes_of, lay};

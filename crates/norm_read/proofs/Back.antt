@@ -1,8 +1,8 @@
 -- The old form is 01's: a sound system written by 01 reads back, and an accepted file of the old form is written again by 01 to the same bytes.
 -- Assumes nothing.
-use Prim.Native.Nat.{ℕ, ◌+◌, ◌*◌, ◌≤◌, ◌<◌}
+use Prim.Native.Nat.{ℕ, ◌+◌, ◌*◌, ◌≤◌}
 use mathlib.Core.Path.{◌≡◌, refl, sym, ap, ap₂, ◌∙◌, subst}
-use mathlib.Core.List.{List, [], ◌∷◌, ◌++◌, map}
+use mathlib.Core.List.{List, ◌∷◌, ◌++◌, map}
 use mathlib.Core.Bool.{Bool, true, false}
 use native.Mathlib.Omega.{arith}
 use native.Mathlib.Nat.{mul-le-mul}
@@ -29,7 +29,7 @@ use Rattle.norm_kinds.specs.Kinds.{arc_number_bytes, normal_label_bytes, Fielded
 use Rattle.norm_kinds.specs.Bytes.{sectioned, normal_bytes, file_bytes}
 use Rattle.norm_kinds.proofs.Long.{length_normal}
 use Rattle.norm_kinds.proofs.Stored.{stored_on}
-use Rattle.norm_read.specs.Normal.{Normal, normal_from, read_normal}
+use Rattle.norm_read.specs.Normal.{Normal, read_normal}
 use Rattle.norm_read.proofs.Sections.{SoundNormal, accepted_normal}
 use Rattle.norm_read.proofs.Forth.{read_written}
 use Rattle.norm_read.proofs.Held.{stored_formed}

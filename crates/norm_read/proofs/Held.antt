@@ -1,14 +1,14 @@
 -- What a normal file of either form that was read holds: at any labels what it stores, and so a sound system.
 -- Assumes nothing.
-use Prim.Native.Nat.{ℕ, ◌^◌, ◌≤◌}
+use Prim.Native.Nat.{ℕ, ◌≤◌}
 use mathlib.Core.Path.{◌≡◌, refl, sym, ap, ◌∙◌, subst}
-use mathlib.Core.List.{List, [], ◌∷◌, map}
+use mathlib.Core.List.{List, ◌∷◌, map}
 use mathlib.Core.Bool.{Bool, true, false}
 use native.Mathlib.Omega.{arith}
-use lib.IntN.{ℤ, pos, nat_abs}
+use lib.IntN.{pos, nat_abs}
 use lib.ListN.{length, length-map}
 use Rattle.num_whole.specs.Tests.{both}
-use Rattle.num_whole.specs.Lists.{Each, all}
+use Rattle.num_whole.specs.Lists.{all}
 use Rattle.norm_system.specs.System.{System, has, key_of, normal_label_ok}
 use Rattle.norm_system.specs.declared.NormalLabel.{NormalLabel}
 use Rattle.norm_system.proofs.Sound.{stored_sound, SoundSystem}

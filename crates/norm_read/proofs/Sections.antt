@@ -1,9 +1,9 @@
 -- What a normal file of either form that was read is, section by section; and what that makes of it apart from its bytes.
 -- Assumes nothing.
-use Prim.Native.Nat.{ℕ, ◌+◌, ◌*◌, ◌≤◌}
+use Prim.Native.Nat.{ℕ, ◌+◌, ◌≤◌}
 use mathlib.Core.Path.{◌≡◌, refl, sym, ap, ◌∙◌, subst}
 use mathlib.Core.List.{List}
-use mathlib.Core.Bool.{Bool, true}
+use mathlib.Core.Bool.{true}
 use native.Mathlib.Omega.{arith}
 use lib.IntN.{ℤ}
 use lib.ListN.{length, get_or}
@@ -19,7 +19,7 @@ use Rattle.byte_section.specs.Section.{Kind, Run, section_at, closed}
 use Rattle.byte_section.proofs.Walk.{good_same, not_bad, pick_read, then_read}
 use Rattle.byte_section.proofs.Read.{section_read, records_each, records_all, records_ascend}
 use Rattle.num_packed.specs.Triangle.{tri}
-use Rattle.norm_system.specs.System.{System, arc_ok, normal_label_ok, Where, nowhere, in_matrix, in_rights, in_accepted, in_square, unsound_stored}
+use Rattle.norm_system.specs.System.{arc_ok, normal_label_ok, Where, nowhere, in_matrix, in_rights, in_accepted, in_square, unsound_stored}
 use Rattle.norm_labels.specs.Labels.{on_labels}
 use Rattle.norm_kinds.specs.Kinds.{arc_kind, normal_label_at, Fielded, labels_in, fielded_key, fielded_at, field_ok, fielded_at_ok, fielded_kind, is_small_form, stored_of, sum_kind, Totals, no_totals, totals_kind}
 use Rattle.norm_read.specs.Normal.{Normal, system_from, normal_from, exactly, at_where, soundly, read_normal}

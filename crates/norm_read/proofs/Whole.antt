@@ -1,9 +1,9 @@
 -- A normal file of either form that was written of what it stores reads back; and how long it is.
 -- Assumes nothing.
 use Prim.Native.Nat.{ℕ, suc, ◌+◌, ◌*◌, ◌^◌, ◌≤◌, ◌<◌, zero-le, suc-le-suc}
-use mathlib.Core.Path.{◌≡◌, refl, sym, ap, ◌∙◌, subst}
-use mathlib.Core.List.{List, [], ◌∷◌, ◌++◌, append_assoc, append-nil}
-use mathlib.Core.Bool.{Bool, true, false, not}
+use mathlib.Core.Path.{◌≡◌, refl, sym, ap, ◌∙◌}
+use mathlib.Core.List.{List, ◌∷◌, ◌++◌, append_assoc, append-nil}
+use mathlib.Core.Bool.{Bool, true, not}
 use native.Mathlib.Omega.{arith}
 use native.Mathlib.Nat.{le_refl, mul-le-mul}
 use lib.IntN.{pos}
@@ -11,9 +11,9 @@ use lib.ListN.{length, get_or, length-append}
 use mir.Syntax.{w64}
 use mir.Val.{SFits}
 use Rattle.num_whole.specs.Answer.{good}
-use Rattle.num_whole.specs.Tests.{same, pick, between}
+use Rattle.num_whole.specs.Tests.{same, between}
 use Rattle.num_whole.specs.Lists.{all, Each}
-use Rattle.num_whole.proofs.Cases.{yes, no, not_less, is_same, not_same, same_true, between_true, by_cases}
+use Rattle.num_whole.proofs.Cases.{yes, no, not_less, not_same, between_true, by_cases}
 use Rattle.byte_words.specs.Words.{word, bytes_of}
 use Rattle.byte_words.proofs.Words.{length_bytes_of}
 use Rattle.byte_section.specs.Section.{Kind, section_at, closed, encoded}

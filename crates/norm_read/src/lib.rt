@@ -1,6 +1,7 @@
 // The normal file of either form, read: for every list of bytes the numbers of arcs and parameters, the form, and where the sums stand, or the
 // first refusal and its place. Nothing is unpacked: labels are judged and sums are walked over where they stand.
 #![tactic(auto)]
+
 ghost use Rattle.std.specs.Prelude.{◌≡◌, ◌+◌, ◌≤◌, length};
 ghost use Rattle.num_limits.specs.Capacities.{arcs_most, labels_most};
 ghost use Rattle.refusal.specs.Number.{number_of};

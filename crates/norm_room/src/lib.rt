@@ -1,5 +1,6 @@
 // Inner to the readers and writers of normal files: the length of a file, and whether a system's three lent rooms are long enough.
 #![tactic(auto)]
+
 ghost use Rattle.std.specs.Prelude.{◌≡◌, ◌+◌, ◌*◌, ◌≤◌};
 ghost use Rattle.num_limits.specs.Capacities.{arcs_most, labels_most};
 ghost use Rattle.num_packed.specs.Room.{sums_roomy};

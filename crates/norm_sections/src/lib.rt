@@ -1,5 +1,6 @@
 // Inner to `norm_read`: the sections of a normal file's sums, read by their counts and lengths.
 #![tactic(auto)]
+
 ghost use Rattle.std.specs.Prelude.{◌≡◌, ◌≤◌};
 ghost use Rattle.num_limits.specs.Capacities.{labels_most, sums_most};
 ghost use Rattle.num_packed.specs.Triangle.{tri};

@@ -2,16 +2,16 @@
 -- Assumes nothing.
 use Prim.Native.Nat.{ℕ, zero, suc, ◌+◌, ◌-◌, ◌*◌, ◌≤◌, ◌<◌}
 use mathlib.Core.Path.{◌≡◌, refl, sym, ap, ap₂, ◌∙◌, subst}
-use mathlib.Core.List.{List, [], ◌∷◌, map}
+use mathlib.Core.List.{List, ◌∷◌, map}
 use mathlib.Core.Bool.{Bool, true, false}
 use native.Mathlib.Omega.{arith}
 use native.Mathlib.Nat.{not-suc-le-zero, le_of_suc-le-suc, le_refl, add-zero}
-use lib.IntN.{ℤ, pos}
+use lib.IntN.{pos}
 use lib.ListN.{length, get_or, take, length-map, get_or-eq_default}
 use mir.Syntax.{w64}
 use Rattle.num_whole.specs.Tests.{same, pick}
 use Rattle.num_whole.proofs.Cases.{yes, no, by_cases}
-use Rattle.byte_words.specs.Words.{word, signed_word}
+use Rattle.byte_words.specs.Words.{signed_word}
 use Rattle.byte_words.specs.Stands.{stands}
 use Rattle.byte_words.proofs.Stands.{length_stands, stands_at}
 use Rattle.num_packed.specs.Triangle.{tri}
@@ -24,7 +24,7 @@ use Rattle.norm_labels.proofs.Ascending.{Asc}
 use Rattle.norm_labels.proofs.Seats.{seat_first, seat_later, seat_below}
 use Rattle.norm_labels.proofs.Values.{sum_there, sum_below, sum_past}
 use Rattle.norm_labels.proofs.Tables.{rows_alike, columns_alike, rows_map}
-use Rattle.norm_kinds.specs.Kinds.{normal_label_at, Fielded, labels_in, fielded_key, fielded_at, stored_of}
+use Rattle.norm_kinds.specs.Kinds.{Fielded, labels_in, fielded_key, fielded_at, stored_of}
 use Rattle.norm_kinds.proofs.Stored.{stored_off, stored_on}
 use Rattle.norm_read.proofs.Stored.{all_keys, stored_keys, stored_asc}
 use Rattle.norm_spread.specs.Spread.{stored_before, unless_two, field_at, spread_row_at, spread_column_at}

@@ -1,5 +1,6 @@
 // Inner to unpacking: the stored sums of a normal file of either form, put into lent room for all its labels, 0 for those that have none stored.
 #![tactic(auto)]
+
 ghost use Rattle.std.specs.Prelude.{◌≡◌, ◌+◌, ◌*◌, ◌≤◌, pos, length};
 ghost use Rattle.std.proofs.lemmas.List.Edits.{sets};
 ghost use Rattle.std.specs.Int.{w64};

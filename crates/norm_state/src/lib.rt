@@ -1,5 +1,6 @@
 // The normal file of a state: what the one arc of a heading has summed, as the bytes of a normal file, or a refusal that changes nothing.
 #![tactic(auto)]
+
 ghost use Rattle.std.specs.Prelude.{◌≡◌, [], map, ◌+◌, ◌*◌, ◌≤◌, length};
 ghost use Rattle.num_limits.specs.Capacities.{parameters_most};
 ghost use Rattle.byte_words.specs.Words.{lay};

@@ -1,5 +1,6 @@
 // A label of a normal file by value: its limits and its key; and the limits of an arc.
 #![tactic(auto)]
+
 ghost use Rattle.std.specs.Prelude.{◌≡◌, ◌+◌, ◌*◌, ◌<◌, ◌^◌};
 ghost use Rattle.norm_system.specs.System.{arc_ok, has, arc_listed, normal_label_ok, key_of};
 

@@ -1,5 +1,6 @@
 // Inner to the readers and writers of normal files: the bound of a sum for so many arcs, and the two totals judged.
 #![tactic(auto)]
+
 ghost use Rattle.std.specs.Prelude.{◌≡◌, ◌≤◌, ◌^◌};
 ghost use Rattle.num_limits.specs.Capacities.{arcs_most};
 ghost use Rattle.norm_system.specs.System.{bound_of, totals_where};

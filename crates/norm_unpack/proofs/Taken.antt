@@ -2,7 +2,7 @@
 -- Assumes nothing.
 use Prim.Native.Nat.{ℕ, ◌+◌, ◌*◌, ◌≤◌}
 use mathlib.Core.Path.{◌≡◌, refl, sym, ap, ap₂, ◌∙◌}
-use mathlib.Core.List.{List, [], ◌∷◌, ◌++◌}
+use mathlib.Core.List.{List, ◌∷◌, ◌++◌}
 use mathlib.Core.Bool.{Bool, true, false}
 use native.Mathlib.Omega.{arith}
 use lib.IntN.{ℤ}
@@ -19,13 +19,12 @@ use Rattle.refusal.specs.Number.{number_of}
 use Rattle.refusal.specs.declared.Refusal.{Refusal}
 use Rattle.num_packed.specs.Triangle.{tri}
 use Rattle.norm_system.specs.System.{System}
-use Rattle.byte_words.specs.Stands.{stands}
 use Rattle.norm_sum.specs.Sums.{sums_at}
 use Rattle.byte_words.proofs.Stands.{length_stands}
 use Rattle.byte_section.specs.Section.{encoded}
 use Rattle.norm_labels.specs.Table.{rows_of, columns_of}
 use Rattle.norm_labels.specs.Labels.{on_labels}
-use Rattle.norm_kinds.specs.Kinds.{normal_label_at, labels_in, fielded_at, stored_of}
+use Rattle.norm_kinds.specs.Kinds.{labels_in, fielded_at, stored_of}
 use Rattle.norm_read.specs.Normal.{Normal, read_normal, shown_normal, told_normal_read}
 use Rattle.byte_section.specs.Told.{told_answer}
 use Rattle.norm_read.specs.declared.NormalRead.{NormalRead}

@@ -1,6 +1,7 @@
 // A normal file of either form unpacked into three lent rooms, one element a value: the heads (arcs, labels, totals), the matrix sums, the right
 // sides. 20 comes last, and a refusal changes nothing lent.
 #![tactic(auto)]
+
 ghost use Rattle.std.specs.Prelude.{◌≡◌, false, ◌+◌, ◌*◌, ◌≤◌, length};
 ghost use Rattle.std.proofs.lemmas.List.Edits.{sets};
 ghost use Rattle.num_limits.specs.Capacities.{labels_most};

@@ -1,5 +1,6 @@
 // Inner to the readers and writers of normal files: the first unsound sum, found by a walk over the file's bytes; nothing is unpacked.
 #![tactic(auto)]
+
 ghost use Rattle.std.specs.Prelude.{◌≡◌, ◌+◌, ◌*◌, ◌≤◌, ◌<◌, ◌^◌, pos, length};
 ghost use Rattle.num_limits.specs.Capacities.{arcs_most, labels_most};
 ghost use Rattle.num_packed.specs.Triangle.{tri};

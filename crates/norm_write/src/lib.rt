@@ -1,5 +1,6 @@
 // The normal file, written: the bytes of a system that stands in three lent rooms, or a refusal that changes nothing.
 #![tactic(auto)]
+
 ghost use Rattle.std.specs.Prelude.{◌≡◌, length};
 ghost use Rattle.norm_write.specs.Write.{write_normal, normal_left_in};
 ghost use Rattle.byte_section.specs.Told.{told_write};

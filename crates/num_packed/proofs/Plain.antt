@@ -10,7 +10,6 @@ use borrow.Author.Tests.{ltb-true, ltb-false, le-ltb, le-leb, lt-leb, ne_eqb, eq
 use lib.Dec.{eqb, ltb, leb}
 use lib.IntN.{ℤ, pos, negsuc, neg_ℤ}
 use lib.Signed.{lt_z, le_z}
-use lib.ListN.{get_or}
 use Rattle.num_whole.specs.Tests.{below}
 use Rattle.num_whole.proofs.Cases.{apart, by_cases, holds}
 use Rattle.num_whole.proofs.Tables.{below_at}

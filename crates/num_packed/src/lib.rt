@@ -1,5 +1,6 @@
 // Inner to states and normal files: places in the packed triangle, and the first sum that is not sound.
 #![tactic(auto)]
+
 ghost use Rattle.std.specs.Prelude.{◌≡◌, ◌+◌, ◌*◌, ◌≤◌, ◌<◌, pos, length, true, false, ◌≤ℤ◌};
 ghost use Rattle.num_whole.specs.Tests.{below};
 ghost use Rattle.num_limits.specs.Capacities.{labels_most, sums_most};

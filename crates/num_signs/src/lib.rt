@@ -1,5 +1,6 @@
 // Signed numbers and their bits in two's complement, of sixteen, thirty-two and sixty-four bits.
 #![tactic(auto)]
+
 ghost use Rattle.std.specs.Prelude.{◌≡◌, nat_abs};
 ghost use Rattle.std.specs.Int.{w16, w32, w64};
 ghost use Rattle.std.proofs.Common.{to_z, of_z};

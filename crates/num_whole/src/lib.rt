@@ -1,5 +1,6 @@
 // Whole numbers, tests and lists: what every later crate's definitions and proofs stand on. Nearly all of it is in specs/ and proofs/.
 #![tactic(auto)]
+
 ghost use Rattle.std.specs.Prelude.{◌≡◌, min};
 ghost use Rattle.num_whole.specs.Tests.{between};
 

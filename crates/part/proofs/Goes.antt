@@ -1,18 +1,18 @@
 -- A part that nothing but the file's form refuses: what it completes, takes and leaves.
 -- Assumes nothing.
-use Prim.Native.Nat.{ℕ, ◌+◌, ◌-◌, ◌*◌, ◌/◌, ◌≤◌, ◌<◌, min}
+use Prim.Native.Nat.{ℕ, ◌+◌, ◌-◌, ◌*◌, ◌/◌, ◌≤◌, min}
 use mathlib.Core.Path.{◌≡◌, refl, sym, ap, ap₂, ◌∙◌, subst}
-use mathlib.Core.List.{List, [], ◌∷◌, ◌++◌}
-use mathlib.Core.Bool.{Bool, true, false}
+use mathlib.Core.List.{List, ◌++◌}
+use mathlib.Core.Bool.{true, false}
 use native.Mathlib.Omega.{arith}
 use native.Mathlib.Nat.{add-zero}
 use lib.IntN.{ℤ}
 use lib.ListN.{length, take, replicate, length-append, length-take}
 use lib.Seq.{take_at, take-take, take_all}
-use Rattle.num_whole.specs.Tests.{less, same, pick}
+use Rattle.num_whole.specs.Tests.{less, same}
 use Rattle.num_whole.specs.Lists.{padded}
 use Rattle.num_whole.specs.Answer.{Judged, good, bad, given}
-use Rattle.num_whole.proofs.Cases.{yes, no, by_cases, is_same, same_true, both_first, both_second, less_true, less_false}
+use Rattle.num_whole.proofs.Cases.{yes, no, by_cases, is_same, same_true, both_second, less_true, less_false}
 use Rattle.num_whole.proofs.Padded.{length_padded}
 use Rattle.num_limits.specs.Capacities.{parameters_most, stations_most}
 use Rattle.num_packed.specs.Triangle.{tri}
@@ -22,30 +22,28 @@ use Rattle.byte_section.proofs.Walk.{not_bad, by_judged, good_same}
 use Rattle.arc_kinds.specs.Kinds.{record_size}
 use Rattle.arc_heading.specs.Judge.{judged}
 use Rattle.arc_heading.specs.declared.Heading.{Heading}
-use Rattle.arc_heading.proofs.Sound.{Sound, sound}
+use Rattle.arc_heading.proofs.Sound.{sound}
 use Rattle.arc_read.specs.Arc.{Arc}
 use Rattle.take_state.specs.State.{State, room_number, state_number}
 use Rattle.take_laws.specs.Machine.{run, answers}
 use Rattle.take_laws.specs.Taking.{frame_of, record_answer, record_step}
-use Rattle.take_laws.proofs.Guarded.{Held, roomy_by}
+use Rattle.take_laws.proofs.Guarded.{roomy_by}
 use Rattle.part_laws.specs.Beginning.{opened, size_of, done, left, read_at, opened_heading}
-use Rattle.part_laws.specs.Feeding.{Position, ended, so_far, moved, Fed, feed, handed}
-use Rattle.part_laws.specs.Entries.{position_most, position_of, held_of, placed, led, fair, sound_at, parameters_in, part_number, part_position, part_state, part_answers, part_told, told_form}
+use Rattle.part_laws.specs.Feeding.{Position, so_far, moved, feed, handed}
+use Rattle.part_laws.specs.Entries.{position_most, position_of, held_of, placed, led, fair, parameters_in, part_number, part_position, part_state, part_answers, part_told, told_form}
 use Rattle.part_laws.specs.declared.Position as ByValue
-use Rattle.part_laws.proofs.Opened.{opened_stays, opened_of, opened_within}
-use Rattle.part_laws.proofs.Cuts.{done_bad, left_bad, read_bad, heading_good}
+use Rattle.part_laws.proofs.Opened.{opened_stays, opened_of}
+use Rattle.part_laws.proofs.Cuts.{done_bad, left_bad, read_bad}
 use Rattle.part_laws.proofs.Feeding.{not_over}
-use Rattle.part_laws.proofs.OneGo.{opened_sound, tri_up}
+use Rattle.part_laws.proofs.OneGo.{opened_sound}
 use Rattle.part_laws.proofs.Six.{placed_amid, taken_few}
 use Rattle.part_laws.proofs.Front.{opened_start, opened_short, opened_front, done_number, done_within}
-use Rattle.part_laws.proofs.States.{Fit, held, parameters_opened, parameters_most_lem}
+use Rattle.part_laws.proofs.States.{Fit, held, parameters_opened}
 use Rattle.part_laws.proofs.Over.{feed_moved}
-use Rattle.part_open.specs.Told.{told_opening}
-use Rattle.part_open.specs.declared.Opening.{Opening}
 use Rattle.part_place.specs.Looks.{completed_by, FrontOf, RoomAt}
 use Rattle.part_place.specs.declared.Front.{Front}
 use Rattle.part_take.specs.Ready.{beginning, Ready}
-use Rattle.part.specs.Going.{grown, Going}
+use Rattle.part.specs.Going.{grown}
 use Rattle.part.proofs.Stops.{Fine, fine, Outcome}
 
 -- ---- how many records are whole

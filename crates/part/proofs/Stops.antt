@@ -1,31 +1,29 @@
 -- What a part answers and leaves where nothing but the file's form is wrong, and where something else is; the same of finish, begin and the heading.
 -- Assumes nothing.
 use Prim.Native.Nat.{ℕ, ◌+◌, ◌≤◌, ◌<◌, min}
-use mathlib.Core.Path.{◌≡◌, refl, sym, ap, ap₂, ◌∙◌}
-use mathlib.Core.List.{List, [], ◌∷◌, ◌++◌}
-use mathlib.Core.Bool.{Bool, true, false}
+use mathlib.Core.Path.{◌≡◌, refl, sym, ap, ◌∙◌}
+use mathlib.Core.List.{List, ◌∷◌, ◌++◌}
+use mathlib.Core.Bool.{true, false}
 use native.Mathlib.Omega.{arith}
 use lib.IntN.{ℤ}
 use lib.ListN.{length}
-use Rattle.num_whole.specs.Tests.{same, pick, both}
-use Rattle.num_whole.specs.Answer.{Judged, good, bad, given, refused}
+use Rattle.num_whole.specs.Tests.{same, both}
+use Rattle.num_whole.specs.Answer.{Judged, given, refused}
 use Rattle.num_whole.proofs.Cases.{yes, no, is_same, not_same, is_up_to, not_up_to, up_to_true, both_first, both_second}
 use Rattle.num_limits.specs.Capacities.{parameters_most}
 use Rattle.num_packed.specs.Triangle.{tri}
 use Rattle.refusal.specs.First.{unless, first, answered}
 use Rattle.refusal.specs.declared.Refusal.TheVariants.{Room}
 use Rattle.refusal.proofs.Firsts.{first_pass, first_stop, first_one, first_none, when_true, when_false, when_none, unless_true, unless_false, unless_none, answered_given, answered_by}
-use Rattle.byte_words.specs.Words.{lay}
-use Rattle.arc_heading.specs.declared.Heading.{Heading}
 use Rattle.arc_front.specs.Front.{blank_heading}
 use Rattle.arc_read.specs.Arc.{Arc}
 use Rattle.take_tally.specs.Tally.{empty_tally}
 use Rattle.take_state.specs.State.{State, state_of}
 use Rattle.part_laws.specs.Beginning.{opened, done, read_at, heading_by, opened_heading}
-use Rattle.part_laws.specs.Feeding.{Position, feed, finish, closing}
+use Rattle.part_laws.specs.Feeding.{Position, finish, closing}
 use Rattle.part_laws.specs.OneGo.{emptied}
 use Rattle.num_packed.specs.Room.{sums_roomy}
-use Rattle.part_laws.specs.Entries.{position_of, held_of, fair, sound_at, parameters_in, Told, took, stopped, broken, begin_number, begin_state, part_number, part_position, part_state, part_answers, part_told, told_end, finish_number, finish_told, finish_position, heading_told, heading_given}
+use Rattle.part_laws.specs.Entries.{position_of, held_of, fair, sound_at, parameters_in, Told, stopped, begin_number, begin_state, part_number, part_position, part_state, part_answers, part_told, told_end, finish_number, finish_told, finish_position, heading_told, heading_given}
 use Rattle.part_laws.specs.declared.Position as ByValue
 
 -- ---- the room, as the code asks for it

@@ -6,7 +6,7 @@ use Rattle.num_limits.specs.Capacities.{parameters_most, records_most}
 use Rattle.take_state.specs.State.{State}
 use Rattle.part_laws.specs.Beginning.{opened, done}
 use Rattle.part_laws.specs.Feeding.{ended}
-use Rattle.part_laws.specs.Entries.{position_most, position_of, held_of, part_number}
+use Rattle.part_laws.specs.Entries.{position_of, held_of, part_number}
 use Rattle.part_laws.specs.declared.Position as ByValue
 use Rattle.part_open.specs.Told.{told_opening}
 use Rattle.part_open.specs.declared.Opening.{Opening}

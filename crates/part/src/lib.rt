@@ -1,5 +1,6 @@
 // An arc file handed over in parts, cut anywhere: begin, a part, finish, and the heading of what was handed over so far.
 #![tactic(auto)]
+
 ghost use Rattle.std.specs.Prelude.{◌≡◌, ◌≤◌, length};
 ghost use Rattle.num_whole.specs.Tests.{both};
 ghost use Rattle.num_whole.specs.Answer.{bad};

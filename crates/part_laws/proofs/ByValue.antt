@@ -1,13 +1,13 @@
 -- The position by value: a position's bytes with zeros after them, and back.
 -- Assumes nothing.
-use Prim.Native.Nat.{ℕ, zero, suc, ◌+◌, ◌-◌, ◌≤◌, ◌<◌}
+use Prim.Native.Nat.{ℕ, zero, suc, ◌+◌, ◌-◌, ◌≤◌}
 use mathlib.Core.Path.{◌≡◌, refl, sym, ap, ap₂, ◌∙◌}
-use mathlib.Core.List.{List, [], ◌∷◌, ◌++◌}
-use mathlib.Core.Bool.{Bool, true, false}
+use mathlib.Core.List.{List, ◌∷◌, ◌++◌}
+use mathlib.Core.Bool.{Bool, true}
 use native.Mathlib.Omega.{arith}
-use lib.ListN.{length, take, drop, replicate, length-replicate, length-drop, take-append-drop}
+use lib.ListN.{length, take, drop, replicate, length-drop, take-append-drop}
 use lib.Seq.{take_at, drop_at, take_all, length-take-le}
-use Rattle.num_whole.specs.Tests.{same, both}
+use Rattle.num_whole.specs.Tests.{same}
 use Rattle.num_whole.specs.Lists.{all, rest, padded}
 use Rattle.num_whole.proofs.Cases.{holds, is_same, is_up_to, same_true, up_to_true, both_first, both_second}
 use Rattle.num_whole.proofs.Padded.{length_padded}

@@ -1,21 +1,19 @@
 -- Cuts don't matter: a part and then another is both of them as one.
 -- Assumes nothing.
-use Prim.Native.Nat.{ℕ, zero, suc, ◌+◌, ◌-◌, ◌*◌, ◌≤◌, ◌<◌}
+use Prim.Native.Nat.{ℕ, ◌+◌, ◌-◌, ◌*◌, ◌≤◌, ◌<◌}
 use mathlib.Core.Path.{◌≡◌, refl, sym, ap, ap₂, ◌∙◌}
-use mathlib.Core.List.{List, [], ◌∷◌, ◌++◌, append_assoc, append-nil}
-use mathlib.Core.Bool.{true, false}
+use mathlib.Core.List.{List, ◌++◌, append_assoc, append-nil}
 use native.Mathlib.Omega.{arith}
 use native.Mathlib.Nat.{add-mul, add-zero, zero-mul}
-use lib.ListN.{length, get_or, take, drop, length-append, length-drop}
+use lib.ListN.{length, take, drop, length-append, length-drop}
 use lib.Seq.{length-take-le, take-append-le, drop-append-le, take_at, drop_at}
-use Rattle.num_whole.specs.Tests.{less, pick}
+use Rattle.num_whole.specs.Tests.{less}
 use Rattle.num_whole.specs.Answer.{Judged, good, bad}
 use Rattle.num_whole.proofs.Cases.{yes, no, by_cases, is_less, not_less, less_true, less_false}
-use Rattle.byte_section.specs.Section.{and_then}
 use Rattle.byte_section.proofs.Walk.{not_bad, by_judged, then_good, then_bad}
 use Rattle.take_laws.proofs.Runs.{length_cut}
 use Rattle.arc_heading.specs.declared.Heading.{Heading}
-use Rattle.arc_read.specs.Arc.{Arc, read_arc}
+use Rattle.arc_read.specs.Arc.{Arc}
 use Rattle.part_laws.specs.Beginning.{opened, size_of, ends_at, closed_at, whole, behind, done_by, left_by, done, left, read_at, heading_by, opened_heading}
 use Rattle.part_laws.proofs.Runs.{more, whole_long, whole_cut}
 use Rattle.part_laws.proofs.Opened.{opened_stays, opened_within, opened_again}

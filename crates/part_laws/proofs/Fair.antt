@@ -1,14 +1,14 @@
 -- 6 of positions, the other way: what begin, a part and finish give is never refused.
 -- Assumes nothing.
 use Prim.Native.Nat.{ℕ, ◌≤◌}
-use mathlib.Core.Path.{◌≡◌, refl, sym, ap, ◌∙◌, subst}
-use mathlib.Core.List.{List, []}
-use mathlib.Core.Bool.{Bool, true, false}
+use mathlib.Core.Path.{◌≡◌, refl, sym, ap, ◌∙◌}
+use mathlib.Core.List.{List}
+use mathlib.Core.Bool.{true, false}
 use native.Mathlib.Omega.{arith}
 use lib.ListN.{length}
-use Rattle.num_whole.specs.Tests.{same, pick, both}
+use Rattle.num_whole.specs.Tests.{same, both}
 use Rattle.num_whole.specs.Answer.{Judged, good, bad}
-use Rattle.num_whole.proofs.Cases.{yes, no, by_cases, holds, is_same, same_true, both_first, both_second}
+use Rattle.num_whole.proofs.Cases.{yes, no, by_cases, holds, same_true, both_first, both_second}
 use Rattle.refusal.proofs.Firsts.{first_none, when_none}
 use Rattle.byte_section.proofs.Walk.{by_judged}
 use Rattle.arc_read.specs.Arc.{Arc}

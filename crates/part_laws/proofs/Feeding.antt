@@ -1,27 +1,25 @@
 -- The laws of files handed over in parts: cuts don't matter, one go, bad form, 28.
 -- Assumes nothing.
-use Prim.Native.Nat.{ℕ, zero, suc, ◌+◌, ◌-◌, ◌*◌, ◌≤◌, ◌<◌}
+use Prim.Native.Nat.{ℕ, ◌+◌, ◌-◌}
 use mathlib.Core.Path.{◌≡◌, refl, sym, ap, ap₂, ◌∙◌}
-use mathlib.Core.List.{List, [], ◌∷◌, ◌++◌, append_assoc, append-nil}
-use mathlib.Core.Bool.{Bool, true, false}
+use mathlib.Core.List.{List, ◌∷◌, ◌++◌, append_assoc, append-nil}
+use mathlib.Core.Bool.{true, false}
 use native.Mathlib.Omega.{arith}
-use native.Mathlib.Nat.{add_assoc}
 use lib.ListN.{length, length-append}
-use Rattle.num_whole.specs.Tests.{less, same, pick}
+use Rattle.num_whole.specs.Tests.{same, pick}
 use Rattle.num_whole.specs.Answer.{Judged, good, bad}
-use Rattle.num_whole.proofs.Cases.{yes, no, by_cases, same_true, same_false, is_same, not_same}
+use Rattle.num_whole.proofs.Cases.{yes, no, by_cases, same_false}
 use Rattle.byte_section.specs.Section.{and_then}
-use Rattle.byte_section.proofs.Walk.{not_bad, by_judged, then_good, then_bad}
+use Rattle.byte_section.proofs.Walk.{not_bad, by_judged}
 use Rattle.arc_heading.specs.declared.Heading.{Heading}
-use Rattle.arc_read.specs.Arc.{Arc, read_arc}
 use Rattle.take_state.specs.State.{State}
 use Rattle.take_laws.specs.Machine.{run, answers}
 use Rattle.take_laws.specs.Taking.{frame_of, record_answer, record_step}
 use Rattle.take_laws.proofs.Trace.{run_append}
 use Rattle.take_laws.proofs.Appended.{answers_append}
-use Rattle.part_laws.specs.Beginning.{opened, closed_at, done, left, read_at, opened_heading}
-use Rattle.part_laws.specs.Feeding.{Position, begun, ended, so_far, moved, Fed, handed, feed, finish, fed_on, concat, feeds}
-use Rattle.part_laws.proofs.Cuts.{After, after, before, refusal_closes}
+use Rattle.part_laws.specs.Beginning.{done, left, read_at, opened_heading}
+use Rattle.part_laws.specs.Feeding.{Position, so_far, moved, Fed, handed, feed, fed_on, concat, feeds}
+use Rattle.part_laws.proofs.Cuts.{after, before, refusal_closes}
 
 -- ---- what is said of the form so far
 module _ {A : Type 0} where

@@ -2,20 +2,17 @@
 -- Assumes nothing.
 use Prim.Native.Nat.{ℕ, zero, suc, ◌+◌, ◌-◌, ◌*◌, ◌/◌, ◌≤◌, ◌<◌, min}
 use mathlib.Core.Path.{◌≡◌, refl, sym, ap, ap₂, ◌∙◌, subst}
-use mathlib.Core.List.{List, [], ◌∷◌, ◌++◌}
-use mathlib.Core.Bool.{Bool, true, false}
+use mathlib.Core.List.{List, ◌∷◌, ◌++◌}
 use native.Mathlib.Omega.{arith}
 use native.Mathlib.Nat.{suc-add, zero-add, suc-mul, zero-mul, div-eq_of_lt, add-div_right}
 use lib.ListN.{length, take, drop, length-drop, take-append-drop}
 use lib.Seq.{length-take-le, take_all, take-nil, drop-drop}
 use Rattle.num_limits.specs.Capacities.{parameters_most, stations_most, records_most}
 use Rattle.num_whole.specs.Tests.{less}
-use Rattle.num_whole.specs.Answer.{Judged, good, bad}
-use Rattle.num_whole.proofs.Cases.{yes, no, by_cases, less_true, less_false}
-use Rattle.byte_section.specs.Section.{and_then}
+use Rattle.num_whole.specs.Answer.{good, bad}
+use Rattle.num_whole.proofs.Cases.{by_cases, less_true, less_false}
 use Rattle.byte_section.proofs.Walk.{not_bad, good_same, by_judged, then_read}
 use Rattle.byte_section.proofs.Read.{section_read}
-use Rattle.byte_section.proofs.Prefix.{Stays}
 use Rattle.byte_section.proofs.Fronts.{Short, then_short, count_short, section_short}
 use Rattle.arc_kinds.specs.Kinds.{settings_kind, label_kind, station_kind}
 use Rattle.arc_read.specs.Arc.{Arc}

@@ -1,26 +1,26 @@
 -- One go, and bad form.
 -- Assumes nothing.
-use Prim.Native.Nat.{ℕ, zero, suc, ◌+◌, ◌-◌, ◌*◌, ◌/◌, ◌≤◌, ◌<◌}
-use mathlib.Core.Path.{◌≡◌, refl, sym, ap, ap₂, ◌∙◌, subst, subst₂}
-use mathlib.Core.List.{List, [], ◌∷◌, ◌++◌, append-nil}
-use mathlib.Core.Bool.{Bool, true, false}
+use Prim.Native.Nat.{ℕ, ◌+◌, ◌-◌, ◌*◌, ◌/◌, ◌≤◌}
+use mathlib.Core.Path.{◌≡◌, refl, sym, ap, ap₂, ◌∙◌, subst₂}
+use mathlib.Core.List.{List, ◌++◌, append-nil}
+use mathlib.Core.Bool.{false}
 use native.Mathlib.Omega.{arith}
-use native.Mathlib.Nat.{zero-mul, add-zero, sub-zero, mul-div_cancel}
+use native.Mathlib.Nat.{zero-mul, sub-zero, mul-div_cancel}
 use lib.IntN.{ℤ, pos}
 use lib.ListN.{length, take, drop, replicate, length-append, length-replicate}
 use lib.Seq.{length-take-le}
 use Rattle.num_limits.specs.Capacities.{parameters_most}
-use Rattle.num_whole.specs.Tests.{less, same, pick}
-use Rattle.num_whole.specs.Answer.{Judged, good, bad, given}
+use Rattle.num_whole.specs.Tests.{less, pick}
+use Rattle.num_whole.specs.Answer.{Judged, good, given}
 use Rattle.num_whole.proofs.Cases.{yes, no, by_cases, is_same, not_less, less_true, less_false}
 use Rattle.refusal.proofs.Firsts.{first_none_left, first_pass, unless_true, number_given}
 use Rattle.byte_words.specs.Words.{lay}
 use Rattle.byte_section.specs.Section.{and_then}
-use Rattle.byte_section.proofs.Walk.{not_bad, good_same, by_judged, then_good, then_bad, then_read, pick_read}
+use Rattle.byte_section.proofs.Walk.{by_judged, then_good, then_read, pick_read}
 use Rattle.byte_section.proofs.Chains.{then_same}
 use Rattle.arc_heading.specs.Judge.{judged}
 use Rattle.arc_heading.specs.declared.Heading.{Heading}
-use Rattle.arc_heading.proofs.Sound.{Sound, sound}
+use Rattle.arc_heading.proofs.Sound.{sound}
 use Rattle.arc_kinds.specs.Kinds.{record_size}
 use Rattle.arc_read.specs.Arc.{Arc, read_arc}
 use Rattle.arc_read.proofs.Accepted.{heading_sound, run_long}
@@ -28,10 +28,10 @@ use Rattle.num_packed.specs.Triangle.{tri}
 use Rattle.num_packed.proofs.Places.{tri_within}
 use Rattle.take_tally.specs.Tally.{empty_tally}
 use Rattle.take_room.specs.Room.{cleared}
-use Rattle.take_state.specs.State.{State, state_of, started, room_number, roomy, capped, seen_in}
+use Rattle.take_state.specs.State.{State, state_of, started, room_number, capped, seen_in}
 use Rattle.take_room.proofs.Cleared.{cleared_again}
 use Rattle.take_laws.specs.Machine.{run, answers}
-use Rattle.take_laws.specs.Taking.{frame_of, record_answer, record_step, records_in, whole_records, cut, run_number, run_state, run_answers}
+use Rattle.take_laws.specs.Taking.{frame_of, record_answer, record_step, records_in, whole_records, cut, run_state, run_answers}
 use Rattle.take_laws.specs.Arc.{end_of, told_in}
 use Rattle.take_laws.specs.Mix.{pairs, taken, told_to}
 use Rattle.take_laws.specs.SumsOver.{partial_of, SumsOver}
@@ -43,7 +43,7 @@ use Rattle.take_laws.proofs.Silence.{silence}
 use Rattle.take_laws.proofs.Guarded.{guarded_run, guarded_answers, started_is, started_held, roomy_by}
 use Rattle.take_laws.proofs.SumsOver.{sums_over}
 use Rattle.take_laws.proofs.Kept.{length_cleared}
-use Rattle.part_laws.specs.Beginning.{opened, size_of, ends_at, closed_at, whole, done, left, read_at, opened_heading}
+use Rattle.part_laws.specs.Beginning.{opened, size_of, ends_at, closed_at, whole, done, left, read_at}
 use Rattle.part_laws.specs.Feeding.{begun, so_far, moved, feed, finish}
 use Rattle.part_laws.specs.OneGo.{emptied, fed, said, TakenOneByOne, OneGo, MixedAlike}
 use Rattle.part_laws.proofs.Runs.{whole_cut}

@@ -1,29 +1,28 @@
 -- What opens a file: it stays when more follows, it is read of its own bytes alone, and with the number of bytes it is all that reading the
 -- file says.
 -- Assumes nothing.
-use Prim.Native.Nat.{ℕ, zero, suc, ◌+◌, ◌-◌, ◌*◌, ◌≤◌, ◌<◌}
+use Prim.Native.Nat.{ℕ, ◌+◌, ◌-◌, ◌≤◌}
 use mathlib.Core.Path.{◌≡◌, refl, sym, ap, ap₂, ◌∙◌}
-use mathlib.Core.List.{List, [], ◌∷◌, ◌++◌}
-use mathlib.Core.Bool.{true, false}
+use mathlib.Core.List.{List, ◌++◌}
 use native.Mathlib.Omega.{arith}
-use lib.ListN.{length, get_or, take, drop, length-append, take-append-drop}
+use lib.ListN.{length, get_or, take, drop, take-append-drop}
 use lib.Seq.{length-take-le}
 use Rattle.num_limits.specs.Capacities.{parameters_most, stations_most, records_most}
 use Rattle.num_whole.specs.Tests.{less, pick}
-use Rattle.num_whole.specs.Answer.{Judged, good, bad}
-use Rattle.num_whole.proofs.Cases.{yes, no, by_cases, is_less, not_less, less_true, less_false}
-use Rattle.byte_section.specs.Section.{Kind, Run, and_then, count_at, judged_at, records, section_at, closed}
-use Rattle.byte_section.proofs.Walk.{good_same, then_good, then_bad, then_read, judged_read, counted, records_next, records_within, records_room, records_short}
+use Rattle.num_whole.specs.Answer.{good, bad}
+use Rattle.num_whole.proofs.Cases.{yes, no, by_cases, less_true, less_false}
+use Rattle.byte_section.specs.Section.{Kind, and_then, records, section_at, closed}
+use Rattle.byte_section.proofs.Walk.{good_same, then_good, then_bad, then_read, counted, records_next, records_room, records_short}
 use Rattle.byte_section.proofs.Chains.{then_then, then_made, then_same}
 use Rattle.byte_section.proofs.Read.{section_read}
 use Rattle.byte_section.proofs.Prefix.{Stays, stays_equal, then_stays, count_stays, section_stays}
 use Rattle.byte_section.proofs.Fronts.{count_front, section_front}
-use Rattle.arc_kinds.specs.Kinds.{settings_kind, label_kind, station_kind, record_kind, record_size}
+use Rattle.arc_kinds.specs.Kinds.{settings_kind, label_kind, station_kind, record_kind}
 use Rattle.arc_kinds.proofs.Local.{settings_local, label_local, station_local}
 use Rattle.arc_limits.specs.Limits.{no_settings}
 use Rattle.arc_heading.specs.declared.Heading.{Heading}
 use Rattle.arc_read.specs.Arc.{heading_of, Arc, read_arc}
-use Rattle.part_laws.specs.Beginning.{opened, size_of, ends_at, closed_at, read_at}
+use Rattle.part_laws.specs.Beginning.{opened, ends_at, closed_at}
 
 -- ---- what opens a file
 -- it stays when more follows

@@ -1,34 +1,32 @@
 -- Positions of a file that is over: what a refused part and finish leave is one that the entries give (6 of `heading`); and how long a position is.
 -- Assumes nothing.
-use Prim.Native.Nat.{ℕ, zero, suc, ◌+◌, ◌-◌, ◌*◌, ◌≤◌, ◌<◌}
-use mathlib.Core.Path.{◌≡◌, refl, sym, ap, ap₂, ◌∙◌, subst}
-use mathlib.Core.List.{List, [], ◌∷◌, ◌++◌}
-use mathlib.Core.Bool.{Bool, true, false}
+use Prim.Native.Nat.{ℕ, suc, ◌+◌, ◌-◌, ◌*◌, ◌≤◌}
+use mathlib.Core.Path.{◌≡◌, refl, sym, ap, ◌∙◌, subst}
+use mathlib.Core.List.{List, ◌++◌}
+use mathlib.Core.Bool.{true, false}
 use native.Mathlib.Omega.{arith}
 use native.Mathlib.Nat.{add-mul, suc-mul}
 use lib.ListN.{length, drop}
 use Rattle.num_limits.specs.Capacities.{records_most}
-use Rattle.num_whole.specs.Tests.{less, up_to, same, pick, both}
+use Rattle.num_whole.specs.Tests.{less}
 use Rattle.num_whole.specs.Answer.{Judged, good, bad}
-use Rattle.num_whole.proofs.Cases.{yes, no, by_cases, holds, is_same, is_up_to, is_less, not_less, less_true, less_false, same_true, both_first, both_second}
-use Rattle.byte_section.specs.Section.{and_then}
+use Rattle.num_whole.proofs.Cases.{yes, no, by_cases, holds, is_same, is_up_to, not_less, less_true, less_false}
 use Rattle.byte_section.proofs.Walk.{by_judged, then_read, pick_read, counted, good_same}
-use Rattle.byte_section.proofs.Fronts.{Short}
-use Rattle.arc_heading.proofs.Sound.{Sound, sound}
+use Rattle.arc_heading.proofs.Sound.{sound}
 use Rattle.arc_read.specs.Arc.{Arc}
 use Rattle.take_state.specs.State.{State}
-use Rattle.take_laws.specs.Machine.{run, answers}
+use Rattle.take_laws.specs.Machine.{answers}
 use Rattle.take_laws.specs.Taking.{frame_of, record_answer, record_step}
 use Rattle.take_laws.proofs.Runs.{length_answers}
 use Rattle.part_laws.specs.Beginning.{opened, size_of, ends_at, closed_at, done, left, read_at, opened_heading}
-use Rattle.part_laws.specs.Feeding.{Position, begun, ended, so_far, moved, feed, finish, closing}
-use Rattle.part_laws.specs.Entries.{record_size_most, placed_by, placed, ends_by, ends}
+use Rattle.part_laws.specs.Feeding.{Position, ended, so_far, moved, feed, finish, closing}
+use Rattle.part_laws.specs.Entries.{record_size_most, placed, ends_by, ends}
 use Rattle.part_laws.proofs.Opened.{opened_within}
 use Rattle.part_laws.proofs.Cuts.{done_good, done_bad, read_good, read_bad}
 use Rattle.part_laws.proofs.Feeding.{not_over}
 use Rattle.part_laws.proofs.OneGo.{opened_sound}
 use Rattle.part_laws.proofs.Front.{opened_short, opened_start}
-use Rattle.part_laws.proofs.Six.{Before, Amid, placed_before, placed_amid, amid_placed, taken_few, taken_none, whole_few, within_numbers, reached}
+use Rattle.part_laws.proofs.Six.{placed_before, placed_amid, taken_few, taken_none, whole_few, within_numbers}
 use Rattle.part_laws.proofs.States.{nothing_opened}
 
 -- ---- how long the bytes kept are: a heading with its counts and a record but one byte at most

@@ -1,28 +1,24 @@
 -- 6 of positions, exactly: each position by value that is not refused is one that begin, some bytes and perhaps finish give. So is each of a file
 -- that is over: one that keeps its heading by finish, one that keeps nothing by a byte too many.
 -- Assumes nothing.
-use Prim.Native.Nat.{ℕ, zero, suc, ◌+◌, ◌-◌, ◌*◌, ◌^◌, ◌≤◌, ◌<◌}
+use Prim.Native.Nat.{ℕ, ◌+◌, ◌-◌, ◌*◌, ◌≤◌, ◌<◌}
 use mathlib.Core.Path.{◌≡◌, refl, sym, ap, ap₂, ◌∙◌, subst}
-use mathlib.Core.List.{List, [], ◌∷◌, ◌++◌, append_assoc}
-use mathlib.Core.Bool.{Bool, true, false}
+use mathlib.Core.List.{List, ◌∷◌, ◌++◌}
+use mathlib.Core.Bool.{true, false}
 use mathlib.Core.Logic.{◌⊎◌, inl, inr}
 use native.Mathlib.Omega.{arith}
-use native.Mathlib.Nat.{zero-mul, zero-add, sub-zero, add-zero}
-use lib.ListN.{length, get_or, take, drop, replicate, length-append, length-drop, length-replicate}
-use lib.Seq.{drop_at}
+use native.Mathlib.Nat.{zero-add, sub-zero}
+use lib.ListN.{length, drop, replicate, length-append, length-drop, length-replicate}
 use Rattle.num_whole.specs.Tests.{less, up_to, same, pick, both, either, between}
-use Rattle.num_whole.specs.Answer.{Judged, good, bad}
+use Rattle.num_whole.specs.Answer.{good, bad}
 use Rattle.num_whole.proofs.Cases.{yes, no, by_cases, is_less, not_less, not_same, is_between, same_true, up_to_true, both_first, both_second}
 use Rattle.num_limits.specs.Capacities.{parameters_most, stations_most, records_most}
 use Rattle.byte_words.specs.Words.{word, bytes_of, signed_word}
 use Rattle.byte_words.proofs.Words.{word_after, word_bytes_of, length_bytes_of}
-use Rattle.byte_section.specs.Section.{Run, and_then, count_at, judged_at, records, section_at}
+use Rattle.byte_section.specs.Section.{and_then, count_at, judged_at, records, section_at}
 use Rattle.byte_section.proofs.Walk.{by_judged, then_good}
-use Rattle.byte_section.proofs.Prefix.{Stays, section_stays}
-use Rattle.arc_limits.specs.Limits.{window_ok, settings_ok, index_ok, label_ok, label_key, no_settings}
-use Rattle.arc_limits.specs.declared.Settings.{Settings}
-use Rattle.arc_limits.specs.declared.Label.{Label}
-use Rattle.arc_limits.specs.declared.Station.{Station}
+use Rattle.byte_section.proofs.Prefix.{section_stays}
+use Rattle.arc_limits.specs.Limits.{window_ok, settings_ok, index_ok, label_ok, label_key}
 use Rattle.arc_kinds.specs.Kinds.{settings_at, settings_kind, label_at, label_kind, station_kind}
 use Rattle.arc_kinds.proofs.Local.{settings_local, label_local, station_local}
 use Rattle.arc_read.specs.Arc.{Arc, heading_of}
@@ -30,11 +26,10 @@ use Rattle.take_state.specs.State.{State}
 use Rattle.take_laws.proofs.Runs.{length_cut}
 use Rattle.part_laws.specs.Beginning.{opened, size_of, ends_at, closed_at, whole, done, left, read_at}
 use Rattle.part_laws.specs.Feeding.{Position, begun, ended, so_far, moved, feed, finish, closing}
-use Rattle.part_laws.specs.Entries.{position_most, position_of, held_of, tidy, placed, ends_by, ends, led, fair}
+use Rattle.part_laws.specs.Entries.{position_most, position_of, held_of, placed, ends_by, ends, led, fair}
 use Rattle.part_laws.specs.declared.Position as ByValue
 use Rattle.part_laws.proofs.ByValue.{held_back}
 use Rattle.part_laws.proofs.Runs.{whole_cut}
-use Rattle.part_laws.proofs.Opened.{opened_within}
 use Rattle.part_laws.proofs.Cuts.{done_good, read_good}
 use Rattle.part_laws.proofs.Feeding.{not_over}
 use Rattle.part_laws.proofs.Six.{amid_placed, reached}

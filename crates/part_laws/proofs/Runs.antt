@@ -2,13 +2,12 @@
 -- Assumes nothing.
 use Prim.Native.Nat.{ℕ, zero, suc, ◌+◌, ◌-◌, ◌*◌, ◌≤◌, ◌<◌}
 use mathlib.Core.Path.{◌≡◌, refl, sym, ap, ap₂, ◌∙◌}
-use mathlib.Core.List.{List, [], ◌∷◌, ◌++◌}
-use mathlib.Core.Bool.{true, false}
+use mathlib.Core.List.{List, ◌∷◌, ◌++◌}
 use native.Mathlib.Omega.{arith}
 use native.Mathlib.Nat.{suc-mul, zero-mul, suc-sub-suc, sub-zero}
 use lib.ListN.{length, take, drop, length-append, length-drop}
 use lib.Seq.{take-append-le, drop-append-le}
-use Rattle.num_whole.specs.Tests.{less, pick}
+use Rattle.num_whole.specs.Tests.{less}
 use Rattle.num_whole.proofs.Cases.{by_cases, yes, no, is_less, not_less, less_true, less_false}
 use Rattle.take_laws.specs.Taking.{cut}
 use Rattle.part_laws.specs.Beginning.{whole, behind}

@@ -1,39 +1,32 @@
 -- The entries one after another: where the rooms suffice they are `feed`, so cuts don't matter to them either.
 -- Assumes nothing.
-use Prim.Native.Nat.{ℕ, zero, suc, ◌+◌, ◌-◌, ◌*◌, ◌≤◌, ◌<◌}
+use Prim.Native.Nat.{ℕ, ◌+◌, ◌-◌, ◌≤◌}
 use mathlib.Core.Path.{◌≡◌, refl, sym, ap, ap₂, ◌∙◌, subst, subst₂}
-use mathlib.Core.List.{List, [], ◌∷◌, ◌++◌, append-nil}
-use mathlib.Core.Bool.{Bool, true, false}
+use mathlib.Core.List.{List, ◌∷◌, ◌++◌}
+use mathlib.Core.Bool.{true, false}
 use native.Mathlib.Omega.{arith}
-use native.Mathlib.Nat.{add-zero}
-use lib.IntN.{ℤ}
-use lib.ListN.{length, take, drop, length-drop, take-append-drop}
+use lib.ListN.{length, take, drop}
 use lib.Seq.{take_at}
-use Rattle.num_whole.specs.Tests.{less, up_to, same, pick, both}
+use Rattle.num_whole.specs.Tests.{same}
 use Rattle.num_whole.specs.Answer.{Judged, good, bad}
-use Rattle.num_whole.proofs.Cases.{by_cases, yes, no, holds, is_same, not_same, is_up_to}
+use Rattle.num_whole.proofs.Cases.{yes, no, holds, is_same, not_same, is_up_to}
 use Rattle.refusal.proofs.Firsts.{first_pass, first_stop, first_one, when_true, when_false, unless_true}
 use Rattle.byte_words.specs.Words.{lay}
 use Rattle.byte_words.proofs.Words.{lay_front}
 use Rattle.byte_section.specs.Section.{and_then}
 use Rattle.byte_section.proofs.Walk.{by_judged}
-use Rattle.arc_read.specs.Arc.{Arc, read_arc}
-use Rattle.num_packed.specs.Triangle.{tri}
 use Rattle.take_state.specs.State.{State}
-use Rattle.take_laws.specs.Machine.{run, answers}
-use Rattle.take_laws.specs.Taking.{frame_of, record_answer, record_step}
-use Rattle.take_laws.proofs.Runs.{length_answers}
-use Rattle.part_laws.specs.Beginning.{opened, done, left, read_at, opened_heading}
-use Rattle.part_laws.specs.Feeding.{Position, begun, ended, so_far, moved, Fed, handed, feed, finish, fed_on, concat}
-use Rattle.part_laws.specs.OneGo.{emptied, fed}
+use Rattle.take_laws.specs.Machine.{answers}
+use Rattle.part_laws.specs.Beginning.{done}
+use Rattle.part_laws.specs.Feeding.{Position, Fed, feed, fed_on, concat}
 use Rattle.num_packed.specs.Room.{sums_roomy}
-use Rattle.part_laws.specs.Entries.{position_most, position_of, held_of, tidy, parameters_in, placed, led, fair, sound_at, part_number, part_position, part_state, part_answers, told_form, part_told, begin_number, begin_state}
+use Rattle.part_laws.specs.Entries.{position_most, position_of, held_of, tidy, led, fair, part_number, part_position, part_state, part_answers, told_form, part_told}
 use Rattle.part_laws.specs.Sequence.{Piece, bytes_in, form_of, Gone, gone_part, gone_on, gone, Enough, gone_of}
 use Rattle.part_laws.specs.declared.Position as ByValue
 use Rattle.part_laws.proofs.ByValue.{position_back, held_tidy}
-use Rattle.part_laws.proofs.Feeding.{not_over, after_over, cuts}
+use Rattle.part_laws.proofs.Feeding.{after_over, cuts}
 use Rattle.part_laws.proofs.Six.{feed_nothing}
-use Rattle.part_laws.proofs.States.{Fit, part_fit, begun_fit}
+use Rattle.part_laws.proofs.States.{Fit, part_fit}
 use Rattle.part_laws.proofs.Over.{placed_short, feed_moved}
 
 -- ---- an entry is `feed` where its rooms suffice

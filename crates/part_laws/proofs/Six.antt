@@ -3,23 +3,22 @@
 -- Assumes nothing.
 use Prim.Native.Nat.{ℕ, zero, suc, ◌+◌, ◌-◌, ◌*◌, ◌≤◌, ◌<◌}
 use mathlib.Core.Path.{◌≡◌, refl, sym, ap, ap₂, ◌∙◌, subst}
-use mathlib.Core.List.{List, [], ◌∷◌, ◌++◌, append_assoc, append-nil}
-use mathlib.Core.Bool.{Bool, true, false}
+use mathlib.Core.List.{List, ◌∷◌, ◌++◌, append-nil}
+use mathlib.Core.Bool.{true, false}
 use native.Mathlib.Omega.{arith}
-use native.Mathlib.Nat.{add-zero, add-mul, suc-mul, suc-add, zero-mul, sub-zero, zero-add}
+use native.Mathlib.Nat.{add-zero, add-mul, suc-mul, suc-add, zero-mul, zero-add}
 use lib.ListN.{length, take, drop, replicate, length-append, length-drop, length-replicate, take-append-drop}
-use lib.Seq.{length-take-le, take_at, drop_at, take-append-le, drop-append-le}
-use Rattle.num_whole.specs.Tests.{less, up_to, same, pick, both}
+use lib.Seq.{length-take-le, take_at, drop_at, drop-append-le}
+use Rattle.num_whole.specs.Tests.{less, same, pick}
 use Rattle.num_whole.specs.Answer.{Judged, good, bad}
-use Rattle.num_whole.proofs.Cases.{yes, no, by_cases, holds, is_less, not_less, is_up_to, is_same, less_true, less_false, up_to_true, same_true, same_false, both_first, both_second}
+use Rattle.num_whole.proofs.Cases.{yes, no, by_cases, holds, is_less, not_less, is_up_to, is_same, less_true, less_false, up_to_true, same_true, both_first, both_second}
 use Rattle.byte_section.proofs.Walk.{not_bad, by_judged}
-use Rattle.byte_section.proofs.Prefix.{Stays}
 use Rattle.arc_read.specs.Arc.{Arc}
 use Rattle.take_state.specs.State.{State}
 use Rattle.take_laws.specs.Machine.{run, answers}
 use Rattle.take_laws.specs.Taking.{frame_of, record_answer, record_step}
 use Rattle.part_laws.specs.Beginning.{opened, size_of, ends_at, closed_at, whole, behind, done, left, read_at, opened_heading}
-use Rattle.part_laws.specs.Feeding.{Position, begun, ended, so_far, moved, Fed, handed, feed}
+use Rattle.part_laws.specs.Feeding.{Position, begun, so_far, moved, handed, feed}
 use Rattle.part_laws.specs.Entries.{placed_by, placed}
 use Rattle.part_laws.proofs.Runs.{more, whole_long, whole_more, behind_more}
 use Rattle.part_laws.proofs.Opened.{opened_stays, opened_within, opened_again}

@@ -1,52 +1,46 @@
 -- The state at a position: a part leads from one that is not refused with 6 to another.
 -- Assumes nothing.
-use Prim.Native.Nat.{ℕ, zero, suc, ◌+◌, ◌-◌, ◌*◌, ◌≤◌, ◌<◌}
+use Prim.Native.Nat.{ℕ, zero, suc, ◌+◌, ◌-◌, ◌≤◌, ◌<◌}
 use mathlib.Core.Path.{◌≡◌, refl, sym, ap, ap₂, ◌∙◌, subst, subst₂}
-use mathlib.Core.List.{List, [], ◌∷◌, ◌++◌, append-nil}
-use mathlib.Core.Bool.{Bool, true, false}
+use mathlib.Core.List.{List, ◌∷◌, ◌++◌, append-nil}
+use mathlib.Core.Bool.{true, false}
 use native.Mathlib.Omega.{arith}
 use lib.IntN.{ℤ, pos, negsuc, nat_abs}
 use native.Mathlib.Nat.{le_refl, le_trans}
 use lib.ListN.{length, get_or}
 use Rattle.num_limits.specs.Capacities.{parameters_most}
-use Rattle.num_whole.specs.Tests.{less, up_to, same, pick, both}
-use Rattle.num_whole.specs.Answer.{Judged, good, bad, given}
-use Rattle.num_whole.proofs.Cases.{by_cases, yes, no, not_less, holds, is_same, is_up_to, up_to_true, less_true, less_false, both_first, both_second}
-use Rattle.refusal.proofs.Firsts.{first_pass, first_one, when_false, unless_true}
-use Rattle.byte_words.specs.Words.{lay}
+use Rattle.num_whole.specs.Tests.{less, same, pick, both}
+use Rattle.num_whole.specs.Answer.{Judged, good, bad}
+use Rattle.num_whole.proofs.Cases.{by_cases, no, not_less, holds, is_up_to, up_to_true, less_true, less_false, both_first, both_second}
 use Rattle.byte_section.specs.Section.{and_then, count_at, section_at}
 use Rattle.byte_section.proofs.Walk.{not_bad, by_judged, then_good, then_read, counted, good_same, records_next}
-use Rattle.byte_section.proofs.Read.{section_read}
-use Rattle.byte_section.proofs.Prefix.{Stays, then_stays, section_stays, count_stays}
+use Rattle.byte_section.proofs.Prefix.{then_stays, section_stays, count_stays}
 use Rattle.arc_kinds.specs.Kinds.{settings_kind, label_kind}
 use Rattle.arc_kinds.proofs.Local.{settings_local}
-use Rattle.arc_heading.specs.Judge.{judged}
 use Rattle.arc_heading.specs.declared.Heading.{Heading}
-use Rattle.arc_heading.proofs.Sound.{Sound, sound}
+use Rattle.arc_heading.proofs.Sound.{sound}
 use Rattle.arc_read.specs.Arc.{Arc, heading_of}
 use Rattle.num_packed.specs.Triangle.{tri}
-use Rattle.num_packed.proofs.Places.{tri_within}
 use Rattle.take_counts.specs.Counts.{sum_of, counts_sound}
-use Rattle.take_tally.specs.Tally.{accepted, count_of, tally_sound}
+use Rattle.take_tally.specs.Tally.{accepted, tally_sound}
 use Rattle.take_tally.specs.declared.Tally.{Tally}
 use Rattle.num_whole.proofs.Tables.{below_at}
-use Rattle.take_state.specs.State.{State, sound_state, state_number}
+use Rattle.take_state.specs.State.{State, sound_state}
 use Rattle.take_laws.specs.Machine.{run}
-use Rattle.take_laws.specs.Taking.{Frame, frame_of, record_answer, record_step}
-use Rattle.take_laws.proofs.Parts.{Good}
+use Rattle.take_laws.specs.Taking.{frame_of, record_step}
 use Rattle.take_laws.proofs.Parts as Goods
 use Rattle.take_laws.proofs.Accepted.{accepted_in_lem}
-use Rattle.take_laws.proofs.Kept.{Shaped, step_keeps, book_accepted, empty_sound, length_cleared}
-use Rattle.take_laws.proofs.Guarded.{Held, Whole, whole, whole_none, roomy_by, held_run, held_step, held_shaped, held_heading, fine}
+use Rattle.take_laws.proofs.Kept.{step_keeps, book_accepted, empty_sound, length_cleared}
+use Rattle.take_laws.proofs.Guarded.{Held, whole, whole_none, roomy_by, held_run, held_step, held_shaped, held_heading, fine}
 use Rattle.part_laws.specs.Beginning.{opened, done, left, read_at, opened_heading}
 use Rattle.part_laws.specs.Feeding.{Position, begun, so_far, moved, feed}
 use Rattle.part_laws.specs.OneGo.{emptied}
 use Rattle.part_laws.specs.Entries.{count_by, parameters_in, placed_by, placed, sound_by, sound_at}
 use Rattle.part_laws.proofs.Opened.{opened_stays}
-use Rattle.part_laws.proofs.Cuts.{done_good, left_good, done_bad, left_bad, heading_good, opened_left}
+use Rattle.part_laws.proofs.Cuts.{done_bad, left_bad, heading_good, opened_left}
 use Rattle.part_laws.proofs.Feeding.{not_over}
 use Rattle.part_laws.proofs.OneGo.{opened_sound, tri_up}
-use Rattle.part_laws.proofs.Six.{Before, placed_before, part_placed}
+use Rattle.part_laws.proofs.Six.{part_placed}
 
 -- ---- the parameters that a beginning has read
 abbrev read : List ℕ → Judged ℕ

@@ -1,33 +1,31 @@
 -- Whole files through the entries: begin, parts with room enough, finish. One part of all the bytes does the same; good form and bad form.
 -- Assumes nothing.
-use Prim.Native.Nat.{ℕ, zero, suc, ◌+◌, ◌*◌, ◌≤◌, ◌<◌}
-use mathlib.Core.Path.{◌≡◌, refl, sym, ap, ap₂, ◌∙◌, subst, subst₂}
-use mathlib.Core.List.{List, [], ◌∷◌, ◌++◌, append-nil}
-use mathlib.Core.Bool.{Bool, true, false}
+use Prim.Native.Nat.{ℕ, ◌≤◌}
+use mathlib.Core.Path.{◌≡◌, refl, sym, ap, ◌∙◌, subst, subst₂}
+use mathlib.Core.List.{List, ◌∷◌, append-nil}
+use mathlib.Core.Bool.{true, false}
 use native.Mathlib.Omega.{arith}
 use native.Mathlib.Nat.{zero-add}
 use lib.IntN.{ℤ}
 use lib.ListN.{length}
-use Rattle.num_whole.specs.Tests.{less, up_to, same, pick, both}
 use Rattle.num_whole.specs.Answer.{Judged, good, bad}
-use Rattle.num_whole.proofs.Cases.{yes, no, holds, is_same, is_up_to}
+use Rattle.num_whole.proofs.Cases.{yes, holds, is_same, is_up_to}
 use Rattle.num_limits.specs.Capacities.{parameters_most}
 use Rattle.refusal.proofs.Firsts.{first_pass, first_one, when_false, unless_true}
 use Rattle.byte_words.specs.Words.{lay}
 use Rattle.byte_section.specs.Section.{and_then}
-use Rattle.byte_section.proofs.Walk.{by_judged, then_good, then_bad, then_read, pick_read, good_same}
-use Rattle.arc_heading.specs.declared.Heading.{Heading}
+use Rattle.byte_section.proofs.Walk.{by_judged, then_good, then_bad, then_read}
 use Rattle.arc_read.specs.Arc.{Arc, read_arc}
 use Rattle.num_packed.specs.Triangle.{tri}
 use Rattle.take_state.specs.State.{State}
 use Rattle.take_laws.specs.Taking.{frame_of}
 use Rattle.take_laws.specs.Order.{Mixes}
-use Rattle.part_laws.specs.Beginning.{opened, closed_at, done, read_at, opened_heading}
-use Rattle.part_laws.specs.Feeding.{Position, begun, Fed, feed, finish, closing, concat}
+use Rattle.part_laws.specs.Beginning.{opened, done, opened_heading}
+use Rattle.part_laws.specs.Feeding.{Position, begun, Fed, finish, closing, concat}
 use Rattle.part_laws.specs.OneGo.{emptied, fed, said, TakenOneByOne, MixedAlike}
 use Rattle.num_packed.specs.Room.{sums_roomy}
-use Rattle.part_laws.specs.Entries.{position_most, position_of, held_of, tidy, placed, ends, led, fair, took, begin_number, begin_state, told_end, finish_number, finish_told, finish_position, heading_told, heading_given}
-use Rattle.part_laws.specs.Sequence.{Piece, bytes_in, form_of, Gone, gone, Enough, gone_of, form_only, gone_all, GoodForm, BadForm, TakenParts, MixedParts}
+use Rattle.part_laws.specs.Entries.{position_most, held_of, ends, led, fair, took, begin_number, begin_state, told_end, finish_number, finish_told, finish_position, heading_told, heading_given}
+use Rattle.part_laws.specs.Sequence.{Piece, bytes_in, form_of, gone, Enough, gone_of, form_only, gone_all, GoodForm, BadForm, TakenParts, MixedParts}
 use Rattle.part_laws.proofs.ByValue.{position_back, held_tidy}
 use Rattle.part_laws.proofs.Cuts.{heading_good}
 use Rattle.part_laws.proofs.OneGo.{form, one_go, taken_so, mixed}

@@ -1,5 +1,5 @@
 -- Document 02, #102, the entries: the position by value, what they refuse besides the file's form (28, 20, 6), and what they give and leave.
-use Rattle.std.specs.Prelude.{ℕ, ◌+◌, List, [], ◌∷◌, ◌++◌, Bool, true, false, ℤ, length, take}
+use Rattle.std.specs.Prelude.{ℕ, ◌+◌, List, ◌∷◌, ◌++◌, Bool, ℤ, length, take}
 use Rattle.num_whole.specs.Tests.{less, up_to, same, pick, both}
 use Rattle.num_limits.specs.Capacities.{parameters_most, records_most}
 use Rattle.num_whole.specs.Lists.{all, rest, padded}
@@ -16,7 +16,7 @@ use Rattle.num_packed.specs.Room.{sums_roomy}
 use Rattle.take_tally.specs.Tally.{accepted, empty_tally}
 use Rattle.take_state.specs.State.{State, state_of, sound_state}
 use Rattle.part_laws.specs.Beginning.{opened, size_of, done, opened_heading}
-use Rattle.part_laws.specs.Feeding.{Position, ended, feed, finish, closing}
+use Rattle.part_laws.specs.Feeding.{Position, feed, finish, closing}
 use Rattle.part_laws.specs.OneGo.{emptied}
 use Rattle.part_laws.specs.declared.Position as ByValue
 use Rattle.part_laws.specs.declared.PartAnswer.{PartAnswer}

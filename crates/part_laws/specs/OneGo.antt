@@ -1,12 +1,12 @@
 -- Document 02, #102: "For a file of good form, answers and end state equal those of the file in one go. For one of bad form the number and place
 -- are equal, but the records completed before it stay taken." Its parts as one, from an empty position and an empty state.
 use Rattle.std.specs.Prelude.{ℕ, ◌<◌, ◌≡◌, List, false, ◌↔◌, ℤ, pos, length, drop}
-use Rattle.num_whole.specs.Answer.{Judged, good}
+use Rattle.num_whole.specs.Answer.{Judged}
 use Rattle.num_limits.specs.Capacities.{parameters_most, stations_most}
 use Rattle.byte_words.specs.Words.{lay}
 use Rattle.byte_section.specs.Section.{and_then}
 use Rattle.arc_heading.specs.declared.Heading.{Heading}
-use Rattle.arc_read.specs.Arc.{Arc, read_arc}
+use Rattle.arc_read.specs.Arc.{Arc}
 use Rattle.num_packed.specs.Triangle.{tri}
 use Rattle.take_tally.specs.Tally.{empty_tally}
 use Rattle.take_room.specs.Room.{cleared}
@@ -15,9 +15,9 @@ use Rattle.take_laws.specs.Taking.{frame_of, records_in, run_number, run_state, 
 use Rattle.take_laws.specs.Arc.{end_of, told_in}
 use Rattle.take_laws.specs.Mix.{pairs, taken, told_to}
 use Rattle.take_laws.specs.SumsOver.{partial_of, SumsOver}
-use Rattle.take_laws.specs.Order.{whose, Mixes}
+use Rattle.take_laws.specs.Order.{whose}
 use Rattle.num_whole.specs.Lists.{Each}
-use Rattle.part_laws.specs.Beginning.{opened, done}
+use Rattle.part_laws.specs.Beginning.{done}
 use Rattle.part_laws.specs.Feeding.{Fed, begun, feed, finish}
 
 -- an empty state in lent sums, before the number of parameters is known

@@ -1,6 +1,7 @@
 // What an arc file handed over in parts is: the definitions and the laws of it, with the position by value and the answer of its entries.
 // The code is in the crates below this one.
 #![tactic(auto)]
+
 use num_limits::{PARAMETERS_MOST, PARTIAL_SIZE, RECORD_FIXED};
 use refusal::Refusal;
 

@@ -1,5 +1,4 @@
 -- What the answer says.
-use Rattle.std.specs.Prelude.{ℕ}
 use Rattle.num_whole.specs.Answer.{Judged, good}
 use Rattle.byte_section.specs.Section.{and_then}
 use Rattle.byte_section.specs.Told.{told_answer}

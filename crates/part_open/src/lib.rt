@@ -1,5 +1,6 @@
 // What opens an arc file, read of its beginning: the heading, the count of its records and the place of the first of them.
 #![tactic(auto)]
+
 ghost use Rattle.std.specs.Prelude.{◌≡◌, ◌≤◌, length};
 ghost use Rattle.num_limits.specs.Capacities.{parameters_most, records_most};
 ghost use Rattle.refusal.specs.Number.{number_of};

@@ -1,19 +1,18 @@
 -- What finish answers and leaves, by what it finds.
 -- Assumes nothing.
 use Prim.Native.Nat.{ℕ, ◌+◌, ◌*◌, ◌≤◌, ◌<◌}
-use mathlib.Core.Path.{◌≡◌, refl, sym, ap, ap₂, ◌∙◌}
-use mathlib.Core.Bool.{Bool, true, false}
+use mathlib.Core.Path.{◌≡◌, refl, sym, ap, ◌∙◌}
+use mathlib.Core.Bool.{true, false}
 use native.Mathlib.Omega.{arith}
 use native.Mathlib.Nat.{mul-le-mul}
 use lib.ListN.{length}
-use Rattle.num_whole.specs.Tests.{less, pick}
 use Rattle.num_whole.specs.Answer.{Judged, good, bad}
-use Rattle.num_whole.proofs.Cases.{yes, no, is_less, not_less, up_to_true, less_true, both_first, both_second}
+use Rattle.num_whole.proofs.Cases.{yes, no, is_less, not_less, both_first, both_second}
 use Rattle.num_limits.specs.Capacities.{parameters_most, records_most}
 use Rattle.arc_read.specs.Arc.{Arc}
 use Rattle.part_laws.specs.Beginning.{opened, size_of, ends_at, closed_at, read_at}
 use Rattle.part_laws.specs.Feeding.{Position, ended, closing}
-use Rattle.part_laws.specs.Entries.{position_most, position_of, held_of, Told, took, broken, tidy, placed, led, fair, told_end}
+use Rattle.part_laws.specs.Entries.{position_most, position_of, held_of, took, broken, tidy, placed, led, fair, told_end}
 use Rattle.part_laws.specs.declared.Position as ByValue
 use Rattle.part_laws.proofs.ByValue.{tidy_fits, tidy_long, held_back}
 use Rattle.part_laws.proofs.Cuts.{read_good, read_bad}

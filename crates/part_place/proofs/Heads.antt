@@ -1,14 +1,14 @@
 -- The parameters that were read; whether a state is one that the entries give.
 -- Assumes nothing.
-use Prim.Native.Nat.{ℕ, ◌+◌, ◌≤◌, ◌<◌}
-use mathlib.Core.Path.{◌≡◌, refl, sym, ap, ◌∙◌, subst}
+use Prim.Native.Nat.{ℕ}
+use mathlib.Core.Path.{◌≡◌, sym, ap, ◌∙◌, subst}
 use mathlib.Core.List.{List}
 use mathlib.Core.Bool.{Bool, true, false}
 use native.Mathlib.Omega.{arith}
 use lib.Dec.{leb}
 use lib.IntN.{ℤ}
-use lib.ListN.{length, get_or}
-use Rattle.num_whole.specs.Tests.{up_to, both, below}
+use lib.ListN.{length}
+use Rattle.num_whole.specs.Tests.{up_to}
 use Rattle.num_whole.specs.Answer.{Judged, good, bad}
 use Rattle.num_whole.proofs.Cases.{by_cases, holds, fails, by_up_to}
 use Rattle.num_limits.specs.Capacities.{parameters_most, stations_most}

@@ -1,20 +1,19 @@
 -- What is read off a position by value: the bytes that count, and the front of them with a part.
 -- Assumes nothing.
-use Prim.Native.Nat.{ℕ, ◌+◌, ◌-◌, ◌≤◌, ◌<◌, min}
+use Prim.Native.Nat.{ℕ, ◌+◌, ◌-◌, ◌≤◌, min}
 use mathlib.Core.Path.{◌≡◌, refl, sym, ap, ap₂, ◌∙◌}
 use mathlib.Core.List.{List, ◌++◌, append_assoc}
 use mathlib.Core.Bool.{Bool, true, false}
 use native.Mathlib.Omega.{arith}
 use lib.ListN.{length, take, drop, replicate, length-append, take-append-drop}
 use lib.Seq.{take_at, take_all, length-take-le}
-use Rattle.num_whole.specs.Tests.{less, both, same, pick}
+use Rattle.num_whole.specs.Tests.{less}
 use Rattle.num_whole.specs.Lists.{padded}
 use Rattle.num_whole.proofs.Cases.{by_cases, yes, no, holds, fails, less_true, less_false}
 use Rattle.num_whole.proofs.Padded.{put_padded}
 use Rattle.byte_words.specs.Words.{lay}
 use Rattle.byte_words.proofs.Words.{lay_append}
-use Rattle.part_laws.specs.Beginning.{opened}
-use Rattle.part_laws.specs.Entries.{position_most, position_of, placed_by, ends_by, placed, ends, led, tidy, fair}
+use Rattle.part_laws.specs.Entries.{position_most, placed_by, ends_by, placed, ends, led, tidy, fair}
 use Rattle.part_laws.specs.declared.Position as ByValue
 use Rattle.part_laws.proofs.ByValue.{tidy_long}
 use Rattle.part_open.specs.Told.{told_opening}

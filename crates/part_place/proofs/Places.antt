@@ -1,10 +1,10 @@
 -- Whether a position is one that the entries give, by tests.
 -- Assumes nothing.
 use Prim.Native.Nat.{ℕ, ◌+◌, ◌≤◌, ◌<◌}
-use mathlib.Core.Path.{◌≡◌, refl, sym, ap, ◌∙◌}
+use mathlib.Core.Path.{◌≡◌, sym, ap, ◌∙◌}
 use mathlib.Core.Bool.{Bool, false}
 use lib.Dec.{ltb}
-use Rattle.num_whole.specs.Tests.{less, up_to, same, pick, both}
+use Rattle.num_whole.specs.Tests.{less, same, pick, both}
 use Rattle.num_whole.specs.Answer.{Judged, good, bad}
 use Rattle.num_whole.proofs.Cases.{holds, fails, is_up_to, not_up_to, by_less}
 use Rattle.arc_read.specs.Arc.{Arc}

@@ -1,5 +1,6 @@
 // A position in an arc file that is handed over in parts: made, put together with a part, and judged with the state at it.
 #![tactic(auto)]
+
 ghost use Rattle.std.specs.Prelude.{◌≡◌, true, false, ◌++◌, ◌+◌, ◌≤◌, length};
 ghost use Rattle.num_whole.specs.Tests.{less, pick, both, same};
 ghost use Rattle.num_whole.specs.Lists.{padded};

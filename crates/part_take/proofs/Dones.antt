@@ -1,18 +1,17 @@
 -- The records that a part completes, out of the front and the part.
 -- Assumes nothing.
-use Prim.Native.Nat.{ℕ, zero, suc, ◌+◌, ◌-◌, ◌*◌, ◌≤◌, ◌<◌, min}
-use mathlib.Core.Path.{◌≡◌, refl, sym, ap, ap₂, ◌∙◌, subst}
-use mathlib.Core.List.{List, [], ◌∷◌, ◌++◌}
+use Prim.Native.Nat.{ℕ, suc, ◌+◌, ◌-◌, ◌*◌, ◌≤◌, min}
+use mathlib.Core.Path.{◌≡◌, refl, sym, ap, ap₂, ◌∙◌}
+use mathlib.Core.List.{List, ◌∷◌}
 use native.Mathlib.Omega.{arith}
 use native.Mathlib.Nat.{suc-mul}
 use lib.ListN.{length, take, drop, replicate, length-append, length-take}
 use lib.Seq.{length-take-le, drop-drop, drop-append-add, take-take, take_at}
-use Rattle.num_whole.specs.Answer.{good}
 use Rattle.arc_kinds.specs.Kinds.{record_size}
 use Rattle.arc_heading.specs.declared.Heading.{Heading}
 use Rattle.arc_read.specs.Arc.{Arc}
 use Rattle.take_laws.specs.Taking.{cut}
-use Rattle.part_laws.specs.Beginning.{opened, done}
+use Rattle.part_laws.specs.Beginning.{done}
 use Rattle.part_laws.proofs.Front.{opened_start, done_within, done_cut, cut_take, drop_take_le}
 use Rattle.part_take.specs.Ready.{beginning, Ready}
 

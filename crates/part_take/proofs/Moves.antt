@@ -1,25 +1,25 @@
 -- Where a part leads once the file is opened: a surplus, or what is left.
 -- Assumes nothing.
-use Prim.Native.Nat.{ℕ, zero, suc, ◌+◌, ◌-◌, ◌*◌, ◌≤◌, ◌<◌, min}
+use Prim.Native.Nat.{ℕ, suc, ◌+◌, ◌-◌, ◌*◌, ◌≤◌, ◌<◌, min}
 use mathlib.Core.Path.{◌≡◌, refl, sym, ap, ap₂, ◌∙◌}
-use mathlib.Core.List.{List, [], ◌∷◌, ◌++◌}
+use mathlib.Core.List.{List, ◌++◌}
 use mathlib.Core.Bool.{false}
 use native.Mathlib.Omega.{arith}
 use native.Mathlib.Nat.{add-mul, zero-mul, suc-mul}
 use lib.ListN.{length, take, drop, length-append, length-drop, take-append-drop}
 use lib.Seq.{length-take-le, drop-append-add, take-take, take_all}
-use Rattle.num_whole.specs.Tests.{less, same, pick}
+use Rattle.num_whole.specs.Tests.{less}
 use Rattle.num_whole.specs.Answer.{Judged, good, bad}
 use Rattle.num_whole.specs.Lists.{padded}
 use Rattle.num_whole.proofs.Cases.{yes, no, by_cases, is_less, not_less, not_same, less_true, less_false}
 use Rattle.arc_kinds.specs.Kinds.{record_size}
 use Rattle.arc_heading.specs.declared.Heading.{Heading}
 use Rattle.arc_read.specs.Arc.{Arc}
-use Rattle.part_laws.specs.Beginning.{opened, ends_at, closed_at, whole, behind, done, left, read_at}
+use Rattle.part_laws.specs.Beginning.{ends_at, closed_at, whole, behind, left, read_at}
 use Rattle.part_laws.specs.Feeding.{ended, so_far, moved}
-use Rattle.part_laws.specs.Entries.{position_most, held_of, Told, took, broken, told_form}
+use Rattle.part_laws.specs.Entries.{position_most, held_of, took, broken, told_form}
 use Rattle.part_laws.proofs.Runs.{whole_long}
-use Rattle.part_laws.proofs.Cuts.{done_good, left_good, read_good}
+use Rattle.part_laws.proofs.Cuts.{left_good, read_good}
 use Rattle.part_laws.proofs.Six.{whole_few, behind_few, so_far_within}
 use Rattle.part_laws.proofs.Opened.{opened_within}
 use Rattle.part_laws.proofs.Front.{opened_start, left_cut}

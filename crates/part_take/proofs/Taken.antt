@@ -1,9 +1,8 @@
 -- Runs of whole records, one after another.
 -- Assumes nothing.
-use Prim.Native.Nat.{ℕ, zero, suc, ◌+◌, ◌-◌, ◌*◌, ◌/◌, ◌≤◌, ◌<◌, min}
-use mathlib.Core.Path.{◌≡◌, refl, sym, ap, ap₂, ◌∙◌}
-use mathlib.Core.List.{List, [], ◌∷◌, ◌++◌, append-nil}
-use mathlib.Core.Bool.{true}
+use Prim.Native.Nat.{ℕ, ◌+◌, ◌-◌, ◌*◌, ◌/◌, ◌≤◌, min}
+use mathlib.Core.Path.{◌≡◌, sym, ap, ap₂, ◌∙◌}
+use mathlib.Core.List.{List, ◌∷◌, ◌++◌, append-nil}
 use native.Mathlib.Omega.{arith}
 use native.Mathlib.Nat.{mul-div_cancel}
 use lib.ListN.{length, take, drop, length-append, length-drop}
@@ -11,7 +10,6 @@ use lib.Seq.{take_all, take-length, drop-length, length-take-le}
 use borrow.Rule.Slice.PartMut.{mid_of, put_mid, mid_len}
 use Rattle.byte_words.proofs.Words.{lay_front, length_lay}
 use Rattle.take_laws.proofs.Runs.{length_cut, length_answers}
-use Rattle.num_whole.specs.Tests.{up_to}
 use Rattle.num_whole.proofs.Cases.{is_up_to}
 use Rattle.refusal.proofs.Firsts.{first_none_left, first_pass, unless_true}
 use Rattle.byte_words.specs.Words.{lay}
@@ -19,7 +17,7 @@ use Rattle.arc_kinds.specs.Kinds.{record_size}
 use Rattle.arc_heading.specs.declared.Heading.{Heading}
 use Rattle.take_state.specs.State.{State}
 use Rattle.take_laws.specs.Machine.{run, answers}
-use Rattle.take_laws.specs.Taking.{frame_of, record_answer, record_step, cut, whole_records, whole_run, run_number, run_state, run_answers}
+use Rattle.take_laws.specs.Taking.{frame_of, record_answer, record_step, cut, run_number, run_state, run_answers}
 use Rattle.take_laws.proofs.Guarded.{Held, held_heading, held_step}
 use Rattle.take_lent.proofs.Whole.{state_taken, answers_taken, whole_are, records_are, nothing_left}
 

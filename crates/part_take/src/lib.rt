@@ -1,5 +1,6 @@
 // The records that a part of an arc file completes, taken, and where the part leads once the file is opened.
 #![tactic(auto)]
+
 ghost use Rattle.std.specs.Prelude.{◌≡◌, ◌∷◌, ◌+◌, ◌*◌, ◌≤◌, length};
 ghost use Rattle.num_limits.specs.Capacities.{parameters_most, records_most};
 ghost use Rattle.byte_words.specs.Words.{lay};

@@ -1,5 +1,6 @@
 // The papers' refusal numbers: one enum, a case for each number of document 01's table and of document 02's requests.
 #![tactic(auto)]
+
 ghost use Rattle.std.specs.Prelude.{◌≡◌};
 ghost use Rattle.refusal.specs.Number.{number_of};
 

@@ -1,29 +1,25 @@
 -- The refusals of the entries in their order, and what an entry leaves where nothing refuses.
 -- Assumes nothing.
-use Prim.Native.Nat.{ℕ, ◌+◌, ◌*◌, ◌/◌, ◌≤◌, ◌<◌, min}
+use Prim.Native.Nat.{ℕ, ◌≤◌, ◌<◌}
 use mathlib.Core.Path.{◌≡◌, refl, sym, ap, ◌∙◌}
 use mathlib.Core.Bool.{true, false}
-use mathlib.Core.List.{List, [], ◌∷◌}
-use native.Mathlib.Omega.{arith}
+use mathlib.Core.List.{List, ◌∷◌}
 use lib.ListN.{length}
 use Rattle.num_whole.specs.Tests.{same, pick}
 use Rattle.num_whole.specs.Answer.{given, refused}
-use Rattle.num_whole.proofs.Cases.{yes, no, is_same, not_same, is_up_to, not_up_to, up_to_true}
+use Rattle.num_whole.proofs.Cases.{no, not_same, is_up_to, not_up_to}
 use Rattle.refusal.specs.Number.{number_of}
 use Rattle.refusal.specs.First.{unless, first, answered}
 use Rattle.refusal.specs.declared.Refusal.{Refusal}
 use Rattle.refusal.specs.declared.Refusal.TheVariants.{Room, Short}
 use Rattle.refusal.proofs.Apart.{not_none}
-use Rattle.refusal.proofs.Firsts.{unless_true, unless_false, unless_none, first_none, first_none_left, first_one, first_pass, first_by, answered_given, answered_by, answered_is, answered_not}
-use Rattle.byte_words.specs.Words.{lay}
+use Rattle.refusal.proofs.Firsts.{unless_true, unless_false, first_none_left, first_one, first_pass, first_by, answered_given, answered_by, answered_is, answered_not}
 use Rattle.refusal.specs.Told.{told_verdict}
 use Rattle.arc_heading.specs.declared.Heading.{Heading}
 use Rattle.refusal.specs.declared.Verdict.{Verdict}
 use Rattle.refusal.specs.declared.Verdict.TheVariants as Verdicts
-use Rattle.arc_kinds.specs.Kinds.{record_size}
-use Rattle.take_state.specs.State.{State, state_number, capped}
-use Rattle.take_laws.specs.Machine.{run, answers}
-use Rattle.take_laws.specs.Taking.{frame_of, book, record_answer, record_step, take_answer, take_step, cut, whole_records, records_in, whole_run, run_number, run_state, run_answers}
+use Rattle.take_state.specs.State.{State, state_number}
+use Rattle.take_laws.specs.Taking.{frame_of, book, record_answer, record_step, take_answer, take_step, whole_records, whole_run, run_number, run_state, run_answers}
 
 -- ---- a verdict and its number
 pub none_by : (k : ℕ) (v : Verdict) → told_verdict v ≡ answered k (tt {0}) → v ≡ Verdicts.Sound → k ≡ 0

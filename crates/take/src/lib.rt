@@ -1,5 +1,6 @@
 // Taking records: one record, or a run of them, into the state of an arc.
 #![tactic(auto)]
+
 ghost use Rattle.std.specs.Prelude.{◌≡◌, ◌*◌, ◌/◌, ◌<◌, length};
 ghost use Rattle.refusal.specs.First.{answered};
 ghost use Rattle.refusal.specs.Told.{told_verdict};

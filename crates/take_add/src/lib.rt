@@ -1,5 +1,6 @@
 // Inner to `take_steps`: the terms of one record added to the packed triangle and to the right sides.
 #![tactic(auto)]
+
 ghost use Rattle.std.specs.Prelude.{◌≡◌, ◌≤◌, ◌<◌, ◌^◌, pos, ◌+ℤ◌, ◌*ℤ◌, nat_abs, length, get_or, set};
 ghost use Rattle.num_limits.specs.Capacities.{parameters_most, stations_most, weight_top};
 ghost use Rattle.take_marks.specs.Marks.{marks_with};

@@ -1,5 +1,6 @@
 // The counts of accepted records, one for each station: their limits and their total.
 #![tactic(auto)]
+
 ghost use Rattle.std.specs.Prelude.{◌≡◌, ◌≤◌, ◌<◌};
 ghost use Rattle.num_limits.specs.Capacities.{accepted_most, count_most};
 ghost use Rattle.num_whole.specs.Tests.{less, pick};

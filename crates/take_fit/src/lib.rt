@@ -1,5 +1,6 @@
 // Inner to `take`: one record fitted to its heading, by numbers alone: 1, 3, 10 to 16, or what is kept of it.
 #![tactic(auto)]
+
 ghost use Rattle.std.specs.Prelude.{◌≡◌, true, ◌*◌, ◌≤◌, ◌<◌, length};
 ghost use Rattle.num_limits.specs.Capacities.{parameters_most};
 ghost use Rattle.num_whole.specs.Answer.{refused};

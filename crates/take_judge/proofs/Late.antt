@@ -6,9 +6,8 @@ use native.Mathlib.Omega.{arith}
 use Rattle.num_whole.specs.Answer.{given, refused}
 use lib.IntN.{ℤ, pos, nat_abs, ◌*ℤ◌}
 use mathlib.Core.Bool.{true, false}
-use Rattle.num_whole.proofs.Cases.{no, is_less, not_less}
+use Rattle.num_whole.proofs.Cases.{is_less, not_less}
 use Rattle.num_whole.proofs.Ints.{*-within}
-use Rattle.refusal.specs.First.{unless, first, answered}
 use Rattle.refusal.proofs.Firsts.{unless_true, unless_false, first_none_left, first_pass, first_stop, answered_given}
 use Rattle.take_rules.specs.Rules.{passes_edit}
 use Rattle.take_laws.specs.Taking.{residual}

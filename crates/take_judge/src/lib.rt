@@ -1,5 +1,6 @@
 // Inner to `take`: one record that fits its heading judged by its station's last time and count: 17, 18, 19, or what it adds to the sums.
 #![tactic(auto)]
+
 ghost use Rattle.std.specs.Prelude.{◌≡◌, ◌*◌, ◌≤◌, ◌<◌, ◌^◌, pos, nat_abs, ◌*ℤ◌};
 ghost use Rattle.take_judge.specs.Judged.{terms_by, judged_late, told_judgement};
 

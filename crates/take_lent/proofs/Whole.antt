@@ -1,16 +1,15 @@
 -- A run that nothing refuses: what it has, what is left of the state and the room, its records, and when nothing is left over.
 -- Assumes nothing.
-use Prim.Native.Nat.{ℕ, ◌+◌, ◌*◌, ◌/◌, ◌≤◌, ◌<◌, min}
+use Prim.Native.Nat.{ℕ, ◌+◌, ◌*◌, ◌/◌, ◌≤◌, min}
 use mathlib.Core.Path.{◌≡◌, refl, sym, ap, ◌∙◌}
 use mathlib.Core.Bool.{true, false}
-use mathlib.Core.List.{List, [], ◌∷◌}
+use mathlib.Core.List.{List}
 use native.Mathlib.Omega.{arith}
 use lib.ListN.{length}
-use Rattle.num_whole.specs.Tests.{same, pick}
+use Rattle.num_whole.specs.Tests.{same}
 use Rattle.num_whole.proofs.Cases.{yes, is_same, not_same, up_to_true}
 use Rattle.refusal.proofs.Firsts.{unless_none, first_none}
 use Rattle.byte_words.specs.Words.{lay}
-use Rattle.num_limits.specs.Capacities.{parameters_most}
 use Rattle.arc_heading.specs.declared.Heading.{Heading}
 use Rattle.arc_kinds.specs.Kinds.{record_size}
 use Rattle.take_state.specs.State.{State, state_number, capped}

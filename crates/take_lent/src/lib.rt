@@ -1,5 +1,6 @@
 // Inner to the taking: a run taken into lent sums, the heading, the state and the run found sound.
 #![tactic(auto)]
+
 ghost use Rattle.std.specs.Prelude.{◌≡◌, length};
 ghost use Rattle.arc_heading.specs.Judge.{numbers_of};
 ghost use Rattle.take_state.specs.State.{state_of};

@@ -1,8 +1,7 @@
 -- Words by their digits: of two words joined, of a power of two, and that digits tell a word.
 -- Assumes nothing.
 use Prim.Native.Nat.{ℕ, zero, suc, ◌+◌, ◌-◌, ◌*◌, ◌/◌, ◌%◌, ◌^◌, ◌≤◌, ◌<◌, max, min}
-use mathlib.Core.Path.{◌≡◌, refl, sym, ap, ap₂, ◌∙◌, subst}
-use mathlib.Core.Bool.{Bool, true, false}
+use mathlib.Core.Path.{◌≡◌, refl, sym, ap, ap₂, ◌∙◌}
 use native.Mathlib.Omega.{arith}
 use native.Mathlib.Nat.{div-add-mod', mod-lt, pow-suc, mul_comm, div-one, div_self, div-eq_of_lt, div-div-eq-div-mul, mul-div_cancel, mul-mod_left, eq-or-lt_of_le}
 use mathlib.Core.Logic.{⊎_elim}

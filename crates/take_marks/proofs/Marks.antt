@@ -1,14 +1,14 @@
 -- The marks of one parameter: a station's mark is set and kept, the others' are untouched; marks of two stations set in any order are the same;
 -- no mark is the word 0; and the count is the number of the stations that have one.
 -- Assumes nothing.
-use Prim.Native.Nat.{ℕ, zero, suc, ◌+◌, ◌-◌, ◌*◌, ◌/◌, ◌%◌, ◌^◌, ◌≤◌, ◌<◌, max}
+use Prim.Native.Nat.{ℕ, zero, suc, ◌+◌, ◌-◌, ◌/◌, ◌%◌, ◌^◌, ◌≤◌, ◌<◌, max}
 use mathlib.Core.Path.{◌≡◌, refl, sym, ap, ap₂, ◌∙◌, subst}
 use mathlib.Core.Bool.{Bool, true, false}
 use native.Mathlib.Omega.{arith}
 use native.Mathlib.Nat.{pow-suc, max-zero, div-one, div-div-eq-div-mul}
 use native.Mathlib.Numerals.{add-one}
 use lib.Pow.{pow-lt}
-use lib.Bits.{bit_or, or_lt}
+use lib.Bits.{or_lt}
 use lib.Count.{ones, ones_in, ones_step}
 use Rattle.num_whole.specs.Tests.{same, pick}
 use Rattle.num_whole.proofs.Cases.{yes, no, is_same, not_same, same_true, same_false, by_cases, apart}

@@ -1,6 +1,6 @@
 -- Marks of stations that have records: judged at once by a word of those stations, and judged one by one, it is the same.
 -- Assumes nothing.
-use Prim.Native.Nat.{ℕ, zero, suc, ◌+◌, ◌^◌, ◌≤◌, ◌<◌, min}
+use Prim.Native.Nat.{ℕ, zero, suc, ◌^◌, ◌≤◌, ◌<◌, min}
 use mathlib.Core.Path.{◌≡◌, refl, sym, ap, ◌∙◌, subst}
 use mathlib.Core.Bool.{Bool, true, false, not}
 use mathlib.Core.List.{List}
@@ -11,12 +11,12 @@ use mathlib.Core.Logic.{⊎_elim}
 use lib.Bits.{bit_and, and_lt}
 use lib.ListN.{get_or}
 use Rattle.num_limits.specs.Capacities.{stations_most}
-use Rattle.num_whole.specs.Tests.{less, same, pick, either, below}
-use Rattle.num_whole.proofs.Cases.{apart, yes, no, by_cases, at_once, at_last, is_same, not_same, same_true}
-use Rattle.num_whole.proofs.Tables.{below_at, below_every, below_fails}
+use Rattle.num_whole.specs.Tests.{less, same, either, below}
+use Rattle.num_whole.proofs.Cases.{apart, yes, no, by_cases, at_once, at_last, is_same, same_true}
+use Rattle.num_whole.proofs.Tables.{below_at, below_every}
 use Rattle.take_marks.specs.Marks.{digit, has_mark, with_mark, marks_heard}
 use Rattle.take_marks.specs.Parts.{heard_word, among_marks}
-use Rattle.take_marks.proofs.Digits.{digit_small, digit_meet, same_digits}
+use Rattle.take_marks.proofs.Digits.{digit_meet, same_digits}
 use Rattle.take_marks.proofs.Marks.{mark_set, mark_kept, mark_small, zero_marks, digit_one, digit_none}
 
 one_not : ◌≡◌ {A = ℕ} 1 0 → ⊥

@@ -1,5 +1,6 @@
 // The marks of a parameter, one word: which stations gave an accepted partial other than 0 for it.
 #![tactic(auto)]
+
 ghost use Rattle.std.specs.Prelude.{◌≡◌, ◌≤◌, ◌<◌};
 ghost use Rattle.num_whole.specs.Tests.{less, pick};
 ghost use Rattle.num_packed.specs.Sound.{is_zero};

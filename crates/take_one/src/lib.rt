@@ -1,5 +1,6 @@
 // Inner to `take`: one record taken into sums of just its parameters, and what a taking answers.
 #![tactic(auto)]
+
 ghost use Rattle.std.specs.Prelude.{◌≡◌, length};
 ghost use Rattle.refusal.specs.First.{answered};
 ghost use Rattle.take_state.specs.State.{state_of};

@@ -1,5 +1,6 @@
 // Inner to states: whether lent room has place for the sums of so many parameters, and its clearing.
 #![tactic(auto)]
+
 ghost use Rattle.std.specs.Prelude.{◌≡◌, ◌≤◌, min, length};
 ghost use Rattle.num_limits.specs.Capacities.{parameters_most};
 ghost use Rattle.num_packed.specs.Room.{sums_roomy};

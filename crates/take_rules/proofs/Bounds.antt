@@ -3,7 +3,7 @@
 use Prim.Native.Nat.{ℕ, ◌*◌, ◌≤◌, ◌^◌}
 use mathlib.Core.Path.{◌≡◌, sym, ap, ◌∙◌, subst}
 use mathlib.Core.Bool.{true}
-use native.Mathlib.Nat.{mul-one, div-mul-le_self, mul-le-mul, mul_assoc, mul_comm, le_trans, le_of_eq, mul-le-mul_left, mul-le-mul_right, le-div_iff_mul-le, mul-pos}
+use native.Mathlib.Nat.{mul-one, mul-le-mul, mul_assoc, mul_comm, le_trans, le_of_eq, mul-le-mul_left, mul-le-mul_right}
 use native.Mathlib.Omega.{arith}
 use lib.Dec.{T}
 use lib.IntN.{ℤ, pos, negsuc, nat_abs, ◌*ℤ◌}

@@ -8,7 +8,7 @@ use native.Mathlib.Omega.{arith}
 use lib.IntN.{ℤ, pos, negsuc, suc_ℤ, ◌+ℤ◌, +ℤ-suc_ℤ, +ℤ_one, +ℤ_comm, +ℤ_assoc, pos-+ℤ-pos}
 use lib.Dec.{T, lt→ltb, le→leb}
 use lib.Signed.{◌≤ℤ◌, ◌<ℤ◌, le_z, lt_z, le_z_yes, lt_z_yes, <ℤ-≤ℤ_trans}
-use Rattle.days_leap.specs.Leap.{common_length, listed_before, day_start, last_ms}
+use Rattle.days_leap.specs.Leap.{common_length, listed_before, last_ms}
 use Rattle.days_leap.proofs.Days.{Earlier, time_rises, start_before}
 use Rattle.num_whole.proofs.Cases.{both_second, up_to_true}
 use Rattle.take_rules.specs.Rules.{clock_ok, time_of}

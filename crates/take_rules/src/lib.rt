@@ -1,5 +1,6 @@
 // Inner to `take`: the rules by which one record is judged, each behind one definition.
 #![tactic(auto)]
+
 ghost use Rattle.std.specs.Prelude.{◌≡◌, true, ◌+◌, ◌≤◌, ◌^◌, nat_abs};
 ghost use Rattle.num_limits.specs.Capacities.{sigma_most, weight_top, last_day, day_after_last};
 ghost use Rattle.days_leap.specs.Leap.{last_ms};

@@ -1,14 +1,12 @@
 -- Refusals of a heading with its state, in their order, what room an accepted one has, what starting leaves in the room, and what is seen.
 -- Assumes nothing.
-use Prim.Native.Nat.{ℕ, suc, ◌+◌, ◌-◌, ◌≤◌, ◌<◌, min}
+use Prim.Native.Nat.{ℕ, ◌+◌, ◌≤◌, ◌<◌, min}
 use mathlib.Core.Path.{◌≡◌, refl, sym, ap, ◌∙◌}
 use mathlib.Core.Bool.{Bool, true, false}
-use mathlib.Core.List.{List, [], ◌∷◌, ◌++◌}
-use native.Mathlib.Numerals.{add-one}
+use mathlib.Core.List.{List}
 use native.Mathlib.Omega.{arith}
-use lib.IntN.{ℤ, pos}
-use lib.ListN.{length, get_or, take, drop, set, take-append-drop}
-use lib.Seq.{drop-cons, drop-set-lt, take-suc-set, append_snoc}
+use lib.IntN.{ℤ}
+use lib.ListN.{length}
 use Rattle.num_whole.specs.Tests.{pick}
 use Rattle.num_whole.specs.Answer.{Answered, given, refused}
 use Rattle.num_whole.proofs.Cases.{yes, no, is_less, not_less, less_true, is_same, not_same, both_first, both_second, up_to_true}

@@ -1,5 +1,6 @@
 // The state of an arc: its sums in lent room, its tally by value; the empty state, and the judging of one that is handed in.
 #![tactic(auto)]
+
 ghost use Rattle.std.specs.Prelude.{◌≡◌, ◌+◌, ◌*◌, ◌^◌, ◌≤◌, ◌<◌, min, pos, length};
 ghost use Rattle.num_limits.specs.Capacities.{accepted_most, parameters_most};
 ghost use Rattle.num_packed.specs.Triangle.{tri};

@@ -1,5 +1,6 @@
 // A run of records taken, the heading and the state found sound: each judged, its terms added, its answer written.
 #![tactic(auto)]
+
 ghost use Rattle.std.specs.Prelude.{◌≡◌, ◌*◌, ◌/◌, ◌≤◌, ◌<◌, ◌^◌, pos, nat_abs, length, get_or};
 ghost use Rattle.num_limits.specs.Capacities.{parameters_most, stations_most, weight_top};
 ghost use Rattle.take_marks.specs.Marks.{marks_with};

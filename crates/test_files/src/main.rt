@@ -2,6 +2,7 @@
 // input has arc files in lines of hexadecimal digits: cut everywhere, with every byte changed, and at each limit; each line is written anew, the
 // file as it was read from the line, and the library's own answer.
 #![tactic(auto)]
+
 use arc_heading::Heading;
 use byte_section::{ReadAnswer, WriteAnswer};
 use refusal::Refusal;

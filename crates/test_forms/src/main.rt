@@ -1,6 +1,7 @@
 // Runs the vectors of normal files moved to either form. Each line is written anew: the move and its file as they were read, and the library's own
 // answer. Where a file was moved, a line more tells the same move into room that is one byte shorter.
 #![tactic(auto)]
+
 use norm_move::MoveAnswer;
 
 // `refused N at PLACE`, or the file that was moved.

@@ -2,6 +2,7 @@
 // The expected text is the outside vectors': for a pair its two names, then the vector's answer; after `ok` the bytes of its merged file, two
 // hexadecimal digits each. A pair whose files are both accepted (`ok`, or 21 to 24) stands there once more in the other order with the same answer.
 #![tactic(auto)]
+
 mod large;
 
 use merge::MergeAnswer;

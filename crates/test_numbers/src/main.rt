@@ -1,6 +1,7 @@
 // Runs the vectors of days, cells and units, and doubles of every exponent. The first word of a line tells what it asks. Each line is written anew: its question as it was read,
 // and the library's own answer.
 #![tactic(auto)]
+
 use cells::{Cell, CellAnswer, IndexAnswer, Letter};
 use days::{Date, DateAnswer, DayAnswer};
 use unit_convert::{DoubleAnswer, UnitAnswer};

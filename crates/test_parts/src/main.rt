@@ -1,6 +1,7 @@
 // Runs the vectors of arc files handed over in parts. Each line is written anew without its file: its cuts as they were read, and the library's
 // own answer to each part, to finish and to one part after it; then the answers of the records that were taken.
 #![tactic(auto)]
+
 use num_limits::{ARC_SUMS_MOST, PARAMETERS_MOST};
 use part::{Begun, Parted};
 use part_laws::{PartAnswer, Position};

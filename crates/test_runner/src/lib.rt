@@ -1,6 +1,7 @@
 // What the programs that run vectors and stored cases share: standard input read whole, the line at a place of a text, and the file that an
 // argument names. What can't be read is told, and then what is written is not what is expected.
 #![tactic(auto)]
+
 ghost use Rattle.std.specs.Prelude.{◌≡◌, length};
 ghost use Rattle.io.specs.Counts.{IsPrefixLen};
 

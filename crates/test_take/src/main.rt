@@ -4,6 +4,7 @@
 // The last four lines take one set of sixteen records from the empty state, in mixes that keep each station's own order: one after another, by
 // turns, backwards, and one more. The state after them is the same, and so is what each record was told.
 #![tactic(auto)]
+
 use arc_heading::Heading;
 use arc_limits::{Label, Settings, Station};
 use num_limits::{ARC_SUMS_MOST, PARAMETERS_MOST, STATIONS_MOST, TYPES};

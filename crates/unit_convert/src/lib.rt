@@ -1,5 +1,6 @@
 // Units: doubles to whole units by their type, and back.
 #![tactic(auto)]
+
 ghost use Rattle.std.specs.Prelude.{◌≡◌};
 ghost use Rattle.num_whole.specs.Answer.{given, refused};
 ghost use Rattle.num_whole.specs.Tests.{pick};

@@ -1,5 +1,6 @@
 // Measurements: a case a type, each with its two doubles, made of a type's number and taken apart again.
 #![tactic(auto)]
+
 ghost use Rattle.std.specs.Prelude.{◌≡◌};
 ghost use Rattle.unit_measure.specs.Measures.{reading, reading_of, measured_as, told_measurement};
 

@@ -1,6 +1,7 @@
 // Inner to `unit_convert`: a double in units of 2 ^ -k, and a unit as a double. The way to a unit reads the double's bits and goes on in whole
 // numbers and shifts, a function a step; docs/ROUNDING.md walks four doubles through it.
 #![tactic(auto)]
+
 ghost use Rattle.std.specs.Prelude.{◌≡◌, ◌+◌, ◌*◌, ◌^◌, ◌≤◌, ◌<◌, nat_abs};
 ghost use Rattle.std.specs.Float.Ieee.Nearest.{closest};
 ghost use Rattle.std.specs.Float.Ieee.Scale.{finite};

@@ -1,5 +1,6 @@
 // The residual of a measurement: observed minus computed, in units.
 #![tactic(auto)]
+
 ghost use Rattle.std.specs.Prelude.{◌≡◌};
 ghost use Rattle.unit_types.specs.Narrow.{Narrow};
 ghost use Rattle.unit_measure.specs.Measures.{reading_of};

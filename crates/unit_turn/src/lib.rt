@@ -1,6 +1,7 @@
 // Inner to `unit_convert` and `unit_residual`: units by the row of their type; where they count around one turn, T stands for 0, and a difference is
 // brought within half a turn.
 #![tactic(auto)]
+
 ghost use Rattle.std.specs.Prelude.{◌≡◌, ◌^◌, ◌≤◌, nat_abs};
 ghost use Rattle.unit_nearest.specs.Doubles.{unit_within, told_nearest};
 ghost use Rattle.unit_types.specs.Narrow.{Narrow};

@@ -1,5 +1,6 @@
 // The ten types of measurement: the table's row of each.
 #![tactic(auto)]
+
 ghost use Rattle.std.specs.Prelude.{◌≡◌, false};
 ghost use Rattle.unit_types.specs.Types.{row, is_type, row_of_type, row_at, told_row};
 

@@ -1,6 +1,7 @@
 // The library for callers in C and in Rust: numbers and slices only, no requirement on any of them. A call answers 0 where it is done, else the
 // paper's refusal number; results go into lent room, and a refusal changes nothing there. include/wheloruka.h declares the calls.
 #![tactic(auto)]
+
 ghost use Rattle.std.specs.Prelude.{◌≡◌, length, true, false};
 ghost use Rattle.call_rooms.specs.Result.{result_number, result_left, told_values, one, room_for, bytes_left};
 ghost use Rattle.arc_read.specs.Arc.{read_arc};

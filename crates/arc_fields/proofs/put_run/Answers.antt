@@ -1,10 +1,8 @@
 use native.Mathlib.Omega.{arith}
-use borrow.Author.Rules.{rules}
-use Prim.Native.Nat.{◌≤◌, ◌+◌, ◌-◌}
-use mathlib.Core.Path.{◌≡◌, refl, sym, ◌∙◌}
-use lib.ListN.{length, drop, length-set}
+use Prim.Native.Nat.{◌-◌}
+use mathlib.Core.Path.{refl, sym, ◌∙◌}
+use lib.ListN.{length-set}
 use native.Mathlib.Nat.{add-zero}
-use Rattle.byte_words.specs.Words.{lay}
 use Rattle.arc_fields.proofs.Run.{run_end_lem, run_turn}
 use Rattle.arc_fields.proofs.put_run.Goals as goal
 

@@ -1,12 +1,8 @@
 -- `arc_fields::put_run` meets its contract. The loop's invariant: the bytes left, laid at the place, make the whole.
-use native.Mathlib.Omega.{arith}
-use borrow.Author.Rules.{rules}
 use Prim.Native.Nat.{◌≤◌, ◌+◌, ◌-◌}
-use mathlib.Core.Path.{◌≡◌, refl, sym, ◌∙◌}
-use lib.ListN.{length, drop, length-set}
-use native.Mathlib.Nat.{add-zero}
+use mathlib.Core.Path.{◌≡◌}
+use lib.ListN.{length, drop}
 use Rattle.byte_words.specs.Words.{lay}
-use Rattle.arc_fields.proofs.Run.{run_end_lem, run_turn}
 use Rattle.arc_fields.proofs.put_run.Given as goal
 
 abbrev pub invariant-loop-i : goal.invariant-loop-i

@@ -3,7 +3,6 @@ use native.Mathlib.Omega.{arith}
 use mathlib.Core.Path.{◌∙◌}
 use Rattle.byte_words.proofs.Words.{lay_append, length_bytes_of}
 use Rattle.arc_kinds.specs.Kinds.{settings_bytes}
-use borrow.Author.Rules.{rules}
 use Rattle.arc_fields.proofs.put_settings.Goals as goal
 
 pub returns : goal.returns

@@ -5,7 +5,6 @@ use mir.Syntax.{w32}
 use mir.ValLaws.{to_z-of_z}
 use Rattle.byte_words.proofs.Words.{lay_append, length_bytes_of}
 use Rattle.arc_kinds.specs.Kinds.{station_bytes}
-use borrow.Author.Rules.{rules}
 use Rattle.arc_fields.proofs.put_station.Goals as goal
 
 pub returns : goal.returns

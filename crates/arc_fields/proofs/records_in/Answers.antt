@@ -1,7 +1,6 @@
 -- `arc_fields::records_in` meets its contract.
 use mathlib.Core.Path.{ap}
 use Prim.Native.Nat.{◌/◌}
-use borrow.Author.Rules.{rules}
 use Rattle.arc_fields.proofs.records_in.Goals as goal
 
 pub returns : goal.returns

@@ -1,5 +1,4 @@
 -- `arc_front::blank` meets its contract: every field is 0.
-use borrow.Author.Rules.{rules}
 use Rattle.arc_front.proofs.blank.Goals as goal
 
 pub returns : goal.returns

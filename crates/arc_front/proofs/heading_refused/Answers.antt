@@ -1,5 +1,4 @@
 -- `arc_front::heading_refused` meets its contract: the answer is the refusal, and the heading is blank.
-use borrow.Author.Rules.{rules}
 use native.Mathlib.Omega.{arith}
 use mathlib.Core.Path.{refl, ap}
 use Rattle.arc_front.proofs.Front.{heading_refused}

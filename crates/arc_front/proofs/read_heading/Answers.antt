@@ -1,5 +1,4 @@
 -- `arc_front::read_heading` meets its contract: the settings, the labels and the stations, the first refusal told.
-use borrow.Author.Rules.{rules}
 use mathlib.Core.Path.{refl, sym, ap, ◌∙◌}
 use Rattle.byte_section.proofs.Walk.{then_good, then_bad}
 use Rattle.arc_kinds.specs.Told.{told_settings}

@@ -1,5 +1,4 @@
 -- `arc_heading::judge` meets its contract: 2, 4 and 5 in the definition's order.
-use borrow.Author.Rules.{rules}
 use mathlib.Core.Path.{refl, sym, ◌∙◌}
 use Rattle.num_whole.proofs.Cases.{yes, no}
 use Rattle.arc_heading.specs.Judge.{judged, counts_ok}

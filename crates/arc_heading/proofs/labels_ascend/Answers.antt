@@ -1,11 +1,10 @@
 use native.Mathlib.Omega.{arith}
-use mathlib.Core.Path.{◌≡◌, refl, sym, ◌∙◌}
-use Prim.Native.Nat.{◌≤◌, ◌-◌}
-use lib.ListN.{length, length-map}
+use mathlib.Core.Path.{refl, sym, ◌∙◌}
+use Prim.Native.Nat.{◌-◌}
 use borrow.Author.Rules.{rules}
-use Rattle.num_whole.specs.Lists.{ascend, rest}
+use Rattle.num_whole.specs.Lists.{rest}
 use Rattle.num_whole.proofs.Walks.{ascend_end, ascend_pass, ascend_fail}
-use Rattle.arc_limits.specs.Limits.{label_key, no_label}
+use Rattle.arc_limits.specs.Limits.{no_label}
 use Rattle.arc_heading.specs.Judge.{labels_of}
 use Rattle.arc_heading.proofs.labels_ascend.Goals as goal
 

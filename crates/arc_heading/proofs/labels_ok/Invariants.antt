@@ -1,12 +1,9 @@
 -- `arc_heading::labels_ok` meets its contract. The loop's invariant: what is left to judge decides the whole.
-use native.Mathlib.Omega.{arith}
-use mathlib.Core.Path.{◌≡◌, refl, sym, ◌∙◌}
+use mathlib.Core.Path.{◌≡◌}
 use Prim.Native.Nat.{◌≤◌, ◌-◌}
-use lib.ListN.{length, length-map}
-use borrow.Author.Rules.{rules}
+use lib.ListN.{length}
 use Rattle.num_whole.specs.Lists.{all, rest}
-use Rattle.num_whole.proofs.Walks.{all_end, all_pass, all_fail}
-use Rattle.arc_limits.specs.Limits.{label_ok, no_label}
+use Rattle.arc_limits.specs.Limits.{label_ok}
 use Rattle.arc_heading.specs.Judge.{labels_of}
 use Rattle.arc_heading.proofs.labels_ok.Given as goal
 

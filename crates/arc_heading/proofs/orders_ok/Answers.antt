@@ -1,5 +1,4 @@
 -- `arc_heading::orders_ok` meets its contract: its tests are the definition's.
-use borrow.Author.Rules.{rules}
 use mathlib.Core.Path.{sym, ◌∙◌}
 use Rattle.num_whole.proofs.Cases.{holds, fails}
 use Rattle.arc_heading.specs.Judge.{orders_ok}

@@ -1,11 +1,10 @@
 use native.Mathlib.Omega.{arith}
-use mathlib.Core.Path.{◌≡◌, refl, sym, ◌∙◌}
-use Prim.Native.Nat.{◌≤◌, ◌-◌}
-use lib.ListN.{length, length-map}
+use mathlib.Core.Path.{refl, sym, ◌∙◌}
+use Prim.Native.Nat.{◌-◌}
 use borrow.Author.Rules.{rules}
-use Rattle.num_whole.specs.Lists.{ascend, rest}
+use Rattle.num_whole.specs.Lists.{rest}
 use Rattle.num_whole.proofs.Walks.{ascend_end, ascend_pass, ascend_fail}
-use Rattle.arc_limits.specs.Limits.{station_key, no_station}
+use Rattle.arc_limits.specs.Limits.{no_station}
 use Rattle.arc_heading.specs.Judge.{stations_of}
 use Rattle.arc_heading.proofs.stations_ascend.Goals as goal
 

@@ -1,12 +1,9 @@
 -- `arc_heading::stations_ascend` meets its contract. The loop's invariant: what is left to judge decides the whole.
-use native.Mathlib.Omega.{arith}
-use mathlib.Core.Path.{◌≡◌, refl, sym, ◌∙◌}
+use mathlib.Core.Path.{◌≡◌}
 use Prim.Native.Nat.{◌≤◌, ◌-◌}
-use lib.ListN.{length, length-map}
-use borrow.Author.Rules.{rules}
+use lib.ListN.{length}
 use Rattle.num_whole.specs.Lists.{ascend, rest}
-use Rattle.num_whole.proofs.Walks.{ascend_end, ascend_pass, ascend_fail}
-use Rattle.arc_limits.specs.Limits.{station_key, no_station}
+use Rattle.arc_limits.specs.Limits.{station_key}
 use Rattle.arc_heading.specs.Judge.{stations_of}
 use Rattle.arc_heading.proofs.stations_ascend.Given as goal
 

@@ -1,9 +1,8 @@
 use native.Mathlib.Omega.{arith}
-use mathlib.Core.Path.{◌≡◌, refl, sym, ◌∙◌}
-use Prim.Native.Nat.{◌≤◌, ◌-◌}
-use lib.ListN.{length, length-map}
+use mathlib.Core.Path.{refl, sym, ◌∙◌}
+use Prim.Native.Nat.{◌-◌}
 use borrow.Author.Rules.{rules}
-use Rattle.num_whole.specs.Lists.{all, rest}
+use Rattle.num_whole.specs.Lists.{rest}
 use Rattle.num_whole.proofs.Walks.{all_end, all_pass, all_fail}
 use Rattle.arc_limits.specs.Limits.{station_ok, no_station}
 use Rattle.arc_heading.specs.Judge.{stations_of}

@@ -1,12 +1,9 @@
 -- `arc_heading::stations_ok` meets its contract. The loop's invariant: what is left to judge decides the whole.
-use native.Mathlib.Omega.{arith}
-use mathlib.Core.Path.{◌≡◌, refl, sym, ◌∙◌}
+use mathlib.Core.Path.{◌≡◌}
 use Prim.Native.Nat.{◌≤◌, ◌-◌}
-use lib.ListN.{length, length-map}
-use borrow.Author.Rules.{rules}
+use lib.ListN.{length}
 use Rattle.num_whole.specs.Lists.{all, rest}
-use Rattle.num_whole.proofs.Walks.{all_end, all_pass, all_fail}
-use Rattle.arc_limits.specs.Limits.{station_ok, no_station}
+use Rattle.arc_limits.specs.Limits.{station_ok}
 use Rattle.arc_heading.specs.Judge.{stations_of}
 use Rattle.arc_heading.proofs.stations_ok.Given as goal
 

@@ -1,5 +1,4 @@
 -- `arc_kinds::judge_settings` meets its contract: 1, then 4; the settings have no order.
-use borrow.Author.Rules.{rules}
 use native.Mathlib.Omega.{arith}
 use Prim.Native.Nat.{zero-le}
 use mathlib.Core.Path.{refl, sym, ◌∙◌}

@@ -1,5 +1,4 @@
 -- `arc_kinds::load_label` meets its contract: each field is the word at its place.
-use borrow.Author.Rules.{rules}
 use mir.Syntax.{w64}
 use mir.ValLaws.{to_z-of_z}
 use Rattle.arc_kinds.specs.Kinds.{label_at}

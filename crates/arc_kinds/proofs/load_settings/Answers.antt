@@ -1,5 +1,4 @@
 -- `arc_kinds::load_settings` meets its contract: each field is the word at its place.
-use borrow.Author.Rules.{rules}
 use Rattle.arc_kinds.specs.Kinds.{settings_at}
 use Rattle.arc_kinds.proofs.load_settings.Goals as goal
 

@@ -1,5 +1,4 @@
 -- `arc_kinds::read_label` meets its contract: 1, 4 and 5 in the definition's order.
-use borrow.Author.Rules.{rules}
 use native.Mathlib.Omega.{arith}
 use mathlib.Core.Path.{refl, sym, ◌∙◌}
 use Rattle.num_whole.proofs.Cases.{yes, no, is_less, not_less, is_up_to, not_up_to}

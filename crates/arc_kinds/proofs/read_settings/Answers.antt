@@ -1,5 +1,4 @@
 -- `arc_kinds::read_settings` meets its contract: its count, then its one record.
-use borrow.Author.Rules.{rules}
 use mathlib.Core.Path.{sym, ap, ◌∙◌}
 use Rattle.byte_section.proofs.Walk.{then_good, then_bad}
 use Rattle.byte_section.specs.Section.{told_count}

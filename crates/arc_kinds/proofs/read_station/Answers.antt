@@ -1,5 +1,4 @@
 -- `arc_kinds::read_station` meets its contract: 1, 4 and 5 in the definition's order, the zero field before the other fields.
-use borrow.Author.Rules.{rules}
 use native.Mathlib.Omega.{arith}
 use mathlib.Core.Path.{refl, sym, ◌∙◌}
 use Rattle.num_whole.proofs.Cases.{yes, no, holds, fails, is_less, not_less, is_up_to, not_up_to, is_same, not_same}

@@ -1,5 +1,4 @@
 -- `arc_limits::index_ok` meets its contract: the limit of each kind.
-use borrow.Author.Rules.{rules}
 use native.Mathlib.Omega.{arith}
 use mathlib.Core.Path.{refl}
 use Rattle.num_whole.proofs.Cases.{yes, no, is_same, not_same, by_less}

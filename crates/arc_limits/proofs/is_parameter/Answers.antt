@@ -1,5 +1,4 @@
 -- `arc_limits::is_parameter` meets its contract: the two tests of the definition, in its order.
-use borrow.Author.Rules.{rules}
 use native.Mathlib.Omega.{arith}
 use Rattle.num_whole.proofs.Cases.{holds, fails, is_less, not_less, by_not_same}
 use Rattle.cells.specs.Cells.{is_parameter}

@@ -1,5 +1,4 @@
 -- `arc_limits::label_key` meets its contract.
-use borrow.Author.Rules.{rules}
 use native.Mathlib.Omega.{arith}
 use mathlib.Core.Path.{refl}
 use Rattle.arc_limits.specs.Limits.{label_key}

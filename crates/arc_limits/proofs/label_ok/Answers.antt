@@ -1,5 +1,4 @@
 -- `arc_limits::label_ok` meets its contract.
-use borrow.Author.Rules.{rules}
 use native.Mathlib.Omega.{arith}
 use Rattle.num_whole.proofs.Cases.{holds, fails, is_up_to, not_up_to}
 use Rattle.arc_limits.specs.Limits.{label_ok}

@@ -1,5 +1,4 @@
 -- `arc_limits::numbers_ok` meets its contract.
-use borrow.Author.Rules.{rules}
 use mathlib.Core.Path.{sym, ◌∙◌}
 use Rattle.num_whole.proofs.Cases.{holds, fails, by_up_to}
 use Rattle.arc_limits.proofs.numbers_ok.Goals as goal

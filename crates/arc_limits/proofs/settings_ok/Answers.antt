@@ -1,6 +1,5 @@
 -- `arc_limits::settings_ok` meets its contract: its tests are the definition's.
 use mathlib.Core.Path.{sym, ◌∙◌}
-use borrow.Author.Rules.{rules}
 use Rattle.num_whole.proofs.Cases.{holds, fails}
 use Rattle.arc_limits.specs.Limits.{settings_ok}
 use Rattle.arc_limits.proofs.settings_ok.Goals as goal

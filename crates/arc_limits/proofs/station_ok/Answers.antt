@@ -1,5 +1,4 @@
 -- `arc_limits::station_ok` meets its contract.
-use borrow.Author.Rules.{rules}
 use native.Mathlib.Omega.{arith}
 use mathlib.Core.Path.{ap, ◌∙◌}
 use mir.Syntax.{w32}

@@ -1,6 +1,5 @@
 -- `arc_limits::window_ok` meets its contract: its tests are the definition's.
 use mathlib.Core.Path.{sym, ◌∙◌}
-use borrow.Author.Rules.{rules}
 use native.Mathlib.Omega.{arith}
 use Rattle.num_whole.proofs.Cases.{holds, fails, is_up_to, not_up_to, by_up_to}
 use Rattle.arc_limits.specs.Limits.{window_ok}

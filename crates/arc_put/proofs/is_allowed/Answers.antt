@@ -5,7 +5,6 @@ use Rattle.num_whole.proofs.Cases.{holds, fails, by_up_to}
 use Rattle.arc_heading.specs.Judge.{counts_ok}
 use Rattle.arc_heading.proofs.Sound.{counts_fit_lem}
 use Rattle.arc_put.specs.Bytes.{record_count, allowed}
-use borrow.Author.Rules.{rules}
 use Rattle.arc_put.proofs.is_allowed.Goals as goal
 
 pub records_in-requires : goal.records_in-requires

@@ -1,8 +1,6 @@
 -- `arc_put::put_arc` meets its contract: each part is laid where the last one ends.
 use native.Mathlib.Omega.{arith}
-use lib.ListN.{length-map}
 use Rattle.arc_put.proofs.Laws.{arc_laid}
-use borrow.Author.Rules.{rules}
 use Rattle.arc_put.proofs.put_arc.Goals as goal
 
 pub returns : goal.returns

@@ -1,14 +1,11 @@
 use native.Mathlib.Omega.{arith}
 use borrow.Author.Rules.{rules}
-use Prim.Native.Nat.{◌≤◌, ◌+◌, ◌*◌, ◌-◌}
-use mathlib.Core.Path.{◌≡◌, refl, sym, ◌∙◌}
-use lib.ListN.{length, length-map}
+use Prim.Native.Nat.{◌-◌}
+use mathlib.Core.Path.{refl, sym, ◌∙◌}
 use Rattle.arc_limits.specs.Limits.{no_station}
 use Rattle.num_whole.specs.Lists.{rest}
 use Rattle.num_whole.proofs.Walks.{rest_end, rest_more}
-use Rattle.byte_words.specs.Words.{lay}
 use Rattle.byte_words.proofs.Words.{length_lay}
-use Rattle.byte_section.specs.Section.{encoded}
 use Rattle.byte_section.proofs.Laid.{laid_none, laid_one}
 use Rattle.arc_heading.specs.Judge.{stations_of}
 use Rattle.arc_kinds.specs.Kinds.{station_bytes}

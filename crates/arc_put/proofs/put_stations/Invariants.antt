@@ -1,19 +1,12 @@
 -- `arc_put::put_stations` meets its contract. The loop's invariant: the bytes of the stations left, laid at the place, make the whole.
-use native.Mathlib.Omega.{arith}
-use borrow.Author.Rules.{rules}
 use Prim.Native.Nat.{◌≤◌, ◌+◌, ◌*◌, ◌-◌}
-use mathlib.Core.Path.{◌≡◌, refl, sym, ◌∙◌}
-use lib.ListN.{length, length-map}
-use Rattle.arc_limits.specs.Limits.{no_station}
+use mathlib.Core.Path.{◌≡◌}
+use lib.ListN.{length}
 use Rattle.num_whole.specs.Lists.{rest}
-use Rattle.num_whole.proofs.Walks.{rest_end, rest_more}
 use Rattle.byte_words.specs.Words.{lay}
-use Rattle.byte_words.proofs.Words.{length_lay}
 use Rattle.byte_section.specs.Section.{encoded}
-use Rattle.byte_section.proofs.Laid.{laid_none, laid_one}
 use Rattle.arc_heading.specs.Judge.{stations_of}
 use Rattle.arc_kinds.specs.Kinds.{station_bytes}
-use Rattle.arc_kinds.proofs.Records.{length_station}
 use Rattle.arc_put.proofs.put_stations.Given as goal
 
 abbrev pub invariant-loop-i : goal.invariant-loop-i

@@ -1,5 +1,4 @@
 -- `arc_read::read` meets its contract: the heading, and then what follows it.
-use borrow.Author.Rules.{rules}
 use mathlib.Core.Path.{sym, ap, ◌∙◌}
 use Rattle.byte_section.proofs.Walk.{then_good, then_bad}
 use Rattle.arc_read.specs.Arc.{shown_arc}

@@ -1,5 +1,4 @@
 -- `arc_read::read_rest` meets its contract: the records, and then 3 where bytes follow them.
-use borrow.Author.Rules.{rules}
 use native.Mathlib.Omega.{arith}
 use mathlib.Core.Path.{sym, ap, ◌∙◌}
 use Rattle.arc_read.specs.Arc.{shown_arc}

@@ -1,5 +1,4 @@
 -- `arc_read::refused` meets its contract: the answer is the refusal, the heading is blank and the numbers are 0.
-use borrow.Author.Rules.{rules}
 use Rattle.arc_read.proofs.refused.Goals as goal
 
 pub returns : goal.returns

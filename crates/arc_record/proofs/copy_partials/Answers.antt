@@ -1,12 +1,12 @@
 use native.Mathlib.Omega.{arith}
-use mathlib.Core.Path.{◌≡◌, refl, sym, ap, ◌∙◌}
+use mathlib.Core.Path.{refl, sym, ap, ◌∙◌}
 use mir.Syntax.{w16}
 use mir.ValLaws.{to_z-of_z}
-use Prim.Native.Nat.{◌+◌, ◌-◌, ◌*◌, ◌≤◌}
+use Prim.Native.Nat.{◌+◌, ◌-◌}
 use lib.ListN.{length, set, length-set}
 use lib.Seq.{sets}
 use borrow.Author.Rules.{rules}
-use Rattle.arc_record.specs.Record.{partials_from, partials_in}
+use Rattle.arc_record.specs.Record.{partials_from}
 use Rattle.arc_record.proofs.Fills.{fill_start, fill_turn, fill_end}
 use Rattle.arc_record.proofs.copy_partials.Goals as goal
 

@@ -1,5 +1,4 @@
 -- `arc_record::decode` meets its contract.
-use borrow.Author.Rules.{rules}
 use mathlib.Core.Path.{ap, ◌∙◌}
 use lib.Ieee.{binary64, of_bits}
 use Rattle.arc_record.specs.Record.{record_in}

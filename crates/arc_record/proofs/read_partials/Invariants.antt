@@ -1,14 +1,9 @@
 -- `arc_record::read_partials` meets its contract. The loop's invariant: what is left to fill makes the whole.
-use native.Mathlib.Omega.{arith}
-use mathlib.Core.Path.{◌≡◌, refl, sym, ap, ◌∙◌}
-use mir.Syntax.{w16}
-use mir.ValLaws.{to_z-of_z}
+use mathlib.Core.Path.{◌≡◌}
 use Prim.Native.Nat.{◌+◌, ◌-◌, ◌*◌, ◌≤◌}
-use lib.ListN.{length, set, length-set}
+use lib.ListN.{length}
 use lib.Seq.{sets}
-use borrow.Author.Rules.{rules}
 use Rattle.arc_record.specs.Record.{partials_from, partials_in}
-use Rattle.arc_record.proofs.Fills.{fill_start, fill_turn, fill_end}
 use Rattle.arc_record.proofs.read_partials.Given as goal
 
 abbrev pub invariant-loop-i : goal.invariant-loop-i

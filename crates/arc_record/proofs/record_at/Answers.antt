@@ -1,5 +1,4 @@
 -- `arc_record::record_at` meets its contract: a division says whether the record is whole, and then nothing overflows.
-use borrow.Author.Rules.{rules}
 use native.Mathlib.Omega.{arith}
 use Rattle.arc_record.proofs.Places.{is_whole, not_whole, part_here, part_past, part_none}
 use Rattle.arc_record.proofs.record_at.Goals as goal

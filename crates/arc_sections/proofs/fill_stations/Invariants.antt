@@ -1,15 +1,10 @@
 -- `arc_sections::fill_stations` meets its contract. The loop's invariant: what is left to read and to put makes the whole.
-use borrow.Author.Rules.{rules}
-use native.Mathlib.Omega.{arith}
 use Prim.Native.Nat.{◌+◌, ◌-◌, ◌*◌, ◌≤◌}
-use mathlib.Core.Path.{◌≡◌, refl, sym, ap, ◌∙◌}
-use Rattle.arc_limits.specs.Limits.{no_station}
+use mathlib.Core.Path.{◌≡◌}
 use Rattle.byte_section.specs.Section.{records}
 use Rattle.arc_kinds.specs.Kinds.{station_kind}
-use Rattle.arc_kinds.specs.Told.{told_station}
 use Rattle.arc_sections.specs.Sections.{stations_from}
-use Rattle.arc_sections.proofs.Fill.{filling, fill_start, fill_end, fill_good, fill_bad}
-use Rattle.arc_sections.proofs.Slots.{slots_read, slots_refused}
+use Rattle.arc_sections.proofs.Fill.{filling}
 use Rattle.arc_sections.proofs.fill_stations.Given as goal
 
 abbrev pub invariant-loop-i : goal.invariant-loop-i

@@ -1,5 +1,4 @@
 -- `arc_sections::read_labels` meets its contract: its count, then its records.
-use borrow.Author.Rules.{rules}
 use native.Mathlib.Omega.{arith}
 use mathlib.Core.Path.{refl, sym, ap, ◌∙◌}
 use Rattle.byte_section.proofs.Walk.{then_good, then_bad, counted}

@@ -1,5 +1,4 @@
 -- `arc_sections::read_records` meets its contract: its count, and then its length against what is left.
-use borrow.Author.Rules.{rules}
 use native.Mathlib.Omega.{arith}
 use mathlib.Core.Path.{sym, ap, ◌∙◌}
 use Rattle.byte_section.proofs.Walk.{counted}

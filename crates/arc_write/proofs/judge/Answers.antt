@@ -1,10 +1,8 @@
 -- `arc_write::judge` meets its contract: 2, then the heading's own judgement, then the room.
 use mathlib.Core.Path.{sym, ◌∙◌, ap}
-use lib.ListN.{length-map}
 use Rattle.refusal.specs.Told.{told_verdict}
 use Rattle.arc_heading.proofs.Sound.{counts_fit_lem}
 use Rattle.arc_write.proofs.Answers.{counts_right, on_numbers, on_refused, on_sound_lem}
-use borrow.Author.Rules.{rules}
 use Rattle.arc_write.proofs.judge.Goals as goal
 
 pub judge_room-requires : goal.judge_room-requires

@@ -5,7 +5,6 @@ use mathlib.Core.Path.{refl, sym, ap, ◌∙◌}
 use Rattle.num_whole.specs.Answer.{given}
 use Rattle.num_whole.proofs.Cases.{yes, no, is_same, not_same, is_less, not_less}
 use Rattle.arc_write.specs.Room.{room_answer}
-use borrow.Author.Rules.{rules}
 use Rattle.arc_write.proofs.judge_room.Goals as goal
 
 pub returns-then-room-n : goal.returns-then-room-n

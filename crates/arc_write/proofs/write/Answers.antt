@@ -1,9 +1,7 @@
 -- `arc_write::write` meets its contract: the answer is judged first, and the file is laid only where it is accepted.
 use mathlib.Core.Path.{sym, ◌∙◌, ap}
-use lib.ListN.{length-map}
 use Rattle.byte_section.specs.Told.{told_write}
 use Rattle.arc_write.proofs.Answers.{writable, left_kept, left_written}
-use borrow.Author.Rules.{rules}
 use Rattle.arc_write.proofs.write.Goals as goal
 
 pub put_arc-requires : goal.put_arc-requires

@@ -1,9 +1,7 @@
 -- `bench::take_each` is safe and ends.
-use borrow.Author.Rules.{rules}
-use native.Mathlib.Omega.{arith}
 use Prim.Native.Nat.{◌≤◌, ◌<◌, ◌-◌, ◌^◌}
 use mathlib.Core.Path.{◌≡◌}
-use lib.ListN.{length, length-set}
+use lib.ListN.{length}
 use Rattle.bench.proofs.take_each.Given as goal
 
 abbrev pub invariant-loop-i : goal.invariant-loop-i

@@ -1,9 +1,7 @@
 -- `bench::take_parts` is safe, and ends: each part is at least a byte.
-use Prim.Native.Nat.{◌+◌, ◌-◌, ◌≤◌}
+use Prim.Native.Nat.{◌-◌, ◌≤◌}
 use mathlib.Core.Path.{◌≡◌}
-use native.Mathlib.Omega.{arith}
 use lib.ListN.{length}
-use borrow.Author.Rules.{rules}
 use Rattle.bench.proofs.take_parts.Given as goal
 
 abbrev pub invariant-loop-at : goal.invariant-loop-at

@@ -1,5 +1,4 @@
 -- `byte_read::byte` meets its contract: past the end the list gives 0.
-use borrow.Author.Rules.{rules}
 use native.Mathlib.Omega.{arith}
 use mathlib.Core.Path.{sym}
 use lib.Dec.{lit<}

@@ -1,7 +1,5 @@
 use native.Mathlib.Omega.{arith}
-use mathlib.Core.Path.{◌≡◌}
-use Prim.Native.Nat.{◌≤◌, ◌<◌, ◌+◌, ◌-◌, ◌^◌}
-use Rattle.byte_words.specs.Words.{word}
+use Prim.Native.Nat.{◌<◌, ◌-◌, ◌^◌}
 use Rattle.byte_words.proofs.Words.{read_none, read_turn, read_all, pow_256}
 use Rattle.byte_read.proofs.number.Lts
 use Rattle.byte_read.proofs.number.Reads

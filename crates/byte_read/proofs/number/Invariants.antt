@@ -1,9 +1,7 @@
 -- `byte_read::number` meets its contract. The loop's invariant: v is the word of the bytes from `at + i` on.
-use native.Mathlib.Omega.{arith}
 use mathlib.Core.Path.{◌≡◌}
 use Prim.Native.Nat.{◌≤◌, ◌<◌, ◌+◌, ◌-◌, ◌^◌}
 use Rattle.byte_words.specs.Words.{word}
-use Rattle.byte_words.proofs.Words.{read_none, read_turn, read_all, pow_256}
 use Rattle.byte_read.proofs.number.Given as goal
 
 abbrev pub invariant-loop-i : goal.invariant-loop-i

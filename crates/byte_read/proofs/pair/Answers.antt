@@ -1,5 +1,4 @@
 -- `byte_read::pair` meets its contract.
-use borrow.Author.Rules.{rules}
 use native.Mathlib.Omega.{arith}
 use Rattle.byte_words.proofs.Words.{word_two}
 use Rattle.byte_read.proofs.pair.Goals as goal

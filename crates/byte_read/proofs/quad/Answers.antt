@@ -1,5 +1,4 @@
 -- `byte_read::quad` meets its contract: a word of two halves.
-use borrow.Author.Rules.{rules}
 use native.Mathlib.Omega.{arith}
 use mathlib.Core.Path.{◌≡◌}
 use Prim.Native.Nat.{◌+◌, ◌*◌}

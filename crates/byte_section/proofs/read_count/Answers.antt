@@ -1,5 +1,4 @@
 -- `byte_section::read_count` meets its contract: its tests are the definition's, in its order.
-use borrow.Author.Rules.{rules}
 use native.Mathlib.Omega.{arith}
 use mathlib.Core.Path.{refl, ap, sym, ◌∙◌}
 use Prim.Native.Nat.{ℕ}

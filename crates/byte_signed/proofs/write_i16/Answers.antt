@@ -1,5 +1,4 @@
 -- `byte_signed::write_i16` meets its contract.
-use borrow.Author.Rules.{rules}
 use mathlib.Core.Path.{ap, ◌∙◌}
 use mir.Syntax.{w16}
 use mir.Val.{of_z}

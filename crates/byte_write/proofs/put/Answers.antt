@@ -1,9 +1,8 @@
 use native.Mathlib.Omega.{arith}
-use mathlib.Core.Path.{◌≡◌, refl, sym, ◌∙◌}
-use Prim.Native.Nat.{◌≤◌, ◌+◌, ◌-◌, ◌%◌}
+use mathlib.Core.Path.{refl, sym, ◌∙◌}
+use Prim.Native.Nat.{◌+◌, ◌-◌, ◌%◌}
 use native.Mathlib.Nat.{add-zero, sub-zero}
-use lib.ListN.{length, length-set}
-use Rattle.byte_words.specs.Words.{lay, bytes_of}
+use lib.ListN.{length-set}
 use Rattle.byte_words.proofs.Words.{write_turn, write_end}
 use Rattle.byte_write.proofs.put.Goals as goal
 

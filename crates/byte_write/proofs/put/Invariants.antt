@@ -1,11 +1,8 @@
 -- `byte_write::put` meets its contract. The loop's invariant: what is laid and the bytes still to come are the whole.
-use native.Mathlib.Omega.{arith}
-use mathlib.Core.Path.{◌≡◌, refl, sym, ◌∙◌}
-use Prim.Native.Nat.{◌≤◌, ◌+◌, ◌-◌, ◌%◌}
-use native.Mathlib.Nat.{add-zero, sub-zero}
-use lib.ListN.{length, length-set}
+use mathlib.Core.Path.{◌≡◌}
+use Prim.Native.Nat.{◌≤◌, ◌+◌, ◌-◌}
+use lib.ListN.{length}
 use Rattle.byte_words.specs.Words.{lay, bytes_of}
-use Rattle.byte_words.proofs.Words.{write_turn, write_end}
 use Rattle.byte_write.proofs.put.Given as goal
 
 abbrev pub invariant-loop-i : goal.invariant-loop-i

@@ -1,5 +1,4 @@
 -- `byte_write::put_pair` meets its contract: two stores are the two bytes laid.
-use borrow.Author.Rules.{rules}
 use native.Mathlib.Omega.{arith}
 use lib.ListN.{length-set}
 use native.Mathlib.Numerals.{add-one}

@@ -1,5 +1,4 @@
 -- `byte_write::put_quad` meets its contract: a word of two halves.
-use borrow.Author.Rules.{rules}
 use mathlib.Core.Path.{ap, ◌∙◌}
 use Prim.Native.Nat.{◌+◌, ◌/◌}
 use Rattle.byte_words.specs.Words.{lay, bytes_of}

@@ -2,7 +2,6 @@
 use mathlib.Core.Path.{sym, ap, ◌∙◌}
 use Rattle.byte_section.specs.Told.{told_answer}
 use Rattle.call_files.proofs.Rooms.{shown_good, shown_bad_lem, read_refused, read_short, read_done}
-use borrow.Author.Rules.{rules}
 use Rattle.call_files.proofs.give_arc.Goals as goal
 
 pub returns-in-Refused : goal.returns-in-Refused

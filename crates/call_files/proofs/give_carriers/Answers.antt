@@ -3,7 +3,6 @@ use mathlib.Core.Path.{ap}
 use Rattle.call_rooms.specs.Result.{one}
 use Rattle.call_rooms.proofs.Rooms.{on_given, on_refused}
 use Rattle.take_state.specs.State.{told_carriers}
-use borrow.Author.Rules.{rules}
 use Rattle.call_files.proofs.give_carriers.Goals as goal
 
 pub returns-in-Number : goal.returns-in-Number

@@ -7,7 +7,6 @@ use Rattle.call_rooms.specs.Result.{one}
 use Rattle.call_rooms.proofs.Rooms.{on_given, on_refused}
 use Rattle.merge.specs.Files.{told_merge}
 use Rattle.call_files.specs.Writing.{merge_call_number}
-use borrow.Author.Rules.{rules}
 use Rattle.call_files.proofs.give_merged.Goals as goal
 
 pub overflow_add-result : goal.overflow_add-result

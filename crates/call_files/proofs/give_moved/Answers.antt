@@ -4,7 +4,6 @@ use Rattle.call_rooms.specs.Result.{one}
 use Rattle.call_rooms.proofs.Rooms.{on_given, on_refused}
 use Rattle.norm_move.specs.Move.{told_move}
 use Rattle.call_files.specs.Writing.{move_call_number}
-use borrow.Author.Rules.{rules}
 use Rattle.call_files.proofs.give_moved.Goals as goal
 
 pub returns-in-Is : goal.returns-in-Is

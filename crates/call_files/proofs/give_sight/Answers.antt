@@ -5,7 +5,6 @@ use Rattle.call_rooms.specs.Result.{one}
 use Rattle.call_rooms.proofs.Rooms.{on_given, on_refused}
 use Rattle.take_state.specs.State.{told_sight}
 use Rattle.call_files.specs.Taking.{seen_numbers}
-use borrow.Author.Rules.{rules}
 use Rattle.call_files.proofs.give_sight.Goals as goal
 
 pub returns-in-Seen : goal.returns-in-Seen

@@ -2,7 +2,6 @@
 use mathlib.Core.Path.{ap}
 use Rattle.take_one.specs.Told.{told_take}
 use Rattle.call_files.proofs.Rooms.{is_done, is_kept}
-use borrow.Author.Rules.{rules}
 use Rattle.call_files.proofs.give_taken.Goals as goal
 
 pub returns-in-Accepted : goal.returns-in-Accepted

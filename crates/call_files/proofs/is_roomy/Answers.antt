@@ -2,7 +2,6 @@
 use native.Mathlib.Omega.{arith}
 use Rattle.num_whole.proofs.Cases.{holds, fails, is_up_to, not_up_to, by_up_to}
 use Rattle.call_files.specs.Reading.{read_roomy}
-use borrow.Author.Rules.{rules}
 use Rattle.call_files.proofs.is_roomy.Goals as goal
 
 pub returns-then-parameters-stations : goal.returns-then-parameters-stations

@@ -2,7 +2,6 @@
 use mathlib.Core.Path.{sym, ap}
 use Rattle.byte_section.specs.Told.{told_answer}
 use Rattle.call_files.specs.Reading.{refusal_place}
-use borrow.Author.Rules.{rules}
 use Rattle.call_files.proofs.read_place.Goals as goal
 
 pub returns-in-Refused : goal.returns-in-Refused

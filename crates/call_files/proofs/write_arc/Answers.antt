@@ -5,7 +5,6 @@ use lib.ListN.{length}
 use Rattle.arc_put.specs.Bytes.{allowed}
 use Rattle.arc_write.specs.Write.{write_arc, arc_left_in}
 use Rattle.call_files.proofs.Arcs.{arc_short, arc_many, arc_cut, arc_whole}
-use borrow.Author.Rules.{rules}
 use Rattle.call_files.proofs.write_arc.Goals as goal
 
 pub returns-then-b-lt16 : goal.returns-then-b-lt16

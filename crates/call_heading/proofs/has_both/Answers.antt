@@ -1,7 +1,6 @@
 -- `call_heading::has_both` meets its contract.
 use mathlib.Core.Path.{sym, ◌∙◌}
 use Rattle.num_whole.proofs.Cases.{holds, fails}
-use borrow.Author.Rules.{rules}
 use Rattle.call_heading.proofs.has_both.Goals as goal
 
 pub returns-then-has_heading : goal.returns-then-has_heading

@@ -1,7 +1,6 @@
 -- `call_heading::has_heading` meets its contract.
 use Rattle.num_whole.proofs.Cases.{by_up_to}
 use Rattle.call_heading.specs.Lent.{has_heading}
-use borrow.Author.Rules.{rules}
 use Rattle.call_heading.proofs.has_heading.Goals as goal
 
 pub returns : goal.returns

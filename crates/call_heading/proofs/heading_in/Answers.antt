@@ -1,6 +1,5 @@
 -- `call_heading::heading_in` meets its contract: each part is what stands at its place.
 use Rattle.call_heading.specs.Lent.{heading_in}
-use borrow.Author.Rules.{rules}
 use Rattle.call_heading.proofs.heading_in.Goals as goal
 
 pub returns : goal.returns

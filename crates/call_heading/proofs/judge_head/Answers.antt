@@ -7,7 +7,6 @@ use Rattle.refusal.proofs.Firsts.{unless_true, unless_false, first_pass, first_b
 use Rattle.arc_limits.specs.Limits.{numbers_ok}
 use Rattle.arc_heading.specs.Judge.{counts_ok}
 use Rattle.call_heading.specs.Lent.{heading_in, head_number}
-use borrow.Author.Rules.{rules}
 use Rattle.call_heading.proofs.judge_head.Lts
 use Rattle.call_heading.proofs.judge_head.Reads
 use Rattle.call_heading.proofs.judge_head.Tie

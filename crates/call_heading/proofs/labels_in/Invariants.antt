@@ -1,15 +1,11 @@
 -- `call_heading::labels_in` meets its contract. The loop's invariant: what is left to put makes the whole.
 use Prim.Native.Nat.{◌+◌, ◌-◌, ◌*◌, ◌≤◌}
-use native.Mathlib.Omega.{arith}
-use mathlib.Core.Path.{◌≡◌, sym, ◌∙◌}
+use mathlib.Core.Path.{◌≡◌}
 use lib.Seq.{sets}
 use Rattle.arc_kinds.specs.Kinds.{label_at}
 use Rattle.arc_limits.specs.Limits.{no_label}
 use Rattle.num_whole.specs.Lists.{padded}
 use Rattle.byte_words.specs.Stands.{stands}
-use Rattle.byte_words.proofs.Stands.{put_end, put_turn}
-use Rattle.call_tally.proofs.Loops.{fill_start}
-use borrow.Author.Rules.{rules}
 use Rattle.call_heading.proofs.labels_in.Given as goal
 
 abbrev pub invariant-loop-i : goal.invariant-loop-i

@@ -1,8 +1,6 @@
 -- `call_heading::put_heading` meets its contract: each part is laid where the last one ends.
 use native.Mathlib.Omega.{arith}
-use lib.ListN.{length-map}
 use Rattle.call_heading.proofs.Bytes.{heading_laid}
-use borrow.Author.Rules.{rules}
 use Rattle.call_heading.proofs.put_heading.Goals as goal
 
 pub returns : goal.returns

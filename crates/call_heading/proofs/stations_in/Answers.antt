@@ -1,11 +1,7 @@
-use Prim.Native.Nat.{◌+◌, ◌-◌, ◌*◌, ◌≤◌}
+use Prim.Native.Nat.{◌-◌}
 use native.Mathlib.Omega.{arith}
-use mathlib.Core.Path.{◌≡◌, sym, ◌∙◌}
-use lib.Seq.{sets}
-use Rattle.arc_kinds.specs.Kinds.{station_at}
+use mathlib.Core.Path.{sym, ◌∙◌}
 use Rattle.arc_limits.specs.Limits.{no_station}
-use Rattle.num_whole.specs.Lists.{padded}
-use Rattle.byte_words.specs.Stands.{stands}
 use Rattle.byte_words.proofs.Stands.{put_end, put_turn}
 use Rattle.call_tally.proofs.Loops.{fill_start}
 use borrow.Author.Rules.{rules}

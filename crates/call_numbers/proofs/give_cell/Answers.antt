@@ -3,7 +3,6 @@ use mathlib.Core.Path.{ap}
 use Rattle.call_rooms.proofs.Rooms.{on_given, on_refused}
 use Rattle.cells.specs.Cells.{told_cell}
 use Rattle.call_numbers.specs.Given.{cell_numbers}
-use borrow.Author.Rules.{rules}
 use Rattle.call_numbers.proofs.give_cell.Goals as goal
 
 pub returns-in-Is : goal.returns-in-Is

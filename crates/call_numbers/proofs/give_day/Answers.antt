@@ -3,7 +3,6 @@ use mathlib.Core.Path.{ap}
 use Rattle.call_rooms.specs.Result.{one}
 use Rattle.call_rooms.proofs.Rooms.{on_given, on_refused}
 use Rattle.days.specs.Calendar.{told_day}
-use borrow.Author.Rules.{rules}
 use Rattle.call_numbers.proofs.give_day.Goals as goal
 
 pub returns-in-Is : goal.returns-in-Is

@@ -3,7 +3,6 @@ use mathlib.Core.Path.{refl}
 use native.Mathlib.Omega.{arith}
 use Rattle.num_whole.proofs.Cases.{yes, no, is_same, not_same}
 use Rattle.call_numbers.specs.Given.{index_by}
-use borrow.Author.Rules.{rules}
 use Rattle.call_numbers.proofs.index_by.Goals as goal
 
 pub returns-in-67 : goal.returns-in-67

@@ -1,7 +1,6 @@
 -- `call_numbers::letter_number` meets its contract.
 use mathlib.Core.Path.{sym, ap}
 use Rattle.call_numbers.specs.Given.{letter_number}
-use borrow.Author.Rules.{rules}
 use Rattle.call_numbers.proofs.letter_number.Goals as goal
 
 pub returns-in-C : goal.returns-in-C

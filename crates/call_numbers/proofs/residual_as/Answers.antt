@@ -2,7 +2,6 @@
 use mathlib.Core.Path.{sym, ap, ◌∙◌}
 use Rattle.unit_measure.specs.Measures.{told_measurement}
 use Rattle.call_numbers.specs.Given.{residual_at, residual_as}
-use borrow.Author.Rules.{rules}
 use Rattle.call_numbers.proofs.residual_as.Goals as goal
 
 pub returns-in-Is : goal.returns-in-Is

@@ -3,7 +3,6 @@ use mathlib.Core.Path.{sym, ap, ◌∙◌}
 use Rattle.num_whole.proofs.Cases.{both_first}
 use Rattle.refusal.specs.Told.{told_verdict}
 use Rattle.call_part.proofs.Calls.{position_long_lem, begin_short, begin_done, begin_kept}
-use borrow.Author.Rules.{rules}
 use Rattle.call_part.proofs.begin.Goals as goal
 
 pub put_position-requires : goal.put_position-requires

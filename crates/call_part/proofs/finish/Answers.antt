@@ -3,7 +3,6 @@ use mathlib.Core.Path.{sym, ap, ◌∙◌}
 use Rattle.part_laws.specs.Entries.{finish_told, finish_position}
 use Rattle.call_told.specs.Told.{with_all}
 use Rattle.call_part.proofs.Calls.{place_long, finish_short, finish_done}
-use borrow.Author.Rules.{rules}
 use Rattle.call_part.proofs.finish.Goals as goal
 
 pub put_back-requires : goal.put_back-requires

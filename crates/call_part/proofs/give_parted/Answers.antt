@@ -1,5 +1,4 @@
 -- `call_part::give_parted` meets its contract: everything put back.
-use borrow.Author.Rules.{rules}
 use Rattle.call_part.proofs.give_parted.Goals as goal
 
 pub returns : goal.returns

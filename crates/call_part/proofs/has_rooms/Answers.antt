@@ -1,7 +1,6 @@
 -- `call_part::has_rooms` meets its contract.
 use mathlib.Core.Path.{sym, ◌∙◌}
 use Rattle.num_whole.proofs.Cases.{holds, fails, by_up_to}
-use borrow.Author.Rules.{rules}
 use Rattle.call_part.proofs.has_rooms.Goals as goal
 
 pub returns-then-has_state : goal.returns-then-has_state

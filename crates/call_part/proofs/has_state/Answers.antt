@@ -1,7 +1,6 @@
 -- `call_part::has_state` meets its contract.
 use mathlib.Core.Path.{sym, ◌∙◌}
 use Rattle.num_whole.proofs.Cases.{holds, fails}
-use borrow.Author.Rules.{rules}
 use Rattle.call_part.proofs.has_state.Goals as goal
 
 pub returns-then-has_position : goal.returns-then-has_position

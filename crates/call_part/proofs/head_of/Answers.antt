@@ -1,7 +1,6 @@
 -- `call_part::head_of` meets its contract: 6, or what the entry says.
 use mathlib.Core.Path.{refl, sym, ◌∙◌}
 use Rattle.call_part.proofs.Heads.{looked, looked_not}
-use borrow.Author.Rules.{rules}
 use Rattle.call_part.proofs.head_of.Goals as goal
 
 pub returns-then-is_marked : goal.returns-then-is_marked

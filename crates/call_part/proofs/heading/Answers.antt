@@ -3,7 +3,6 @@ use mathlib.Core.Path.{sym, ap, ◌∙◌}
 use Rattle.part_laws.specs.Entries.{told_part}
 use Rattle.call_part.proofs.Calls.{place_long}
 use Rattle.call_part.proofs.Heads.{head_lacks, head_stopped, head_broken, head_given_lem}
-use borrow.Author.Rules.{rules}
 use Rattle.call_part.proofs.heading.Goals as goal
 
 pub give_head-requires : goal.give_head-requires

@@ -4,7 +4,6 @@ use lib.ListN.{length}
 use Rattle.take_state.specs.State.{state_of}
 use Rattle.part_laws.specs.Entries.{part_told, part_position, part_state, part_answers}
 use Rattle.call_part.proofs.Calls.{state_long, part_short, part_done}
-use borrow.Author.Rules.{rules}
 use Rattle.call_part.proofs.part.Goals as goal
 
 pub give_parted-requires : goal.give_parted-requires

@@ -1,7 +1,6 @@
 -- `call_part::put_tally_back` meets its contract.
 use mathlib.Core.Path.{refl, sym, ◌∙◌}
 use Rattle.num_whole.proofs.Cases.{yes, no}
-use borrow.Author.Rules.{rules}
 use Rattle.call_part.proofs.put_tally_back.Goals as goal
 
 pub returns-then-changes : goal.returns-then-changes

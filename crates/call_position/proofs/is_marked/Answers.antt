@@ -3,7 +3,6 @@ use mathlib.Core.Path.{ap, ◌∙◌}
 use Rattle.num_whole.specs.Tests.{up_to}
 use Rattle.num_whole.proofs.Cases.{by_up_to}
 use Rattle.call_position.specs.Position.{marked}
-use borrow.Author.Rules.{rules}
 use Rattle.call_position.proofs.is_marked.Goals as goal
 
 pub returns : goal.returns

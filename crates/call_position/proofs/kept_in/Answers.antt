@@ -1,10 +1,8 @@
 -- `call_position::kept_in` meets its contract: the bytes laid into zeros.
 use native.Mathlib.Omega.{arith}
-use Prim.Native.Nat.{◌≤◌}
 use mathlib.Core.Path.{sym}
 use lib.Seq.{length-take-le}
 use Rattle.call_position.proofs.Bytes.{kept_laid}
-use borrow.Author.Rules.{rules}
 use Rattle.call_position.proofs.kept_in.Goals as goal
 
 pub slice_bounds-put_run-end : goal.slice_bounds-put_run-end

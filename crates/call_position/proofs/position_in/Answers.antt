@@ -3,7 +3,6 @@ use mathlib.Core.Path.{ap, ◌∙◌}
 use Rattle.num_whole.specs.Tests.{less}
 use Rattle.num_whole.proofs.Cases.{by_less}
 use Rattle.call_position.specs.Position.{position_in}
-use borrow.Author.Rules.{rules}
 use Rattle.call_position.proofs.position_in.Goals as goal
 
 pub returns : goal.returns

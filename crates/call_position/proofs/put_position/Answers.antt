@@ -1,6 +1,5 @@
 -- `call_position::put_position` meets its contract: its parts one after the other.
 use Rattle.call_position.proofs.Bytes.{position_put}
-use borrow.Author.Rules.{rules}
 use Rattle.call_position.proofs.put_position.Goals as goal
 
 pub returns : goal.returns

@@ -1,7 +1,6 @@
 -- `call_rooms::give_double` meets its contract.
 use native.Mathlib.Omega.{arith}
 use Rattle.call_rooms.proofs.Rooms.{short, placed}
-use borrow.Author.Rules.{rules}
 use Rattle.call_rooms.proofs.give_double.Goals as goal
 
 pub returns-then-out-lt1 : goal.returns-then-out-lt1

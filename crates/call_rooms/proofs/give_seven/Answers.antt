@@ -2,7 +2,6 @@
 use native.Mathlib.Omega.{arith}
 use lib.ListN.{length-set}
 use Rattle.call_rooms.proofs.Rooms.{short, placed}
-use borrow.Author.Rules.{rules}
 use Rattle.call_rooms.proofs.give_seven.Goals as goal
 
 pub returns-then-out-lt7 : goal.returns-then-out-lt7

@@ -3,7 +3,6 @@ use native.Mathlib.Omega.{arith}
 use mir.Syntax.{w64}
 use mir.ValLaws.{to_z-of_z}
 use Rattle.call_rooms.proofs.Rooms.{short, placed}
-use borrow.Author.Rules.{rules}
 use Rattle.call_rooms.proofs.give_unit.Goals as goal
 
 pub returns-then-out-lt1 : goal.returns-then-out-lt1

@@ -1,13 +1,9 @@
 -- `call_tally::counts_in` meets its contract. The loop's invariant: what is left to put makes the whole.
 use Prim.Native.Nat.{◌+◌, ◌-◌, ◌*◌, ◌≤◌}
-use native.Mathlib.Omega.{arith}
-use mathlib.Core.Path.{◌≡◌, sym, ◌∙◌}
+use mathlib.Core.Path.{◌≡◌}
 use lib.Seq.{sets}
 use Rattle.byte_words.specs.Words.{word}
 use Rattle.byte_words.specs.Stands.{stands}
-use Rattle.byte_words.proofs.Stands.{put_end, put_turn}
-use Rattle.call_tally.proofs.Loops.{fill_whole}
-use borrow.Author.Rules.{rules}
 use Rattle.call_tally.proofs.counts_in.Given as goal
 
 abbrev pub invariant-loop-i : goal.invariant-loop-i

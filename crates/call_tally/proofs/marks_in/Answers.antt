@@ -1,9 +1,6 @@
-use Prim.Native.Nat.{◌+◌, ◌-◌, ◌*◌, ◌≤◌}
+use Prim.Native.Nat.{◌-◌}
 use native.Mathlib.Omega.{arith}
-use mathlib.Core.Path.{◌≡◌, sym, ◌∙◌}
-use lib.Seq.{sets}
-use Rattle.byte_words.specs.Words.{word}
-use Rattle.byte_words.specs.Stands.{stands}
+use mathlib.Core.Path.{sym, ◌∙◌}
 use Rattle.byte_words.proofs.Stands.{put_end, put_turn}
 use Rattle.call_tally.proofs.Loops.{fill_whole}
 use borrow.Author.Rules.{rules}

@@ -1,8 +1,7 @@
 use native.Mathlib.Omega.{arith}
-use Prim.Native.Nat.{◌≤◌, ◌+◌, ◌*◌, ◌-◌}
+use Prim.Native.Nat.{◌-◌}
 use mathlib.Core.Path.{◌≡◌, refl, sym, ap, ◌∙◌}
 use lib.ListN.{length}
-use Rattle.num_whole.specs.Lists.{rest}
 use Rattle.byte_words.specs.Words.{lay, bytes_of}
 use Rattle.byte_words.proofs.Words.{length_lay, length_bytes_of}
 use Rattle.byte_section.specs.Section.{encoded}

@@ -1,15 +1,10 @@
 -- `call_tally::put_row` meets its contract. The loop's invariant: the bytes of what is left, laid at the place, make the whole.
-use native.Mathlib.Omega.{arith}
 use Prim.Native.Nat.{◌≤◌, ◌+◌, ◌*◌, ◌-◌}
-use mathlib.Core.Path.{◌≡◌, refl, sym, ap, ◌∙◌}
+use mathlib.Core.Path.{◌≡◌}
 use lib.ListN.{length}
 use Rattle.num_whole.specs.Lists.{rest}
 use Rattle.byte_words.specs.Words.{lay, bytes_of}
-use Rattle.byte_words.proofs.Words.{length_lay, length_bytes_of}
 use Rattle.byte_section.specs.Section.{encoded}
-use Rattle.call_tally.specs.Tally.{row_bytes}
-use Rattle.call_tally.proofs.Loops.{rest_whole, lay_end, lay_turn}
-use borrow.Author.Rules.{rules}
 use Rattle.call_tally.proofs.put_row.Given as goal
 
 abbrev pub invariant-loop-i : goal.invariant-loop-i

@@ -1,7 +1,5 @@
 -- `call_tally::put_tally` meets its contract: each part is laid where the last one ends.
-use lib.ListN.{length-map}
 use Rattle.call_tally.proofs.Bytes.{tally_laid}
-use borrow.Author.Rules.{rules}
 use Rattle.call_tally.proofs.put_tally.Goals as goal
 
 pub returns : goal.returns

@@ -1,10 +1,7 @@
-use Prim.Native.Nat.{◌+◌, ◌-◌, ◌*◌, ◌≤◌}
+use Prim.Native.Nat.{◌-◌}
 use native.Mathlib.Omega.{arith}
-use mathlib.Core.Path.{◌≡◌, sym, ap, ◌∙◌}
-use lib.Seq.{sets}
-use Rattle.byte_words.specs.Words.{word}
+use mathlib.Core.Path.{sym, ap, ◌∙◌}
 use Rattle.call_tally.specs.Tally.{times_row_at}
-use Rattle.byte_words.specs.Stands.{stands}
 use Rattle.byte_words.proofs.Stands.{put_end, put_turn}
 use Rattle.call_tally.proofs.Loops.{fill_whole}
 use borrow.Author.Rules.{rules}

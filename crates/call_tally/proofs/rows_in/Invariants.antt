@@ -1,14 +1,9 @@
 -- `call_tally::rows_in` meets its contract. The loop's invariant: what is left to put makes the whole.
 use Prim.Native.Nat.{◌+◌, ◌-◌, ◌*◌, ◌≤◌}
-use native.Mathlib.Omega.{arith}
-use mathlib.Core.Path.{◌≡◌, sym, ◌∙◌}
-use lib.ListN.{replicate}
+use mathlib.Core.Path.{◌≡◌}
 use lib.Seq.{sets}
 use Rattle.call_tally.specs.Tally.{times_row_at}
 use Rattle.byte_words.specs.Stands.{stands}
-use Rattle.byte_words.proofs.Stands.{put_end, put_turn}
-use Rattle.call_tally.proofs.Loops.{fill_whole}
-use borrow.Author.Rules.{rules}
 use Rattle.call_tally.proofs.rows_in.Given as goal
 
 abbrev pub invariant-loop-i : goal.invariant-loop-i

@@ -1,6 +1,5 @@
 -- `call_tally::tally_in` meets its contract: each part is what stands at its place.
 use Rattle.call_tally.specs.Tally.{tally_in}
-use borrow.Author.Rules.{rules}
 use Rattle.call_tally.proofs.tally_in.Goals as goal
 
 pub returns : goal.returns

@@ -2,7 +2,6 @@
 use mathlib.Core.Path.{sym, ap}
 use Rattle.part_laws.specs.Entries.{told_part}
 use Rattle.call_told.specs.Told.{changes}
-use borrow.Author.Rules.{rules}
 use Rattle.call_told.proofs.changes.Goals as goal
 
 pub returns-in-Took : goal.returns-in-Took

@@ -2,7 +2,6 @@
 use Rattle.num_whole.proofs.Cases.{is_up_to, not_up_to}
 use Rattle.call_told.specs.Told.{head_roomy}
 use Rattle.call_told.proofs.Told.{head_short, head_put}
-use borrow.Author.Rules.{rules}
 use Rattle.call_told.proofs.give_head.Goals as goal
 
 pub returns-then-h-heading : goal.returns-then-h-heading

@@ -2,7 +2,6 @@
 use mathlib.Core.Path.{ap}
 use Rattle.part_laws.specs.Entries.{told_part}
 use Rattle.call_told.proofs.Told.{told_took, told_stopped, told_broken}
-use borrow.Author.Rules.{rules}
 use Rattle.call_told.proofs.give_told.Goals as goal
 
 pub returns-in-Took : goal.returns-in-Took

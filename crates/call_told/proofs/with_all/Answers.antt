@@ -2,7 +2,6 @@
 use mathlib.Core.Path.{sym, ap}
 use Rattle.part_laws.specs.Entries.{told_part}
 use Rattle.call_told.specs.Told.{with_all}
-use borrow.Author.Rules.{rules}
 use Rattle.call_told.proofs.with_all.Goals as goal
 
 pub returns-in-Took : goal.returns-in-Took

@@ -1,5 +1,4 @@
 -- `cells::cell_at` meets its contract: the entry at an index of the array stands for its cell.
-use borrow.Author.Rules.{rules}
 use mathlib.Core.Path.{refl, ap, ◌∙◌}
 use native.Mathlib.Omega.{arith}
 use Rattle.num_whole.specs.Answer.{given}

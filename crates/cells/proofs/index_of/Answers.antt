@@ -1,5 +1,4 @@
 -- `cells::index_of` meets its contract: the limits' test, and the index rule of the letter.
-use borrow.Author.Rules.{rules}
 use mathlib.Core.Path.{refl, ap, sym, ◌∙◌}
 use native.Mathlib.Omega.{arith}
 use Rattle.num_whole.specs.Answer.{given}

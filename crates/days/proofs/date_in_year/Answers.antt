@@ -1,8 +1,7 @@
-use Prim.Native.Nat.{suc, ◌+◌, ◌-◌, ◌≤◌, ◌<◌}
+use Prim.Native.Nat.{suc, ◌+◌, ◌-◌, ◌<◌}
 use mathlib.Core.Path.{◌≡◌, ap}
 use native.Mathlib.Omega.{arith}
-use borrow.Author.Rules.{rules}
-use Rattle.days.specs.Calendar.{month_length, days_of_months, day_number}
+use Rattle.days.specs.Calendar.{days_of_months, day_number}
 use Rattle.days.proofs.Calendar.{month_range, no_months, month_step, before, months_up, is_date_lem}
 use Rattle.days.proofs.date_in_year.Goals as goal
 

@@ -1,11 +1,8 @@
 -- `days::date_in_year` meets its contract. The loop's invariant: the days of the months before and the days left in this month add up to the
 -- number. The measure is the days left.
-use Prim.Native.Nat.{suc, ◌+◌, ◌-◌, ◌≤◌, ◌<◌}
-use mathlib.Core.Path.{◌≡◌, ap}
-use native.Mathlib.Omega.{arith}
-use borrow.Author.Rules.{rules}
-use Rattle.days.specs.Calendar.{month_length, days_of_months, day_number}
-use Rattle.days.proofs.Calendar.{month_range, no_months, month_step, before, months_up, is_date_lem}
+use Prim.Native.Nat.{◌+◌, ◌-◌, ◌≤◌}
+use mathlib.Core.Path.{◌≡◌}
+use Rattle.days.specs.Calendar.{month_length, days_of_months}
 use Rattle.days.proofs.date_in_year.Given as goal
 
 abbrev pub invariant-loop-length : goal.invariant-loop-length

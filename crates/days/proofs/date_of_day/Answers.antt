@@ -1,7 +1,6 @@
 -- `days::date_of_day` meets its contract: the date that it makes is real and has the number, and no other is found from it.
 use mathlib.Core.Path.{◌≡◌, refl, sym, ap, ◌∙◌}
 use native.Mathlib.Omega.{arith}
-use borrow.Author.Rules.{rules}
 use Rattle.num_whole.proofs.Cases.{no, between_true}
 use Rattle.days.specs.Calendar.{day_number, date_of_day}
 use Rattle.days.proofs.Undo.{found}

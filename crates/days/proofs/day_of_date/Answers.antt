@@ -2,7 +2,6 @@
 use Prim.Native.Nat.{◌+◌}
 use mathlib.Core.Path.{◌≡◌, refl, sym, ap, ◌∙◌}
 use native.Mathlib.Omega.{arith}
-use borrow.Author.Rules.{rules}
 use Rattle.num_whole.specs.Answer.{given}
 use Rattle.num_whole.proofs.Cases.{yes, no}
 use Rattle.days.specs.Calendar.{day_number, day_of_date}

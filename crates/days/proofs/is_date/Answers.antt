@@ -1,6 +1,5 @@
 -- `days::is_date` meets its contract: its three tests are the definition's.
 use mathlib.Core.Path.{ap, sym, ◌∙◌}
-use borrow.Author.Rules.{rules}
 use Rattle.num_whole.specs.Tests.{between}
 use Rattle.num_whole.proofs.Cases.{holds, fails}
 use Rattle.days.specs.Calendar.{is_date}

@@ -2,7 +2,6 @@
 use mathlib.Core.Path.{refl, sym, ◌∙◌}
 use mathlib.Core.Logic.{⊎_elim, inl, inr}
 use native.Mathlib.Omega.{arith}
-use borrow.Author.Rules.{rules}
 use Rattle.num_whole.specs.Tests.{same, either, pick}
 use Rattle.num_whole.proofs.Cases.{yes, no, at_last, is_same, not_same}
 use Rattle.days.specs.Calendar.{month_length}

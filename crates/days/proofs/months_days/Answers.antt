@@ -1,7 +1,6 @@
-use Prim.Native.Nat.{◌+◌, ◌-◌, ◌≤◌}
+use Prim.Native.Nat.{◌+◌, ◌-◌}
 use mathlib.Core.Path.{◌≡◌, sym, ap, ◌∙◌}
 use native.Mathlib.Omega.{arith}
-use borrow.Author.Rules.{rules}
 use Rattle.days.specs.Calendar.{days_of_months}
 use Rattle.days.proofs.Calendar.{month_range, no_months, months_next, months_most}
 use Rattle.days.proofs.months_days.Goals as goal

@@ -1,10 +1,7 @@
 -- `days::months_days` meets its contract. The loop's invariant: the days of the first i months are added up. The measure is the months left.
-use Prim.Native.Nat.{◌+◌, ◌-◌, ◌≤◌}
-use mathlib.Core.Path.{◌≡◌, sym, ap, ◌∙◌}
-use native.Mathlib.Omega.{arith}
-use borrow.Author.Rules.{rules}
+use Prim.Native.Nat.{◌-◌, ◌≤◌}
+use mathlib.Core.Path.{◌≡◌}
 use Rattle.days.specs.Calendar.{days_of_months}
-use Rattle.days.proofs.Calendar.{month_range, no_months, months_next, months_most}
 use Rattle.days.proofs.months_days.Given as goal
 
 abbrev pub invariant-loop-i : goal.invariant-loop-i

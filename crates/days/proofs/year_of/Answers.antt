@@ -1,7 +1,6 @@
 -- `days::year_of` meets its contract: by the law of the years in one form, the day lies after the years before its year and within it.
 use Prim.Native.Nat.{suc, ◌+◌, ◌*◌, ◌-◌, ◌/◌}
 use native.Mathlib.Omega.{arith}
-use borrow.Author.Rules.{rules}
 use Rattle.days.proofs.Calendar.{year_step, years_closed}
 use Rattle.days.proofs.year_of.Goals as goal
 

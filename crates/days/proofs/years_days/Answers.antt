@@ -1,6 +1,5 @@
 -- `days::years_days` meets its contract: the law of the years in one form.
 use mathlib.Core.Path.{sym}
-use borrow.Author.Rules.{rules}
 use Rattle.days.proofs.Calendar.{years_closed}
 use Rattle.days.proofs.years_days.Goals as goal
 

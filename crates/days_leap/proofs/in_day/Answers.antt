@@ -1,7 +1,5 @@
 -- `days_leap::in_day` meets its contract: a second decides only where the day's common length is past.
-use borrow.Author.Rules.{rules}
 use native.Mathlib.Omega.{arith}
-use mathlib.Core.Bool.{Bool, true, false}
 use mathlib.Core.Path.{◌≡◌, sym, ◌∙◌}
 use Prim.Native.Nat.{ℕ, ◌+◌, ◌≤◌, ◌<◌}
 use Rattle.num_whole.specs.Tests.{up_to}

@@ -1,7 +1,5 @@
 -- `days_leap::is_listed` meets its contract: a listed day counts for the next day and not for its own.
-use borrow.Author.Rules.{rules}
 use native.Mathlib.Omega.{arith}
-use mathlib.Core.Bool.{true, false}
 use mathlib.Core.Path.{◌≡◌, refl, sym, ◌∙◌}
 use Prim.Native.Nat.{ℕ, ◌+◌}
 use Rattle.num_whole.specs.Tests.{less}

@@ -1,5 +1,4 @@
 -- `days_leap::listed_among` meets its contract: the six among which the day stands, and those before them.
-use borrow.Author.Rules.{rules}
 use native.Mathlib.Omega.{arith}
 use mathlib.Core.Path.{◌≡◌, sym, ap, ◌∙◌, subst}
 use Prim.Native.Nat.{ℕ, ◌+◌, ◌≤◌}

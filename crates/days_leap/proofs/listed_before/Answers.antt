@@ -1,7 +1,6 @@
 -- `days_leap::listed_before` meets its contract: none lies before the first, all lie before a day after the last.
-use borrow.Author.Rules.{rules}
 use native.Mathlib.Omega.{arith}
-use mathlib.Core.Path.{◌≡◌, sym}
+use mathlib.Core.Path.{sym}
 use Rattle.days_leap.proofs.Days.{none_before}
 use Rattle.days_leap.proofs.Sixes.{all_before}
 use Rattle.days_leap.proofs.listed_before.Goals as goal

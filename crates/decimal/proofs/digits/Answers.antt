@@ -1,9 +1,7 @@
-use Prim.Native.Nat.{◌-◌, ◌≤◌, ◌<◌, ◌^◌}
-use mathlib.Core.Path.{◌≡◌, sym, ◌∙◌}
+use Prim.Native.Nat.{◌-◌}
+use mathlib.Core.Path.{sym, ◌∙◌}
 use native.Mathlib.Omega.{arith}
-use lib.ListN.{length, drop, length-set}
-use borrow.Author.Rules.{rules}
-use Rattle.decimal.specs.Decimal.{digits_of, decimal}
+use lib.ListN.{length-set}
 use Rattle.decimal.proofs.Back.{write_start, place_left, write_turn, write_last}
 use Rattle.decimal.proofs.digits.Goals as goal
 

@@ -1,11 +1,8 @@
 -- `decimal::digits` meets its contract. The loop's invariant: x's digits before those that stand from i on are the number's; x has at most i.
 use Prim.Native.Nat.{◌-◌, ◌≤◌, ◌<◌, ◌^◌}
-use mathlib.Core.Path.{◌≡◌, sym, ◌∙◌}
-use native.Mathlib.Omega.{arith}
-use lib.ListN.{length, drop, length-set}
-use borrow.Author.Rules.{rules}
+use mathlib.Core.Path.{◌≡◌}
+use lib.ListN.{length, drop}
 use Rattle.decimal.specs.Decimal.{digits_of, decimal}
-use Rattle.decimal.proofs.Back.{write_start, place_left, write_turn, write_last}
 use Rattle.decimal.proofs.digits.Given as goal
 
 abbrev pub invariant-loop-x : goal.invariant-loop-x

@@ -1,6 +1,5 @@
 -- `decimal::put_digits` meets its contract: the digits stand at the end of the twenty bytes, and that part is laid.
 use mathlib.Core.Path.{ap, ◌∙◌}
-use borrow.Author.Rules.{rules}
 use Rattle.decimal.specs.Laid.{laid}
 use Rattle.decimal.proofs.Laying.{part_to_end}
 use Rattle.decimal.proofs.put_digits.Goals as goal

@@ -2,7 +2,7 @@
 use mathlib.Core.Path.{◌≡◌, ap, ◌∙◌}
 use mathlib.Core.Bool.{true, false}
 use Prim.Native.Nat.{ℕ}
-use mathlib.Core.List.{List, [], ◌∷◌}
+use mathlib.Core.List.{List, ◌∷◌}
 use lib.IntN.{ℤ, pos, nat_abs}
 use lib.Signed.{lt_z}
 use mir.Syntax.{w64}
@@ -11,7 +11,6 @@ use Rattle.decimal.specs.Decimal.{decimal, signed_decimal}
 use Rattle.decimal.specs.Laid.{laid}
 use Rattle.decimal.proofs.Laying.{laid_then}
 use Rattle.decimal.proofs.Back.{signed_below, signed_above}
-use borrow.Author.Rules.{rules}
 use Rattle.decimal.proofs.put_signed.Goals as goal
 
 module _ (s : List ℕ) (at n : ℕ) (z : ℤ) (is : n ≡ nat_abs z) where

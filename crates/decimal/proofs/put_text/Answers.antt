@@ -1,10 +1,8 @@
-use Prim.Native.Nat.{◌+◌, ◌-◌, ◌≤◌}
-use mathlib.Core.Path.{◌≡◌, refl, sym, ap₂, ◌∙◌}
+use Prim.Native.Nat.{◌+◌, ◌-◌}
+use mathlib.Core.Path.{refl, sym, ap₂, ◌∙◌}
 use native.Mathlib.Nat.{add-zero}
 use native.Mathlib.Omega.{arith}
-use lib.ListN.{length, drop, length-set}
-use borrow.Author.Rules.{rules}
-use Rattle.byte_words.specs.Words.{lay}
+use lib.ListN.{length-set}
 use Rattle.decimal.specs.Laid.{laid}
 use Rattle.decimal.proofs.Laying.{copy_turn, copy_end}
 use Rattle.decimal.proofs.put_text.Goals as goal

@@ -1,13 +1,8 @@
 -- `decimal::put_text` meets its contract. The loop's invariant: what is laid and the bytes still to come are the whole.
 use Prim.Native.Nat.{◌+◌, ◌-◌, ◌≤◌}
-use mathlib.Core.Path.{◌≡◌, refl, sym, ap₂, ◌∙◌}
-use native.Mathlib.Nat.{add-zero}
-use native.Mathlib.Omega.{arith}
-use lib.ListN.{length, drop, length-set}
-use borrow.Author.Rules.{rules}
+use mathlib.Core.Path.{◌≡◌}
+use lib.ListN.{length, drop}
 use Rattle.byte_words.specs.Words.{lay}
-use Rattle.decimal.specs.Laid.{laid}
-use Rattle.decimal.proofs.Laying.{copy_turn, copy_end}
 use Rattle.decimal.proofs.put_text.Given as goal
 
 abbrev pub invariant-loop-i : goal.invariant-loop-i

@@ -1,6 +1,5 @@
 -- `desk_lines::after` meets its contract. The loop's place is never before the first. Assumes nothing.
 use Prim.Native.Nat.{◌≤◌, ◌-◌}
-use borrow.Author.Rules.{rules}
 use lib.ListN.{length}
 use Rattle.desk_lines.proofs.after.Given as goal
 

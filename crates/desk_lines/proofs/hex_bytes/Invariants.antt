@@ -1,9 +1,7 @@
 -- `desk_lines::hex_bytes` is safe and ends: the places stay within the line and the room.
-use borrow.Author.Rules.{rules}
-use native.Mathlib.Omega.{arith}
 use Prim.Native.Nat.{◌≤◌, ◌-◌}
 use mathlib.Core.Path.{◌≡◌}
-use lib.ListN.{length, length-set}
+use lib.ListN.{length}
 use Rattle.desk_lines.proofs.hex_bytes.Given as goal
 
 abbrev pub invariant-loop-i : goal.invariant-loop-i

@@ -1,5 +1,4 @@
 -- `desk_lines::item` is safe and ends.
-use borrow.Author.Rules.{rules}
 use Prim.Native.Nat.{◌-◌}
 use Rattle.desk_lines.proofs.item.Given as goal
 

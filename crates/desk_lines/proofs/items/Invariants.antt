@@ -1,5 +1,4 @@
 -- `desk_lines::items` is safe and ends: the place is never before the number of items.
-use borrow.Author.Rules.{rules}
 use Prim.Native.Nat.{◌≤◌, ◌-◌}
 use lib.ListN.{length}
 use Rattle.desk_lines.proofs.items.Given as goal

@@ -2,7 +2,6 @@
 use Prim.Native.Nat.{◌*◌, ◌-◌, ◌^◌, ◌≤◌}
 use native.Mathlib.Nat.{div-mul-le_self, mul-le-mul_right, le_trans}
 use native.Mathlib.Omega.{arith}
-use borrow.Author.Rules.{rules}
 use Rattle.desk_lines.proofs.longer.Goals as goal
 
 pub overflow_mul-result : goal.overflow_mul-result

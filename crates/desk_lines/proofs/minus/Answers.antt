@@ -6,7 +6,6 @@ use lib.IntN.{pos, neg_ℤ, nat_abs, ◌-ℤ◌, +ℤ_idl}
 use mir.Syntax.{w64}
 use mir.Val.{SFits}
 use mir.Facts.{to_z-of_z}
-use borrow.Author.Rules.{rules}
 use Rattle.num_whole.proofs.Ints.{nat_abs_neg, within_fits}
 use Rattle.desk_lines.proofs.minus.Goals as goal
 

@@ -1,6 +1,5 @@
 -- `desk_lines::number_at` is safe and ends. The measure is what is left of the text. Assumes nothing.
 use Prim.Native.Nat.{◌-◌}
-use borrow.Author.Rules.{rules}
 use lib.ListN.{length}
 use Rattle.desk_lines.proofs.number_at.Given as goal
 

@@ -1,5 +1,4 @@
 -- `desk_lines::put_bytes` is safe and ends.
-use borrow.Author.Rules.{rules}
 use Prim.Native.Nat.{◌≤◌, ◌-◌}
 use lib.ListN.{length}
 use Rattle.desk_lines.proofs.put_bytes.Given as goal

@@ -1,5 +1,4 @@
 -- `desk_lines::word_end` is safe and ends.
-use borrow.Author.Rules.{rules}
 use Prim.Native.Nat.{◌-◌}
 use lib.ListN.{length}
 use Rattle.desk_lines.proofs.word_end.Given as goal

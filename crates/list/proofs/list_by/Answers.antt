@@ -2,7 +2,6 @@
 use native.Mathlib.Omega.{arith}
 use lib.ListN.{length-take}
 use Rattle.list.proofs.Listings.{count_inside, list_short, list_fits}
-use borrow.Author.Rules.{rules}
 use Rattle.list.proofs.list_by.Goals as goal
 
 pub returns-then-out-n : goal.returns-then-out-n

@@ -1,6 +1,5 @@
 -- `list::put_listing` meets its contract: its own room is empty.
 use mathlib.Core.Path.{refl, sym}
-use borrow.Author.Rules.{rules}
 use Rattle.take_laws.specs.Mix.{keep}
 use Rattle.list_lines.specs.Lines.{tally_of, tallies_from}
 use Rattle.list.proofs.put_listing.Goals as goal

@@ -1,17 +1,16 @@
 use Prim.Native.Nat.{◌+◌, ◌-◌, ◌≤◌, ◌<◌}
 use mathlib.Core.Path.{◌≡◌, refl, sym, ap, ◌∙◌, subst}
-use mathlib.Core.List.{List, ◌++◌}
+use mathlib.Core.List.{◌++◌}
 use native.Mathlib.Omega.{arith}
 use lib.ListN.{length, take, drop, length-take, take-append-drop}
 use lib.Seq.{take_all}
 use borrow.Author.Rules.{rules}
-use Rattle.num_limits.specs.Capacities.{arc_sums_most, parameters_most}
 use Rattle.byte_section.specs.Told.{told_answer}
 use Rattle.byte_section.specs.declared.ReadAnswer.{ReadAnswer}
 use Rattle.decimal.specs.Laid.{laid}
 use Rattle.list_lines.specs.Lines.{refused_line}
 use Rattle.list_run.specs.Runs.{listing}
-use Rattle.list_run.specs.Course.{Follows, AfterBy}
+use Rattle.list_run.specs.Course.{AfterBy}
 use Rattle.list_run.proofs.Courses.{refused_so}
 use Rattle.list.proofs.Listings.{part_next}
 use Rattle.list.proofs.put_parts.Lts

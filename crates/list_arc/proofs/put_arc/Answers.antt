@@ -1,6 +1,5 @@
 -- `list_arc::put_arc` meets its contract, line by line.
 use Rattle.list_lines.proofs.Laws.{arc_laid}
-use borrow.Author.Rules.{rules}
 use Rattle.list_arc.proofs.put_arc.Goals as goal
 
 pub returns : goal.returns

@@ -1,6 +1,5 @@
 -- `list_lines::put_label` meets its contract, piece by piece.
 use Rattle.list_lines.proofs.Laws.{label_laid}
-use borrow.Author.Rules.{rules}
 use Rattle.list_lines.proofs.put_label.Goals as goal
 
 pub returns : goal.returns

@@ -1,6 +1,5 @@
 -- `list_lines::put_one` meets its contract, piece by piece.
 use Rattle.list_lines.proofs.Laws.{one_laid}
-use borrow.Author.Rules.{rules}
 use Rattle.list_lines.proofs.put_one.Goals as goal
 
 pub returns : goal.returns

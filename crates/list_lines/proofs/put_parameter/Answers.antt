@@ -5,7 +5,6 @@ use mir.Syntax.{w64}
 use mir.ValLaws.{to_z-of_z}
 use Rattle.num_packed.proofs.Tests.{zero_bits}
 use Rattle.list_lines.proofs.Laws.{parameter_laid}
-use borrow.Author.Rules.{rules}
 use Rattle.list_lines.proofs.put_parameter.Goals as goal
 
 pub returns : goal.returns

@@ -1,16 +1,13 @@
-use Prim.Native.Nat.{◌-◌, ◌≤◌}
-use mathlib.Core.Path.{◌≡◌, refl, ◌∙◌}
+use Prim.Native.Nat.{◌-◌}
+use mathlib.Core.Path.{refl, ◌∙◌}
 use native.Mathlib.Omega.{arith}
-use lib.ListN.{length, length-map}
 use mir.Syntax.{w64}
 use mir.ValLaws.{to_z-of_z}
 use borrow.Author.Rules.{rules}
 use Rattle.num_whole.specs.Lists.{rest}
-use Rattle.decimal.specs.Laid.{laid}
 use Rattle.arc_heading.specs.Judge.{labels_of}
 use Rattle.num_packed.proofs.Places.{tri_within}
 use Rattle.take_state.proofs.Rooms.{place_small}
-use Rattle.list_lines.specs.Lines.{parameter_lines}
 use Rattle.list_lines.proofs.Laws.{row_laid, lines_turn, lines_end, parameters_turn, parameters_end}
 use Rattle.list_lines.proofs.put_parameters.Goals as goal
 

@@ -1,6 +1,5 @@
 -- `list_lines::put_refused` meets its contract.
 use Rattle.list_lines.specs.Lines.{refused_line}
-use borrow.Author.Rules.{rules}
 use Rattle.list_lines.proofs.put_refused.Goals as goal
 
 pub returns : goal.returns

@@ -3,7 +3,6 @@ use mathlib.Core.Path.{refl}
 use Rattle.num_whole.proofs.Cases.{yes, no}
 use Rattle.decimal.proofs.Laying.{laid_as}
 use Rattle.list_lines.specs.Lines.{seen_text, unseen_text}
-use borrow.Author.Rules.{rules}
 use Rattle.list_lines.proofs.put_seen.Goals as goal
 
 pub returns-then-seen : goal.returns-then-seen

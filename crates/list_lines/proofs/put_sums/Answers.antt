@@ -2,7 +2,6 @@
 use mir.Syntax.{w64}
 use mir.ValLaws.{to_z-of_z}
 use Rattle.list_lines.proofs.Laws.{sums_laid}
-use borrow.Author.Rules.{rules}
 use Rattle.list_lines.proofs.put_sums.Goals as goal
 
 pub returns : goal.returns

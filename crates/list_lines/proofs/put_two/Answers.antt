@@ -1,6 +1,5 @@
 -- `list_lines::put_two` meets its contract, piece by piece.
 use Rattle.list_lines.proofs.Laws.{two_laid}
-use borrow.Author.Rules.{rules}
 use Rattle.list_lines.proofs.put_two.Goals as goal
 
 pub returns : goal.returns

@@ -1,10 +1,8 @@
 -- `list_run::begin` meets its contract: nothing was heard yet.
-use mathlib.Core.Path.{◌≡◌, sym, ap, ◌∙◌}
-use native.Mathlib.Omega.{arith}
+use mathlib.Core.Path.{sym, ap, ◌∙◌}
 use Rattle.part_laws.specs.Entries.{held_of}
 use Rattle.list_lines.specs.Lines.{tallies_of}
 use Rattle.list_run.proofs.Courses.{heard_nothing, begin_state_lem}
-use borrow.Author.Rules.{rules}
 use Rattle.list_run.proofs.begin.Goals as goal
 
 pub returns : goal.returns

@@ -2,9 +2,7 @@
 use mathlib.Core.Path.{◌≡◌, sym, ap, ◌∙◌, subst₂}
 use mathlib.Core.List.{◌++◌}
 use lib.ListN.{length}
-use borrow.Author.Rules.{rules}
 use Rattle.take_state.specs.State.{state_of}
-use Rattle.part_laws.specs.Entries.{told_part}
 use Rattle.list_run.specs.Course.{AfterBy}
 use Rattle.list_run.proofs.Courses.{countable, leads}
 use Rattle.list_run.proofs.hear.Lts

@@ -1,12 +1,9 @@
 -- `list_run::note` meets its contract.
 use mathlib.Core.Path.{◌≡◌, refl, sym, ap, ◌∙◌, subst}
-use Prim.Native.Nat.{◌≤◌}
 use native.Mathlib.Omega.{arith}
-use lib.ListN.{length, length-take}
-use borrow.Author.Rules.{rules}
+use lib.ListN.{length-take}
 use Rattle.part_laws.specs.Entries.{took, told_part}
 use Rattle.part_laws.specs.Sequence.{form_of}
-use Rattle.list_tallies.specs.Tables.{CountsFit}
 use Rattle.list_run.specs.Course.{counted_by, Countable}
 use Rattle.list_run.proofs.note.Lts
 use Rattle.list_run.proofs.note.Reads

@@ -1,11 +1,10 @@
 -- `list_run::put_text` meets its contract: whatever bytes led here, finish says of them what reading them says.
-use mathlib.Core.Path.{◌≡◌, sym, ap, ◌∙◌, subst}
+use mathlib.Core.Path.{sym, ap, ◌∙◌, subst}
 use Prim.Native.Nat.{◌≤◌}
 use native.Mathlib.Omega.{arith}
-use borrow.Author.Rules.{rules}
 use Rattle.num_limits.specs.Capacities.{parameters_most}
 use Rattle.decimal.specs.Laid.{laid}
-use Rattle.part_laws.specs.Entries.{told_part, heading_given}
+use Rattle.part_laws.specs.Entries.{told_part}
 use Rattle.list_lines.specs.Lines.{arc_lines, refused_line}
 use Rattle.list_run.proofs.Courses.{sums_fit_lem, heading_few, text_good, end_good, end_bad, end_never}
 use Rattle.list_run.proofs.put_text.Goals as goal

@@ -1,9 +1,8 @@
-use Prim.Native.Nat.{◌+◌, ◌-◌, ◌≤◌, ◌<◌}
-use mathlib.Core.Path.{◌≡◌, refl, sym, ap, ◌∙◌}
+use Prim.Native.Nat.{◌+◌, ◌-◌, ◌<◌}
+use mathlib.Core.Path.{refl, sym, ap, ◌∙◌}
 use native.Mathlib.Omega.{arith}
 use lib.ListN.{length, get_or, drop}
-use borrow.Author.Rules.{rules}
-use Rattle.list_tallies.specs.Tables.{counted, CountsFit}
+use Rattle.list_tallies.specs.Tables.{counted}
 use Rattle.list_tallies.proofs.Counts.{counted_end, counted_turn, bumped_most}
 use Rattle.list_tallies.proofs.count.Goals as goal
 

@@ -1,11 +1,8 @@
 -- `list_tallies::count` meets its contract. The loop's invariant: what is left to count makes the whole table.
-use Prim.Native.Nat.{◌+◌, ◌-◌, ◌≤◌, ◌<◌}
-use mathlib.Core.Path.{◌≡◌, refl, sym, ap, ◌∙◌}
-use native.Mathlib.Omega.{arith}
-use lib.ListN.{length, get_or, drop}
-use borrow.Author.Rules.{rules}
+use Prim.Native.Nat.{◌-◌, ◌≤◌}
+use mathlib.Core.Path.{◌≡◌}
+use lib.ListN.{length, drop}
 use Rattle.list_tallies.specs.Tables.{counted, CountsFit}
-use Rattle.list_tallies.proofs.Counts.{counted_end, counted_turn, bumped_most}
 use Rattle.list_tallies.proofs.count.Given as goal
 
 abbrev pub invariant-loop-i : goal.invariant-loop-i

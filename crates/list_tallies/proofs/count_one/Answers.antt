@@ -2,7 +2,6 @@
 use mathlib.Core.Path.{sym}
 use native.Mathlib.Omega.{arith}
 use lib.Seq.{set_out}
-use borrow.Author.Rules.{rules}
 use Rattle.list_tallies.proofs.count_one.Goals as goal
 
 pub returns-else-k-table : goal.returns-else-k-table

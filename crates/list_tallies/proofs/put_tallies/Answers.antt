@@ -1,10 +1,6 @@
-use Prim.Native.Nat.{◌-◌, ◌≤◌}
-use mathlib.Core.Path.{◌≡◌, refl, ◌∙◌}
+use Prim.Native.Nat.{◌-◌}
+use mathlib.Core.Path.{refl, ◌∙◌}
 use native.Mathlib.Omega.{arith}
-use lib.ListN.{length}
-use borrow.Author.Rules.{rules}
-use Rattle.decimal.specs.Laid.{laid}
-use Rattle.list_lines.specs.Lines.{answers_most, tally_lines}
 use Rattle.list_lines.proofs.Laws.{lines_turn, lines_end, tallies_turn, tallies_end}
 use Rattle.list_tallies.proofs.put_tallies.Goals as goal
 

@@ -1,12 +1,9 @@
 -- `list_tallies::put_tallies` meets its contract. The loop's invariant: the lines of the numbers left, laid at the place, make the whole.
 use Prim.Native.Nat.{◌-◌, ◌≤◌}
-use mathlib.Core.Path.{◌≡◌, refl, ◌∙◌}
-use native.Mathlib.Omega.{arith}
+use mathlib.Core.Path.{◌≡◌}
 use lib.ListN.{length}
-use borrow.Author.Rules.{rules}
 use Rattle.decimal.specs.Laid.{laid}
 use Rattle.list_lines.specs.Lines.{answers_most, tally_lines}
-use Rattle.list_lines.proofs.Laws.{lines_turn, lines_end, tallies_turn, tallies_end}
 use Rattle.list_tallies.proofs.put_tallies.Given as goal
 
 abbrev pub invariant-loop-k : goal.invariant-loop-k

@@ -2,7 +2,6 @@
 use mathlib.Core.Path.{refl, sym}
 use Rattle.decimal.proofs.Laying.{laid_as}
 use Rattle.list_lines.proofs.Laws.{lines_end, tally_none, tally_some}
-use borrow.Author.Rules.{rules}
 use Rattle.list_tallies.proofs.put_tally.Goals as goal
 
 pub returns-then-n-eq0 : goal.returns-then-n-eq0

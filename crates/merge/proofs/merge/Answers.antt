@@ -1,7 +1,6 @@
 -- `merge::merge` meets its contract: the first file refused, or what the second comes to.
 use Rattle.merge_put.proofs.Known.{taken}
 use Rattle.merge.proofs.Outcomes.{read_bad, first_bad}
-use borrow.Author.Rules.{rules}
 use Rattle.merge.proofs.merge.Goals as goal
 
 pub merge_second-requires : goal.merge_second-requires

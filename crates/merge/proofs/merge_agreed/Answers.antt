@@ -2,7 +2,6 @@
 use native.Mathlib.Omega.{arith}
 use Rattle.merge_put.proofs.Known.{Known, known}
 use Rattle.merge.proofs.Answers.{answers_24, none_refuses}
-use borrow.Author.Rules.{rules}
 use Rattle.merge.proofs.merge_agreed.Lts
 use Rattle.merge.proofs.merge_agreed.Reads
 use Rattle.merge.proofs.merge_agreed.Tie

@@ -1,7 +1,6 @@
 -- `merge::merge_labels` meets its contract: 23 where there are more than 500.
 use Rattle.merge_put.proofs.Known.{Known, known}
 use Rattle.merge.proofs.Answers.{answers_23}
-use borrow.Author.Rules.{rules}
 use Rattle.merge.proofs.merge_labels.Lts
 use Rattle.merge.proofs.merge_labels.Reads
 use Rattle.merge.proofs.merge_labels.Tie

@@ -2,7 +2,6 @@
 use native.Mathlib.Omega.{arith}
 use Rattle.merge_put.proofs.Known.{Known, known}
 use Rattle.merge.proofs.Answers.{answers_21, answers_22, arcs_fit}
-use borrow.Author.Rules.{rules}
 use Rattle.merge.proofs.merge_read.Lts
 use Rattle.merge.proofs.merge_read.Reads
 use Rattle.merge.proofs.merge_read.Tie

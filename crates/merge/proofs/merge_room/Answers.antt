@@ -2,7 +2,6 @@
 use native.Mathlib.Omega.{arith}
 use Rattle.merge_put.proofs.Known.{Known, known}
 use Rattle.merge.proofs.Answers.{answers_20, answers_written}
-use borrow.Author.Rules.{rules}
 use Rattle.merge.proofs.merge_room.Lts
 use Rattle.merge.proofs.merge_room.Reads
 use Rattle.merge.proofs.merge_room.Tie

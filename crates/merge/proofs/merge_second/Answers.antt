@@ -1,7 +1,6 @@
 -- `merge::merge_second` meets its contract: the second file refused, or the two merged.
 use Rattle.merge_put.proofs.Known.{taken}
 use Rattle.merge.proofs.Outcomes.{read_bad, second_bad, both_taken}
-use borrow.Author.Rules.{rules}
 use Rattle.merge.proofs.merge_second.Goals as goal
 
 pub merge_read-requires : goal.merge_read-requires

@@ -1,7 +1,6 @@
 -- `merge_heads::label_in` meets its contract, one step for its test.
 use native.Mathlib.Omega.{arith}
 use Rattle.merge_heads.proofs.Chosen.{label_first, label_second}
-use borrow.Author.Rules.{rules}
 use Rattle.merge_heads.proofs.label_in.Goals as goal
 
 pub returns-then-p-n : goal.returns-then-p-n

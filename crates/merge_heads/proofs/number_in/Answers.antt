@@ -1,7 +1,6 @@
 -- `merge_heads::number_in` meets its contract, one step for its test.
 use native.Mathlib.Omega.{arith}
 use Rattle.merge_heads.proofs.Chosen.{number_first, number_second}
-use borrow.Author.Rules.{rules}
 use Rattle.merge_heads.proofs.number_in.Goals as goal
 
 pub returns-then-p-xs : goal.returns-then-p-xs

@@ -1,6 +1,5 @@
 -- `merge_heads::put_arc` meets its contract: an arc is one word.
 use Rattle.norm_kinds.specs.Kinds.{arc_number_bytes}
-use borrow.Author.Rules.{rules}
 use Rattle.merge_heads.proofs.put_arc.Goals as goal
 
 pub returns : goal.returns

@@ -1,15 +1,11 @@
 use mathlib.Core.Path.{◌≡◌, refl, sym, ap, ◌∙◌}
-use Prim.Native.Nat.{◌≤◌, ◌+◌, ◌-◌, ◌*◌}
+use Prim.Native.Nat.{◌-◌}
 use native.Mathlib.Nat.{sub-zero}
 use native.Mathlib.Omega.{arith}
-use borrow.Author.Rules.{rules}
-use lib.ListN.{length}
 use Rattle.byte_words.specs.Words.{lay}
 use Rattle.byte_words.proofs.Words.{length_lay}
-use Rattle.byte_section.specs.Section.{encoded}
 use Rattle.norm_kinds.specs.Kinds.{arc_number_bytes}
 use Rattle.norm_kinds.proofs.Records.{length_arc}
-use Rattle.norm_labels.specs.Table.{rows_of}
 use Rattle.merge_sums.proofs.Writing.{rows_end, rows_turn}
 use Rattle.merge_heads.specs.Heads.{number_at}
 use Rattle.merge_heads.proofs.Chosen.{number_short}

@@ -5,7 +5,6 @@ use mir.Syntax.{w64}
 use mir.ValLaws.{to_z-of_z}
 use Rattle.byte_words.proofs.Words.{lay_append, length_bytes_of}
 use Rattle.norm_kinds.specs.Kinds.{normal_label_bytes}
-use borrow.Author.Rules.{rules}
 use Rattle.merge_heads.proofs.put_fields.Goals as goal
 
 -- Each `let` of a place leads from a later one to an earlier one; they stand here since `rw` takes no view.

@@ -7,7 +7,6 @@ use lib.ListN.{take, drop}
 use Rattle.byte_words.proofs.Parts.{lay_part}
 use Rattle.norm_kinds.specs.Kinds.{normal_label_bytes}
 use Rattle.norm_kinds.proofs.Records.{length_label}
-use borrow.Author.Rules.{rules}
 use Rattle.merge_heads.proofs.put_label.Goals as goal
 
 pub returns : goal.returns

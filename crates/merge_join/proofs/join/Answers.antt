@@ -1,9 +1,9 @@
-use mathlib.Core.Path.{◌≡◌, ◌∙◌}
-use Prim.Native.Nat.{◌≤◌, ◌+◌, ◌-◌}
+use mathlib.Core.Path.{◌∙◌}
+use Prim.Native.Nat.{◌-◌}
 use native.Mathlib.Omega.{arith}
 use borrow.Author.Rules.{rules}
-use lib.ListN.{length, length-set}
-use Rattle.merge_join.proofs.Joining.{Walking, walk_starts, walk_on, walk_ends}
+use lib.ListN.{length-set}
+use Rattle.merge_join.proofs.Joining.{walk_starts, walk_on, walk_ends}
 use Rattle.merge_join.proofs.join.Goals as goal
 
 pub loop-i-init : goal.loop-i-init

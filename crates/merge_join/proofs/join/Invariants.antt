@@ -1,10 +1,8 @@
 -- The walk over both lists leaves the places of every number of their union.
-use mathlib.Core.Path.{◌≡◌, ◌∙◌}
+use mathlib.Core.Path.{◌≡◌}
 use Prim.Native.Nat.{◌≤◌, ◌+◌, ◌-◌}
-use native.Mathlib.Omega.{arith}
-use borrow.Author.Rules.{rules}
-use lib.ListN.{length, length-set}
-use Rattle.merge_join.proofs.Joining.{Walking, walk_starts, walk_on, walk_ends}
+use lib.ListN.{length}
+use Rattle.merge_join.proofs.Joining.{Walking}
 use Rattle.merge_join.proofs.join.Given as goal
 
 abbrev pub invariant-loop-i : goal.invariant-loop-i

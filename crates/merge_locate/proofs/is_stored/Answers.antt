@@ -1,8 +1,7 @@
 -- `merge_locate::is_stored` meets its contract.
-use mathlib.Core.Path.{◌≡◌, sym, ap, ◌∙◌}
+use mathlib.Core.Path.{ap, ◌∙◌}
 use mathlib.Core.Bool.{not}
 use native.Mathlib.Omega.{arith}
-use borrow.Author.Rules.{rules}
 use Rattle.num_whole.specs.Tests.{same}
 use Rattle.num_whole.proofs.Cases.{holds, fails, is_less, not_less, by_not_same}
 use Rattle.merge_locate.specs.Locate.{stored_at}

@@ -1,16 +1,9 @@
 -- `merge_locate::locate` meets its contract. The loop's invariant: what is left to choose makes the whole.
-use mathlib.Core.Path.{◌≡◌, refl, sym, ap, ◌∙◌}
-use mathlib.Core.Logic.{⊎_elim}
-use mathlib.Core.List.{[], ◌∷◌}
-use Prim.Native.Nat.{suc, ◌≤◌, ◌<◌, ◌+◌, ◌-◌}
-use native.Mathlib.Nat.{sub-zero}
-use native.Mathlib.Omega.{arith}
-use borrow.Author.Rules.{rules}
-use lib.ListN.{length, set, length-set}
+use mathlib.Core.Path.{◌≡◌}
+use Prim.Native.Nat.{◌≤◌, ◌+◌, ◌-◌}
+use lib.ListN.{length}
 use Rattle.byte_words.specs.Words.{lay}
-use Rattle.merge_locate.specs.Locate.{stored_at, stored_for, numbers_where}
-use Rattle.merge_join.proofs.Joining.{lay_one, lay_none}
-use Rattle.merge_locate.proofs.Numbers.{numbers_end, numbers_next, numbers_skip}
+use Rattle.merge_locate.specs.Locate.{stored_for, numbers_where}
 use Rattle.merge_locate.proofs.locate.Given as goal
 
 abbrev pub invariant-loop-i : goal.invariant-loop-i

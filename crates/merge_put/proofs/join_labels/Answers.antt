@@ -8,7 +8,6 @@ use Rattle.norm_labels.specs.Labels.{keys_of}
 use Rattle.merge_put.specs.Parts.{system_in_file}
 use Rattle.merge_put.proofs.Known.{Known, known}
 use Rattle.merge_put.proofs.Loaded.{keys_part, part_long, keys_ascending, keys_room, labels_joined}
-use borrow.Author.Rules.{rules}
 use Rattle.merge_put.proofs.join_labels.Lts
 use Rattle.merge_put.proofs.join_labels.Reads
 use Rattle.merge_put.proofs.join_labels.Tie

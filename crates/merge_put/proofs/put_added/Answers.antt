@@ -16,7 +16,6 @@ use Rattle.merge_put.proofs.Known.{Known, known}
 use Rattle.merge_put.proofs.Placed.{Places}
 use Rattle.merge_put.proofs.Sums.{left_places, right_places, matrix_adds, rights_add}
 use Rattle.merge_put.proofs.Steps.{middle_put}
-use borrow.Author.Rules.{rules}
 use Rattle.merge_put.proofs.put_added.Lts
 use Rattle.merge_put.proofs.put_added.Reads
 use Rattle.merge_put.proofs.put_added.Tie

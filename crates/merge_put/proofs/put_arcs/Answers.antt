@@ -7,7 +7,6 @@ use Rattle.merge_join.specs.Join.{union}
 use Rattle.merge_put.specs.Parts.{system_in_file}
 use Rattle.merge_put.proofs.Known.{Known, known}
 use Rattle.merge_put.proofs.Loaded.{arcs_part, part_long, arcs_ascend, arcs_room, arcs_short, arcs_within, arcs_somewhere, arcs_put}
-use borrow.Author.Rules.{rules}
 use Rattle.merge_put.proofs.put_arcs.Lts
 use Rattle.merge_put.proofs.put_arcs.Reads
 use Rattle.merge_put.proofs.put_arcs.Tie

@@ -1,7 +1,6 @@
 -- `merge_put::put_file` meets its contract: the three parts, one after the other.
 use mathlib.Core.Path.{refl}
 use native.Mathlib.Omega.{arith}
-use borrow.Author.Rules.{rules}
 use Rattle.merge_put.proofs.Known.{Known, known}
 use Rattle.merge_put.proofs.Steps.{file_put}
 use Rattle.merge_put.proofs.put_file.Lts

@@ -3,7 +3,6 @@ use native.Mathlib.Omega.{arith}
 use Rattle.merge_put.proofs.Known.{Known, known}
 use Rattle.merge_put.proofs.Sums.{labels_somewhere}
 use Rattle.merge_put.proofs.Steps.{heads_put}
-use borrow.Author.Rules.{rules}
 use Rattle.merge_put.proofs.put_heads.Lts
 use Rattle.merge_put.proofs.put_heads.Reads
 use Rattle.merge_put.proofs.put_heads.Tie

@@ -4,7 +4,6 @@ use Prim.Native.Nat.{◌+◌}
 use native.Mathlib.Omega.{arith}
 use Rattle.merge_put.proofs.Known.{Known, known}
 use Rattle.merge_put.proofs.Steps.{totals_fit, last_put}
-use borrow.Author.Rules.{rules}
 use Rattle.merge_put.proofs.put_last.Lts
 use Rattle.merge_put.proofs.put_last.Reads
 use Rattle.merge_put.proofs.put_last.Tie

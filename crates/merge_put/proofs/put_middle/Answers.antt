@@ -11,7 +11,6 @@ use Rattle.merge_put.specs.Parts.{system_in_file, stored_in_file}
 use Rattle.merge_put.proofs.Known.{Known, known}
 use Rattle.merge_put.proofs.Loaded.{part_long}
 use Rattle.merge_put.proofs.Sums.{left_found, right_found}
-use borrow.Author.Rules.{rules}
 use Rattle.merge_put.proofs.put_middle.Lts
 use Rattle.merge_put.proofs.put_middle.Reads
 use Rattle.merge_put.proofs.put_middle.Tie

@@ -1,11 +1,7 @@
 -- `merge_read::agree` meets its contract. The loop's invariant: every pair that was passed agrees.
-use mathlib.Core.Path.{◌≡◌, sym, ◌∙◌}
+use mathlib.Core.Path.{◌≡◌}
 use mathlib.Core.Bool.{true}
 use Prim.Native.Nat.{ℕ, ◌≤◌, ◌<◌, ◌-◌}
-use native.Mathlib.Omega.{arith}
-use borrow.Author.Rules.{rules}
-use borrow.Author.Count.{below_more}
-use Rattle.num_whole.proofs.Tables.{below_every, below_fails}
 use Rattle.merge_read.specs.Read.{agree_at}
 use Rattle.merge_read.proofs.agree.Given as goal
 

@@ -1,7 +1,6 @@
 -- `merge_read::agree_in` meets its contract, one step for each test.
 use native.Mathlib.Omega.{arith}
 use Rattle.merge_read.proofs.Compared.{agree_both, agree_left, agree_right}
-use borrow.Author.Rules.{rules}
 use Rattle.merge_read.proofs.agree_in.Goals as goal
 
 pub returns-then-q-m : goal.returns-then-q-m

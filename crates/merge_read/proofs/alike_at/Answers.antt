@@ -1,7 +1,6 @@
 -- `merge_read::alike_at` meets its contract, one step for its test.
 use mathlib.Core.Path.{sym, ◌∙◌}
 use Rattle.merge_read.proofs.Compared.{weights_differ, estimates_tell}
-use borrow.Author.Rules.{rules}
 use Rattle.merge_read.proofs.alike_at.Goals as goal
 
 pub returns-then-read_u32 : goal.returns-then-read_u32

@@ -3,7 +3,6 @@ use Prim.Native.Nat.{◌+◌, ◌-◌}
 use mathlib.Core.Path.{◌∙◌}
 use native.Mathlib.Omega.{arith}
 use Rattle.merge_read.proofs.Compared.{label_part}
-use borrow.Author.Rules.{rules}
 use Rattle.merge_read.proofs.label_at.Goals as goal
 
 pub returns : goal.returns

@@ -1,11 +1,8 @@
-use mathlib.Core.Path.{◌≡◌, refl, sym, ap, ◌∙◌}
-use Prim.Native.Nat.{◌≤◌, ◌+◌, ◌*◌, ◌-◌}
+use mathlib.Core.Path.{refl, sym, ap, ◌∙◌}
+use Prim.Native.Nat.{◌-◌}
 use native.Mathlib.Omega.{arith}
-use borrow.Author.Rules.{rules}
-use lib.ListN.{length, length-set}
-use Rattle.byte_words.specs.Words.{lay}
+use lib.ListN.{length-set}
 use Rattle.norm_system.specs.System.{key_of}
-use Rattle.byte_words.specs.Stands.{stands}
 use Rattle.merge_read.specs.Read.{key_at, keys_at}
 use Rattle.byte_words.proofs.Stands.{load_start, load_end, load_turn}
 use Rattle.merge_read.proofs.load_keys.Goals as goal

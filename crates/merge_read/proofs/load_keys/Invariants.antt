@@ -1,14 +1,10 @@
 -- `merge_read::load_keys` meets its contract. The loop's invariant: what is left to put makes the whole.
-use mathlib.Core.Path.{◌≡◌, refl, sym, ap, ◌∙◌}
+use mathlib.Core.Path.{◌≡◌}
 use Prim.Native.Nat.{◌≤◌, ◌+◌, ◌*◌, ◌-◌}
-use native.Mathlib.Omega.{arith}
-use borrow.Author.Rules.{rules}
-use lib.ListN.{length, length-set}
+use lib.ListN.{length}
 use Rattle.byte_words.specs.Words.{lay}
-use Rattle.norm_system.specs.System.{key_of}
 use Rattle.byte_words.specs.Stands.{stands}
 use Rattle.merge_read.specs.Read.{key_at, keys_at}
-use Rattle.byte_words.proofs.Stands.{load_start, load_end, load_turn}
 use Rattle.merge_read.proofs.load_keys.Given as goal
 
 abbrev pub invariant-loop-i : goal.invariant-loop-i

@@ -1,6 +1,5 @@
 -- `merge_sums::join_column` meets its contract: cleared, then one file's sums, then the other's.
 use mathlib.Core.Path.{◌≡◌, refl, sym, ap, ◌∙◌}
-use borrow.Author.Rules.{rules}
 use lib.IntN.{pos}
 use lib.ListN.{length, replicate, length-replicate}
 use Rattle.num_whole.proofs.Adding.{length_plus}
@@ -41,8 +40,7 @@ add_next-q-requires c =
 
 pub returns : goal.returns
 returns c =
-    let two = c.add_next-q in
-    (
+    let two = c.add_next-q in (
       column_both c.args.a.now c.args.start c.args.ta.now c.args.b.now c.args.begin c.args.tb.now c.args.j _ _ _ c.requires.j_value.0 (zeros c.before.before.before.before.before.before.before.before) c.add_next-p.ensures.0 _ two.ensures.0,
       c.add_next-p.ensures.1,
       two.ensures.1,

@@ -1,7 +1,6 @@
 -- `merge_sums::join_sides` meets its contract: cleared, then one file's right sides, then the other's.
 use mathlib.Core.Path.{◌≡◌, refl, sym, ap, ◌∙◌, subst}
 use Prim.Native.Nat.{◌<◌}
-use borrow.Author.Rules.{rules}
 use lib.IntN.{pos}
 use lib.ListN.{length, get_or, replicate, length-replicate}
 use Rattle.num_whole.specs.Sums.{plus}

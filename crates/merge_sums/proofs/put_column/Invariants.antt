@@ -1,16 +1,9 @@
 -- `merge_sums::put_column` meets its contract. The loop's invariant: the bytes of the sums left, laid at the place, make the whole.
-use mathlib.Core.Path.{◌≡◌, refl, sym, ap, ◌∙◌}
+use mathlib.Core.Path.{◌≡◌}
 use Prim.Native.Nat.{◌≤◌, ◌+◌, ◌-◌, ◌*◌}
-use native.Mathlib.Omega.{arith}
-use borrow.Author.Rules.{rules}
-use lib.IntN.{pos}
-use lib.ListN.{length, get_or, drop}
-use mir.Syntax.{w64}
-use mir.ValLaws.{to_z-of_z}
-use Rattle.byte_words.specs.Words.{lay, signed_bytes}
-use Rattle.byte_words.proofs.Words.{length_lay}
+use lib.ListN.{length, drop}
+use Rattle.byte_words.specs.Words.{lay}
 use Rattle.merge_sums.proofs.Writing.{bytes_in}
-use Rattle.merge_sums.proofs.Both.{bytes_end, bytes_turn}
 use Rattle.merge_sums.proofs.put_column.Given as goal
 
 abbrev pub invariant-loop-i : goal.invariant-loop-i

@@ -2,7 +2,6 @@ use mathlib.Core.Path.{◌≡◌, refl, sym, ap, ◌∙◌}
 use Prim.Native.Nat.{◌≤◌, ◌<◌, ◌+◌, ◌-◌, ◌*◌}
 use native.Mathlib.Nat.{sub-zero}
 use native.Mathlib.Omega.{arith}
-use borrow.Author.Rules.{rules}
 use lib.ListN.{length}
 use lib.Seq.{length-take-le}
 use Rattle.byte_words.specs.Words.{lay}
@@ -12,7 +11,6 @@ use Rattle.num_packed.proofs.Places.{tri_next, tri_within}
 use Rattle.norm_labels.specs.Table.{rows_of, columns_of}
 use Rattle.norm_labels.proofs.Tables.{length_rows}
 use Rattle.merge_sums.proofs.Writing.{bytes_in, columns_end, columns_turn}
-use Rattle.norm_add.specs.Add.{Passed}
 use Rattle.norm_add.proofs.Columns.{passed_starts}
 use Rattle.merge_sums.specs.Both.{both_places}
 use Rattle.merge_sums.proofs.Both.{front_long, front_take}

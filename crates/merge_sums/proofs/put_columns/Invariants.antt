@@ -1,22 +1,13 @@
 -- `merge_sums::put_columns` meets its contract. The loop's invariant: the bytes of the columns left, laid at the place, make the whole.
-use mathlib.Core.Path.{◌≡◌, refl, sym, ap, ◌∙◌}
-use Prim.Native.Nat.{◌≤◌, ◌<◌, ◌+◌, ◌-◌, ◌*◌}
-use native.Mathlib.Nat.{sub-zero}
-use native.Mathlib.Omega.{arith}
-use borrow.Author.Rules.{rules}
+use mathlib.Core.Path.{◌≡◌}
+use Prim.Native.Nat.{◌≤◌, ◌+◌, ◌-◌, ◌*◌}
 use lib.ListN.{length}
-use lib.Seq.{length-take-le}
 use Rattle.byte_words.specs.Words.{lay}
-use Rattle.byte_words.proofs.Words.{length_lay}
 use Rattle.num_packed.specs.Triangle.{tri}
-use Rattle.num_packed.proofs.Places.{tri_next, tri_within}
-use Rattle.norm_labels.specs.Table.{rows_of, columns_of}
-use Rattle.norm_labels.proofs.Tables.{length_rows}
-use Rattle.merge_sums.proofs.Writing.{bytes_in, columns_end, columns_turn}
+use Rattle.norm_labels.specs.Table.{columns_of}
+use Rattle.merge_sums.proofs.Writing.{bytes_in}
 use Rattle.norm_add.specs.Add.{Passed}
-use Rattle.norm_add.proofs.Columns.{passed_starts}
 use Rattle.merge_sums.specs.Both.{both_places}
-use Rattle.merge_sums.proofs.Both.{front_long, front_take}
 use Rattle.merge_sums.proofs.put_columns.Given as goal
 
 abbrev pub invariant-loop-j : goal.invariant-loop-j

@@ -2,7 +2,6 @@
 use mathlib.Core.Path.{ap, ◌∙◌}
 use Rattle.byte_words.specs.Words.{lay}
 use Rattle.merge_sums.proofs.Writing.{bytes_in}
-use borrow.Author.Rules.{rules}
 use Rattle.merge_sums.proofs.put_sides.Goals as goal
 
 pub returns : goal.returns

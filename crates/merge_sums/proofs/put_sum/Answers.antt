@@ -9,7 +9,6 @@ use mir.ValLaws.{to_z-of_z}
 use Rattle.byte_words.specs.Words.{lay, signed_bytes}
 use Rattle.byte_words.proofs.Parts.{lay_part}
 use Rattle.merge_sums.proofs.Writing.{length_sum}
-use borrow.Author.Rules.{rules}
 use Rattle.merge_sums.proofs.put_sum.Goals as goal
 
 pub returns : goal.returns

@@ -1,5 +1,5 @@
 use mathlib.Core.Path.{◌≡◌, refl, ap, ◌∙◌}
-use Prim.Native.Nat.{◌≤◌, ◌<◌, ◌+◌, ◌-◌, ◌*◌}
+use Prim.Native.Nat.{◌<◌, ◌+◌, ◌-◌, ◌*◌}
 use native.Mathlib.Omega.{arith}
 use borrow.Author.Rules.{rules}
 use lib.IntN.{pos, ◌+ℤ◌}
@@ -7,7 +7,7 @@ use lib.ListN.{length, get_or, set, length-set}
 use mir.Syntax.{w64}
 use mir.ValLaws.{to_z-of_z}
 use Rattle.byte_words.specs.Words.{signed_word}
-use Rattle.norm_add.proofs.Scatter.{Scattered, scatter_starts, scatter_small, scatter_turn, scatter_ends}
+use Rattle.norm_add.proofs.Scatter.{scatter_starts, scatter_small, scatter_turn, scatter_ends}
 use Rattle.norm_add.proofs.add_column.Goals as goal
 
 pub loop-i-init : goal.loop-i-init

@@ -9,7 +9,6 @@ use mir.ValLaws.{to_z-of_z}
 use Rattle.num_whole.proofs.Ints.{+-within, within_fits}
 use Rattle.norm_add.proofs.sum_of.Lts
 use Rattle.norm_add.proofs.sum_of.Reads
-use Rattle.norm_add.proofs.sum_of.Tie
 use Rattle.norm_add.proofs.sum_of.Goals as goal
 
 -- the facts known at one place of the code

@@ -1,5 +1,4 @@
 -- `norm_fields::arc_fits` meets its contract.
-use borrow.Author.Rules.{rules}
 use native.Mathlib.Omega.{arith}
 use Rattle.norm_fields.proofs.Fields.{arc_large}
 use Rattle.norm_fields.proofs.arc_fits.Goals as goal

@@ -1,9 +1,7 @@
-use borrow.Author.Rules.{rules}
-use mathlib.Core.Path.{◌≡◌, refl, sym, ◌∙◌}
-use Prim.Native.Nat.{◌≤◌, ◌-◌}
+use mathlib.Core.Path.{refl, sym, ◌∙◌}
+use Prim.Native.Nat.{◌-◌}
 use native.Mathlib.Omega.{arith}
-use lib.ListN.{take}
-use Rattle.num_whole.specs.Lists.{ascend, rest}
+use Rattle.num_whole.specs.Lists.{rest}
 use Rattle.num_whole.proofs.Walks.{ascend_end, ascend_pass, ascend_fail}
 use Rattle.norm_fields.proofs.Fields.{arc_at}
 use Rattle.norm_fields.proofs.arcs_ascend.Goals as goal

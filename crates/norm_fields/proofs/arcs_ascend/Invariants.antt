@@ -1,12 +1,8 @@
 -- `norm_fields::arcs_ascend` meets its contract. The loop's invariant: the arcs left, from the floor up, make the whole.
-use borrow.Author.Rules.{rules}
-use mathlib.Core.Path.{◌≡◌, refl, sym, ◌∙◌}
+use mathlib.Core.Path.{◌≡◌}
 use Prim.Native.Nat.{◌≤◌, ◌-◌}
-use native.Mathlib.Omega.{arith}
 use lib.ListN.{take}
 use Rattle.num_whole.specs.Lists.{ascend, rest}
-use Rattle.num_whole.proofs.Walks.{ascend_end, ascend_pass, ascend_fail}
-use Rattle.norm_fields.proofs.Fields.{arc_at}
 use Rattle.norm_fields.proofs.arcs_ascend.Given as goal
 
 abbrev pub invariant-loop-i : goal.invariant-loop-i

@@ -1,9 +1,7 @@
-use borrow.Author.Rules.{rules}
-use mathlib.Core.Path.{◌≡◌, refl, sym, ◌∙◌}
-use Prim.Native.Nat.{◌≤◌, ◌-◌}
+use mathlib.Core.Path.{refl, sym, ◌∙◌}
+use Prim.Native.Nat.{◌-◌}
 use native.Mathlib.Omega.{arith}
-use lib.ListN.{take}
-use Rattle.num_whole.specs.Lists.{all, rest}
+use Rattle.num_whole.specs.Lists.{rest}
 use Rattle.num_whole.proofs.Walks.{all_end, all_pass, all_fail}
 use Rattle.norm_system.specs.System.{arc_ok}
 use Rattle.norm_fields.proofs.arcs_fit.Goals as goal

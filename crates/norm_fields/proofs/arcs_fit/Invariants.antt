@@ -1,11 +1,8 @@
 -- `norm_fields::arcs_fit` meets its contract. The loop's invariant: the arcs left make the whole.
-use borrow.Author.Rules.{rules}
-use mathlib.Core.Path.{◌≡◌, refl, sym, ◌∙◌}
+use mathlib.Core.Path.{◌≡◌}
 use Prim.Native.Nat.{◌≤◌, ◌-◌}
-use native.Mathlib.Omega.{arith}
 use lib.ListN.{take}
 use Rattle.num_whole.specs.Lists.{all, rest}
-use Rattle.num_whole.proofs.Walks.{all_end, all_pass, all_fail}
 use Rattle.norm_system.specs.System.{arc_ok}
 use Rattle.norm_fields.proofs.arcs_fit.Given as goal
 

@@ -1,10 +1,7 @@
 -- `norm_fields::arcs_of` meets its contract. The loop's invariant: the arcs passed are copied.
-use borrow.Author.Rules.{rules}
-use mathlib.Core.Path.{◌≡◌, refl, sym, ◌∙◌}
+use mathlib.Core.Path.{◌≡◌}
 use Prim.Native.Nat.{◌≤◌, ◌-◌}
-use native.Mathlib.Omega.{arith}
-use lib.ListN.{length, take, length-set}
-use Rattle.norm_fields.proofs.Fields.{arc_at, copied}
+use lib.ListN.{length, take}
 use Rattle.norm_fields.proofs.arcs_of.Given as goal
 
 abbrev pub invariant-loop-i : goal.invariant-loop-i

@@ -1,5 +1,4 @@
 -- `norm_fields::counts_fit` meets its contract.
-use borrow.Author.Rules.{rules}
 use mathlib.Core.Path.{sym, ◌∙◌}
 use Rattle.num_whole.proofs.Cases.{holds, fails}
 use Rattle.norm_room.specs.Room.{counts_fit}

@@ -1,5 +1,4 @@
 -- `norm_fields::fields_fit` meets its contract: the arcs, then the labels with the arcs that are listed.
-use borrow.Author.Rules.{rules}
 use native.Mathlib.Omega.{arith}
 use mathlib.Core.Path.{sym, ap, ◌∙◌}
 use lib.Seq.{length-take-le}

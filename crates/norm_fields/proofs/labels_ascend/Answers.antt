@@ -1,12 +1,9 @@
-use borrow.Author.Rules.{rules}
 use mathlib.Core.Path.{◌≡◌, sym, ap, ◌∙◌}
-use Prim.Native.Nat.{◌≤◌, ◌+◌, ◌*◌, ◌-◌}
+use Prim.Native.Nat.{◌-◌}
 use native.Mathlib.Omega.{arith}
 use native.Mathlib.Nat.{sub-zero}
-use Rattle.byte_words.specs.Stands.{stands}
 use Rattle.byte_words.proofs.Stands.{stands_done, stands_next}
 use Rattle.norm_room.specs.Room.{label_in_heads}
-use Rattle.num_whole.specs.Lists.{ascend}
 use Rattle.num_whole.proofs.Walks.{ascend_done, ascend_on, ascend_off}
 use Rattle.norm_system.specs.System.{key_of}
 use Rattle.norm_fields.specs.Fields.{bare_label}

@@ -1,17 +1,10 @@
 -- `norm_fields::labels_ascend` meets its contract. The loop's invariant: the labels left, from the floor up, make the whole.
-use borrow.Author.Rules.{rules}
-use mathlib.Core.Path.{◌≡◌, sym, ap, ◌∙◌}
+use mathlib.Core.Path.{◌≡◌}
 use Prim.Native.Nat.{◌≤◌, ◌+◌, ◌*◌, ◌-◌}
-use native.Mathlib.Omega.{arith}
-use native.Mathlib.Nat.{sub-zero}
 use Rattle.byte_words.specs.Stands.{stands}
-use Rattle.byte_words.proofs.Stands.{stands_done, stands_next}
 use Rattle.norm_room.specs.Room.{label_in_heads}
 use Rattle.num_whole.specs.Lists.{ascend}
-use Rattle.num_whole.proofs.Walks.{ascend_done, ascend_on, ascend_off}
 use Rattle.norm_system.specs.System.{key_of}
-use Rattle.norm_fields.specs.Fields.{bare_label}
-use Rattle.norm_fields.proofs.Fields.{bare_key, label_small_at, label_kind_at}
 use Rattle.norm_fields.proofs.labels_ascend.Given as goal
 
 abbrev pub invariant-loop-i : goal.invariant-loop-i

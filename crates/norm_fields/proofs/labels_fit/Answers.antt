@@ -1,14 +1,9 @@
-use borrow.Author.Rules.{rules}
-use mathlib.Core.Path.{◌≡◌, sym, ◌∙◌}
-use Prim.Native.Nat.{◌≤◌, ◌+◌, ◌*◌, ◌-◌}
+use mathlib.Core.Path.{sym, ◌∙◌}
+use Prim.Native.Nat.{◌-◌}
 use native.Mathlib.Omega.{arith}
 use native.Mathlib.Nat.{sub-zero}
-use Rattle.byte_words.specs.Stands.{stands}
 use Rattle.byte_words.proofs.Stands.{stands_done, stands_next}
-use Rattle.norm_room.specs.Room.{label_in_heads}
-use Rattle.num_whole.specs.Lists.{all}
 use Rattle.num_whole.proofs.Walks.{all_done, all_on, all_off}
-use Rattle.norm_system.specs.System.{normal_label_ok}
 use Rattle.norm_fields.proofs.labels_fit.Goals as goal
 
 pub loop-i-init : goal.loop-i-init

@@ -3,7 +3,6 @@ use mathlib.Core.Path.{sym}
 use native.Mathlib.Omega.{arith}
 use lib.ListN.{length}
 use Rattle.norm_add.proofs.Held.{column_is, column_none, column_fits}
-use borrow.Author.Rules.{rules}
 use Rattle.norm_gather.proofs.column_at.Goals as goal
 
 pub returns-then-j-n : goal.returns-then-j-n

@@ -7,7 +7,6 @@ use Rattle.norm_add.specs.Add.{held_at, column_at}
 use Rattle.num_packed.specs.Sound.{is_zero}
 use Rattle.num_whole.proofs.Cases.{yes, no}
 use Rattle.norm_gather.specs.Gather.{field_by_seat}
-use borrow.Author.Rules.{rules}
 use Rattle.norm_gather.proofs.field_in.Lts
 use Rattle.norm_gather.proofs.field_in.Reads
 use Rattle.norm_gather.proofs.field_in.Tie

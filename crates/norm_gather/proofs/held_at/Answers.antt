@@ -4,7 +4,6 @@ use mir.Syntax.{w64}
 use mir.ValLaws.{to_z-of_z}
 use Rattle.norm_add.proofs.Held.{held_there, held_past}
 use native.Mathlib.Omega.{arith}
-use borrow.Author.Rules.{rules}
 use Rattle.norm_gather.proofs.held_at.Goals as goal
 
 pub returns-then-i-c : goal.returns-then-i-c

@@ -1,13 +1,9 @@
 -- `norm_gather::keep_seats` meets its contract. The loop's invariant: what is left to keep makes the whole.
-use mathlib.Core.Path.{◌≡◌, refl, sym, ap, ◌∙◌}
-use mathlib.Core.Logic.{⊎_elim}
-use Prim.Native.Nat.{suc, ◌≤◌, ◌<◌, ◌+◌, ◌-◌}
-use native.Mathlib.Omega.{arith}
-use lib.ListN.{length, get_or, drop, set, length-set}
+use mathlib.Core.Path.{◌≡◌}
+use Prim.Native.Nat.{◌≤◌, ◌+◌, ◌-◌}
+use lib.ListN.{length, drop}
 use Rattle.byte_words.specs.Words.{lay}
 use Rattle.norm_gather.specs.Gather.{kept_seats, field_by_seat}
-use Rattle.norm_gather.proofs.Seated.{kept_none, kept_off, kept_on, kept_turn, kept_done}
-use borrow.Author.Rules.{rules}
 use Rattle.norm_gather.proofs.keep_seats.Given as goal
 
 abbrev pub invariant-loop-i : goal.invariant-loop-i

@@ -1,5 +1,5 @@
 use mathlib.Core.Path.{◌≡◌, refl, sym, ap, ◌∙◌}
-use Prim.Native.Nat.{◌≤◌, ◌+◌, ◌-◌, ◌*◌}
+use Prim.Native.Nat.{◌+◌, ◌-◌}
 use native.Mathlib.Nat.{sub-zero}
 use native.Mathlib.Omega.{arith}
 use lib.ListN.{length}
@@ -10,7 +10,6 @@ use Rattle.byte_section.specs.Section.{encoded}
 use Rattle.norm_kinds.specs.Kinds.{arc_number_bytes}
 use Rattle.norm_kinds.proofs.Records.{length_arc}
 use Rattle.norm_gather.proofs.Writing.{stands_end, stands_turn}
-use borrow.Author.Rules.{rules}
 use Rattle.norm_gather.proofs.put_arcs.Goals as goal
 
 pub loop-i-init : goal.loop-i-init

@@ -1,17 +1,11 @@
 -- `norm_gather::put_arcs` meets its contract. The loop's invariant: the bytes of the arcs left, laid at the place, make the whole.
-use mathlib.Core.Path.{◌≡◌, refl, sym, ap, ◌∙◌}
+use mathlib.Core.Path.{◌≡◌}
 use Prim.Native.Nat.{◌≤◌, ◌+◌, ◌-◌, ◌*◌}
-use native.Mathlib.Nat.{sub-zero}
-use native.Mathlib.Omega.{arith}
 use lib.ListN.{length}
-use Rattle.byte_words.specs.Words.{word, bytes_of, lay}
+use Rattle.byte_words.specs.Words.{word, lay}
 use Rattle.byte_words.specs.Stands.{stands}
-use Rattle.byte_words.proofs.Words.{length_lay}
 use Rattle.byte_section.specs.Section.{encoded}
 use Rattle.norm_kinds.specs.Kinds.{arc_number_bytes}
-use Rattle.norm_kinds.proofs.Records.{length_arc}
-use Rattle.norm_gather.proofs.Writing.{stands_end, stands_turn}
-use borrow.Author.Rules.{rules}
 use Rattle.norm_gather.proofs.put_arcs.Given as goal
 
 abbrev pub invariant-loop-i : goal.invariant-loop-i

@@ -12,7 +12,6 @@ use Rattle.norm_kinds.specs.Kinds.{sum_bytes}
 use Rattle.norm_labels.specs.Table.{rows_of, columns_of}
 use Rattle.norm_gather.specs.Gather.{gathered_at, side_gathered}
 use Rattle.norm_gather.proofs.Writing.{columns_end, columns_turn}
-use borrow.Author.Rules.{rules}
 use Rattle.norm_gather.proofs.put_columns.Lts
 use Rattle.norm_gather.proofs.put_columns.Reads
 use Rattle.norm_gather.proofs.put_columns.Tie

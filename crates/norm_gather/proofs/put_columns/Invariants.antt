@@ -1,19 +1,13 @@
 -- `norm_gather::put_columns` meets its contract. The loop's invariant: the bytes of the columns left, laid at the place, make the whole.
-use mathlib.Core.Path.{◌≡◌, refl, sym, ap, ◌∙◌}
-use Prim.Native.Nat.{◌≤◌, ◌<◌, ◌+◌, ◌-◌, ◌*◌}
-use native.Mathlib.Nat.{sub-zero}
-use native.Mathlib.Omega.{arith}
+use mathlib.Core.Path.{◌≡◌}
+use Prim.Native.Nat.{◌≤◌, ◌+◌, ◌-◌, ◌*◌}
 use lib.ListN.{length}
 use Rattle.byte_words.specs.Words.{lay}
-use Rattle.byte_words.proofs.Words.{length_lay}
 use Rattle.byte_section.specs.Section.{encoded}
 use Rattle.num_packed.specs.Triangle.{tri}
-use Rattle.num_packed.proofs.Places.{tri_next, tri_within}
 use Rattle.norm_kinds.specs.Kinds.{sum_bytes}
-use Rattle.norm_labels.specs.Table.{rows_of, columns_of}
-use Rattle.norm_gather.specs.Gather.{gathered_at, side_gathered}
-use Rattle.norm_gather.proofs.Writing.{columns_end, columns_turn}
-use borrow.Author.Rules.{rules}
+use Rattle.norm_labels.specs.Table.{columns_of}
+use Rattle.norm_gather.specs.Gather.{gathered_at}
 use Rattle.norm_gather.proofs.put_columns.Given as goal
 
 abbrev pub invariant-loop-j : goal.invariant-loop-j

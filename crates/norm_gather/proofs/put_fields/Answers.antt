@@ -5,7 +5,6 @@ use mir.Syntax.{w64}
 use mir.ValLaws.{to_z-of_z}
 use Rattle.byte_words.proofs.Words.{lay_append, length_bytes_of}
 use Rattle.norm_kinds.specs.Kinds.{fielded_bytes}
-use borrow.Author.Rules.{rules}
 use Rattle.norm_gather.proofs.put_fields.Goals as goal
 
 pub returns : goal.returns

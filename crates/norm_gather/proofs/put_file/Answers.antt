@@ -6,7 +6,6 @@ use native.Mathlib.Omega.{arith}
 use Rattle.byte_words.specs.Words.{lay}
 use Rattle.norm_gather.specs.Gather.{sums_gathered, totals_copied}
 use Rattle.norm_gather.proofs.Laid.{parts_laid}
-use borrow.Author.Rules.{rules}
 use Rattle.norm_gather.proofs.put_file.Goals as goal
 
 pub returns : goal.returns

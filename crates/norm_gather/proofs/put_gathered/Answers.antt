@@ -1,5 +1,5 @@
 use mathlib.Core.Path.{◌≡◌, refl, sym, ap, ◌∙◌}
-use Prim.Native.Nat.{◌≤◌, ◌+◌, ◌-◌, ◌*◌}
+use Prim.Native.Nat.{◌+◌, ◌-◌}
 use native.Mathlib.Nat.{sub-zero}
 use native.Mathlib.Omega.{arith}
 use lib.ListN.{length}
@@ -13,7 +13,6 @@ use Rattle.norm_kinds.proofs.Records.{length_sum}
 use Rattle.norm_labels.specs.Table.{rows_of}
 use Rattle.norm_gather.specs.Gather.{side_gathered}
 use Rattle.norm_gather.proofs.Writing.{rows_end, rows_turn}
-use borrow.Author.Rules.{rules}
 use Rattle.norm_gather.proofs.put_gathered.Goals as goal
 
 pub loop-i-init : goal.loop-i-init

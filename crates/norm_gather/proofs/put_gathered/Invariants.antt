@@ -1,20 +1,12 @@
 -- `norm_gather::put_gathered` meets its contract. The loop's invariant: the bytes of the sums left, laid at the place, make the whole.
-use mathlib.Core.Path.{◌≡◌, refl, sym, ap, ◌∙◌}
+use mathlib.Core.Path.{◌≡◌}
 use Prim.Native.Nat.{◌≤◌, ◌+◌, ◌-◌, ◌*◌}
-use native.Mathlib.Nat.{sub-zero}
-use native.Mathlib.Omega.{arith}
 use lib.ListN.{length}
-use mir.Syntax.{w64}
-use mir.ValLaws.{to_z-of_z}
 use Rattle.byte_words.specs.Words.{lay}
-use Rattle.byte_words.proofs.Words.{length_lay}
 use Rattle.byte_section.specs.Section.{encoded}
 use Rattle.norm_kinds.specs.Kinds.{sum_bytes}
-use Rattle.norm_kinds.proofs.Records.{length_sum}
 use Rattle.norm_labels.specs.Table.{rows_of}
 use Rattle.norm_gather.specs.Gather.{side_gathered}
-use Rattle.norm_gather.proofs.Writing.{rows_end, rows_turn}
-use borrow.Author.Rules.{rules}
 use Rattle.norm_gather.proofs.put_gathered.Given as goal
 
 abbrev pub invariant-loop-i : goal.invariant-loop-i

@@ -10,7 +10,6 @@ use Rattle.norm_labels.specs.Table.{rows_of}
 use Rattle.norm_heads.specs.Heads.{arcs_at}
 use Rattle.norm_gather.specs.Gather.{fielded_by_seat}
 use Rattle.norm_gather.proofs.Laid.{head_part_laid}
-use borrow.Author.Rules.{rules}
 use Rattle.norm_gather.proofs.put_heads.Goals as goal
 
 pub returns : goal.returns

@@ -1,6 +1,6 @@
 use mathlib.Core.Path.{◌≡◌, refl, sym, ap, ap₂, ◌∙◌}
 use mathlib.Core.List.{List}
-use Prim.Native.Nat.{ℕ, ◌≤◌, ◌+◌, ◌-◌, ◌*◌}
+use Prim.Native.Nat.{ℕ, ◌+◌, ◌-◌, ◌*◌}
 use native.Mathlib.Omega.{arith}
 use lib.ListN.{length}
 use Rattle.byte_words.specs.Words.{lay}
@@ -11,7 +11,6 @@ use Rattle.norm_kinds.proofs.Records.{length_fielded}
 use Rattle.norm_labels.specs.Table.{rows_of}
 use Rattle.norm_gather.specs.Gather.{fielded_by_seat}
 use Rattle.norm_gather.proofs.Writing.{rows_end, rows_turn}
-use borrow.Author.Rules.{rules}
 use Rattle.norm_gather.proofs.put_labels.Goals as goal
 
 starts : (out : List ℕ) (at : ℕ) (f : ℕ → Fielded) (n : ℕ) → lay out at (encoded fielded_bytes (rows_of f 0 n)) ≡ lay out (at + 24 * 0) (encoded fielded_bytes (rows_of f 0 (n - 0)))

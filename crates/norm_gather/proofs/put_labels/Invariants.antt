@@ -1,18 +1,12 @@
 -- `norm_gather::put_labels` meets its contract. The loop's invariant: the bytes of the labels left, laid at the place, make the whole.
-use mathlib.Core.Path.{◌≡◌, refl, sym, ap, ap₂, ◌∙◌}
-use mathlib.Core.List.{List}
-use Prim.Native.Nat.{ℕ, ◌≤◌, ◌+◌, ◌-◌, ◌*◌}
-use native.Mathlib.Omega.{arith}
+use mathlib.Core.Path.{◌≡◌}
+use Prim.Native.Nat.{◌≤◌, ◌+◌, ◌-◌, ◌*◌}
 use lib.ListN.{length}
 use Rattle.byte_words.specs.Words.{lay}
-use Rattle.byte_words.proofs.Words.{length_lay}
 use Rattle.byte_section.specs.Section.{encoded}
-use Rattle.norm_kinds.specs.Kinds.{Fielded, fielded_bytes}
-use Rattle.norm_kinds.proofs.Records.{length_fielded}
+use Rattle.norm_kinds.specs.Kinds.{fielded_bytes}
 use Rattle.norm_labels.specs.Table.{rows_of}
 use Rattle.norm_gather.specs.Gather.{fielded_by_seat}
-use Rattle.norm_gather.proofs.Writing.{rows_end, rows_turn}
-use borrow.Author.Rules.{rules}
 use Rattle.norm_gather.proofs.put_labels.Given as goal
 
 abbrev pub invariant-loop-i : goal.invariant-loop-i

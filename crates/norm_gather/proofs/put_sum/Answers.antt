@@ -10,7 +10,6 @@ use Rattle.byte_words.specs.Words.{lay, signed_bytes}
 use Rattle.byte_words.proofs.Parts.{lay_part}
 use Rattle.norm_kinds.specs.Kinds.{sum_bytes}
 use Rattle.norm_kinds.proofs.Records.{length_sum}
-use borrow.Author.Rules.{rules}
 use Rattle.norm_gather.proofs.put_sum.Goals as goal
 
 pub returns : goal.returns

@@ -6,7 +6,6 @@ use Rattle.byte_words.specs.Words.{bytes_of, lay}
 use Rattle.byte_section.specs.Section.{encoded}
 use Rattle.norm_kinds.specs.Kinds.{sum_bytes}
 use Rattle.norm_gather.proofs.Laid.{columns_found, sides_found, sum_part_laid}
-use borrow.Author.Rules.{rules}
 use Rattle.norm_gather.proofs.put_sums.Goals as goal
 
 pub returns : goal.returns

@@ -3,7 +3,6 @@ use mathlib.Core.Path.{ap, ◌∙◌}
 use Prim.Native.Nat.{◌+◌}
 use Rattle.byte_words.specs.Words.{bytes_of, lay}
 use Rattle.norm_gather.proofs.Laid.{totals_laid}
-use borrow.Author.Rules.{rules}
 use Rattle.norm_gather.proofs.put_totals.Goals as goal
 
 pub returns : goal.returns

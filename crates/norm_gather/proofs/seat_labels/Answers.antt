@@ -1,6 +1,5 @@
 use mathlib.Core.Path.{◌≡◌, refl, sym, ap, ◌∙◌}
-use mathlib.Core.Logic.{⊎_elim}
-use Prim.Native.Nat.{◌≤◌, ◌<◌, ◌+◌, ◌-◌, ◌*◌}
+use Prim.Native.Nat.{◌<◌, ◌+◌, ◌-◌}
 use native.Mathlib.Nat.{sub-zero}
 use native.Mathlib.Omega.{arith}
 use lib.ListN.{length, set, length-set}
@@ -9,7 +8,6 @@ use Rattle.byte_words.specs.Stands.{stands}
 use Rattle.norm_kinds.specs.Kinds.{fielded_at}
 use Rattle.norm_gather.specs.Gather.{seats_from}
 use Rattle.norm_gather.proofs.Seated.{seats_end, seats_off, seats_on}
-use borrow.Author.Rules.{rules}
 use Rattle.norm_gather.proofs.seat_labels.Goals as goal
 use Rattle.norm_gather.proofs.seat_labels.Goals.{then-field-eq2, else-field-eq2}
 
@@ -23,24 +21,24 @@ loop-i-preserved c =
     let is = c.read_u32-field.ensures in
     let v = l.invariant in
     elim c.if-field-eq2.branch [
-      then-field-eq2 w ↦ let e = seats_off c.args.s.now c.args.n c.args.p l.i l.at l.q l.w more (sym is ∙ w.if-field-eq2.true) in
-    let q : c.if-field-eq2.q ≡ l.q = w.q-is in
-    let r : c.if-field-eq2.w ≡ set l.w l.i c.args.n = w.w-is in (
-      omega arith,
-      omega (arith, v.1),
-      omega (arith, v.2),
-      ap length r ∙ length-set l.w l.i c.args.n ∙ v.3,
-      v.4 ∙ e ∙ (λ i. lay (sym r i) (l.i + 1) (seats_from c.args.n (sym q i) (stands (fielded_at c.args.s.now) 24 (c.args.p - (l.i + 1)) (l.at + 24)))),
-    )
-    | else-field-eq2 w ↦ let e = seats_on c.args.s.now c.args.n c.args.p l.i l.at l.q l.w more (λ d. w.if-field-eq2.false (is ∙ d)) in
-    let q : c.if-field-eq2.q ≡ l.q + 1 = w.q-is in
-    let r : c.if-field-eq2.w ≡ set l.w l.i l.q = w.w-is in (
-      omega arith,
-      omega (arith, v.1),
-      omega (arith, v.2),
-      ap length r ∙ length-set l.w l.i l.q ∙ v.3,
-      v.4 ∙ e ∙ (λ i. lay (sym r i) (l.i + 1) (seats_from c.args.n (sym q i) (stands (fielded_at c.args.s.now) 24 (c.args.p - (l.i + 1)) (l.at + 24)))),
-    )
+      | then-field-eq2 w ↦ let e = seats_off c.args.s.now c.args.n c.args.p l.i l.at l.q l.w more (sym is ∙ w.if-field-eq2.true) in
+          let q : c.if-field-eq2.q ≡ l.q = w.q-is in
+          let r : c.if-field-eq2.w ≡ set l.w l.i c.args.n = w.w-is in (
+            omega arith,
+            omega (arith, v.1),
+            omega (arith, v.2),
+            ap length r ∙ length-set l.w l.i c.args.n ∙ v.3,
+            v.4 ∙ e ∙ (λ i. lay (sym r i) (l.i + 1) (seats_from c.args.n (sym q i) (stands (fielded_at c.args.s.now) 24 (c.args.p - (l.i + 1)) (l.at + 24)))),
+          )
+      | else-field-eq2 w ↦ let e = seats_on c.args.s.now c.args.n c.args.p l.i l.at l.q l.w more (λ d. w.if-field-eq2.false (is ∙ d)) in
+          let q : c.if-field-eq2.q ≡ l.q + 1 = w.q-is in
+          let r : c.if-field-eq2.w ≡ set l.w l.i l.q = w.w-is in (
+            omega arith,
+            omega (arith, v.1),
+            omega (arith, v.2),
+            ap length r ∙ length-set l.w l.i l.q ∙ v.3,
+            v.4 ∙ e ∙ (λ i. lay (sym r i) (l.i + 1) (seats_from c.args.n (sym q i) (stands (fielded_at c.args.s.now) 24 (c.args.p - (l.i + 1)) (l.at + 24)))),
+          )
     ]
 
 pub returns : goal.returns

@@ -1,16 +1,11 @@
 -- `norm_gather::seat_labels` meets its contract. The loop's invariant: the places left, laid at the turn, make the whole.
-use mathlib.Core.Path.{◌≡◌, refl, sym, ap, ◌∙◌}
-use mathlib.Core.Logic.{⊎_elim}
-use Prim.Native.Nat.{◌≤◌, ◌<◌, ◌+◌, ◌-◌, ◌*◌}
-use native.Mathlib.Nat.{sub-zero}
-use native.Mathlib.Omega.{arith}
-use lib.ListN.{length, set, length-set}
+use mathlib.Core.Path.{◌≡◌}
+use Prim.Native.Nat.{◌≤◌, ◌+◌, ◌-◌, ◌*◌}
+use lib.ListN.{length}
 use Rattle.byte_words.specs.Words.{lay}
 use Rattle.byte_words.specs.Stands.{stands}
 use Rattle.norm_kinds.specs.Kinds.{fielded_at}
 use Rattle.norm_gather.specs.Gather.{seats_from}
-use Rattle.norm_gather.proofs.Seated.{seats_end, seats_off, seats_on}
-use borrow.Author.Rules.{rules}
 use Rattle.norm_gather.proofs.seat_labels.Given as goal
 
 abbrev pub invariant-loop-i : goal.invariant-loop-i

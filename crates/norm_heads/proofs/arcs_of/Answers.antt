@@ -1,13 +1,10 @@
 use borrow.Author.Rules.{rules}
 use native.Mathlib.Omega.{arith}
 use mathlib.Core.Path.{◌≡◌, refl, sym, ap, ◌∙◌}
-use Prim.Native.Nat.{◌+◌, ◌*◌, ◌-◌, ◌≤◌}
+use Prim.Native.Nat.{◌+◌, ◌*◌, ◌-◌}
 use native.Mathlib.Nat.{sub-zero}
-use lib.ListN.{length, take, length-set}
-use lib.Seq.{sets}
+use lib.ListN.{take, length-set}
 use Rattle.byte_words.specs.Words.{word}
-use Rattle.byte_words.specs.Stands.{stands}
-use Rattle.norm_heads.specs.Heads.{arcs_at}
 use Rattle.byte_words.proofs.Stands.{put_end, put_turn, put_all}
 use Rattle.norm_heads.proofs.arcs_of.Goals as goal
 

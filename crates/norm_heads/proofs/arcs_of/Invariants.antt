@@ -1,15 +1,11 @@
 -- `norm_heads::arcs_of` meets its contract. The loop's invariant: what is left to put makes the whole.
-use borrow.Author.Rules.{rules}
-use native.Mathlib.Omega.{arith}
-use mathlib.Core.Path.{◌≡◌, refl, sym, ap, ◌∙◌}
+use mathlib.Core.Path.{◌≡◌}
 use Prim.Native.Nat.{◌+◌, ◌*◌, ◌-◌, ◌≤◌}
-use native.Mathlib.Nat.{sub-zero}
-use lib.ListN.{length, take, length-set}
+use lib.ListN.{length}
 use lib.Seq.{sets}
 use Rattle.byte_words.specs.Words.{word}
 use Rattle.byte_words.specs.Stands.{stands}
 use Rattle.norm_heads.specs.Heads.{arcs_at}
-use Rattle.byte_words.proofs.Stands.{put_end, put_turn, put_all}
 use Rattle.norm_heads.proofs.arcs_of.Given as goal
 
 abbrev pub invariant-loop-i : goal.invariant-loop-i

@@ -1,11 +1,7 @@
-use mathlib.Core.Path.{◌≡◌, refl, sym, ◌∙◌}
-use Prim.Native.Nat.{◌≤◌, ◌+◌, ◌*◌, ◌-◌}
+use mathlib.Core.Path.{refl, sym, ◌∙◌}
+use Prim.Native.Nat.{◌-◌}
 use native.Mathlib.Omega.{arith}
-use borrow.Author.Rules.{rules}
-use lib.ListN.{length, length-set}
-use Rattle.byte_words.specs.Words.{word, lay}
-use Rattle.byte_words.specs.Stands.{stands}
-use Rattle.norm_heads.specs.Heads.{arcs_at}
+use lib.ListN.{length-set}
 use Rattle.byte_words.proofs.Stands.{load_start, load_end, load_turn}
 use Rattle.norm_heads.proofs.load_arcs.Goals as goal
 

@@ -1,13 +1,10 @@
 -- `norm_heads::load_arcs` meets its contract. The loop's invariant: what is left to put makes the whole.
-use mathlib.Core.Path.{◌≡◌, refl, sym, ◌∙◌}
+use mathlib.Core.Path.{◌≡◌}
 use Prim.Native.Nat.{◌≤◌, ◌+◌, ◌*◌, ◌-◌}
-use native.Mathlib.Omega.{arith}
-use borrow.Author.Rules.{rules}
-use lib.ListN.{length, length-set}
+use lib.ListN.{length}
 use Rattle.byte_words.specs.Words.{word, lay}
 use Rattle.byte_words.specs.Stands.{stands}
 use Rattle.norm_heads.specs.Heads.{arcs_at}
-use Rattle.byte_words.proofs.Stands.{load_start, load_end, load_turn}
 use Rattle.norm_heads.proofs.load_arcs.Given as goal
 
 abbrev pub invariant-loop-i : goal.invariant-loop-i

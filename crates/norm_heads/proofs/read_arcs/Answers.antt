@@ -5,7 +5,6 @@ use Rattle.byte_section.proofs.Walk.{then_good, then_bad, counted}
 use Rattle.byte_section.specs.Section.{told_count}
 use Rattle.norm_kinds.specs.Kinds.{arc_kind}
 use Rattle.norm_heads.proofs.Heads.{span_section}
-use borrow.Author.Rules.{rules}
 use Rattle.norm_heads.proofs.read_arcs.Goals as goal
 
 pub walk_arcs-requires : goal.walk_arcs-requires

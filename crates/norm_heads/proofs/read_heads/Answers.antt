@@ -4,7 +4,6 @@ use mathlib.Core.Path.{sym, ap, ◌∙◌}
 use Rattle.byte_section.proofs.Walk.{then_good, then_bad}
 use Rattle.byte_section.specs.Told.{told_section}
 use Rattle.norm_heads.proofs.Heads.{heads_counts, heads_good, few_arcs, labels_whole}
-use borrow.Author.Rules.{rules}
 use Rattle.norm_heads.proofs.read_heads.Goals as goal
 
 pub read_parameters-requires : goal.read_parameters-requires

@@ -5,7 +5,6 @@ use Rattle.byte_section.proofs.Walk.{then_bad, counted}
 use Rattle.byte_section.specs.Section.{told_count}
 use Rattle.norm_kinds.specs.Kinds.{fielded_kind, is_small_form}
 use Rattle.norm_heads.proofs.Heads.{span_section, span_labels}
-use borrow.Author.Rules.{rules}
 use Rattle.norm_heads.proofs.read_labels.Goals as goal
 
 pub overflow_add-at : goal.overflow_add-at

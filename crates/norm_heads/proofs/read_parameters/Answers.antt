@@ -5,7 +5,6 @@ use lib.Seq.{length-take-le}
 use Rattle.byte_section.specs.Section.{section_at}
 use Rattle.norm_kinds.specs.Kinds.{fielded_kind, is_small_form}
 use Rattle.byte_section.specs.Told.{span_of}
-use borrow.Author.Rules.{rules}
 use Rattle.norm_heads.proofs.read_parameters.Goals as goal
 
 pub slice_bounds-read_labels-end : goal.slice_bounds-read_labels-end

@@ -1,6 +1,5 @@
 -- `norm_heads::stored_in` meets its contract.
 use mathlib.Core.Path.{refl}
-use borrow.Author.Rules.{rules}
 use Rattle.num_whole.proofs.Cases.{yes, no}
 use Rattle.norm_heads.proofs.stored_in.Goals as goal
 

@@ -1,12 +1,10 @@
 use borrow.Author.Rules.{rules}
 use native.Mathlib.Omega.{arith}
-use mathlib.Core.Path.{◌≡◌, sym, ap, ◌∙◌}
-use Prim.Native.Nat.{◌+◌, ◌*◌, ◌-◌, ◌≤◌}
-use Rattle.byte_section.specs.Section.{records}
+use mathlib.Core.Path.{sym, ap, ◌∙◌}
+use Prim.Native.Nat.{◌-◌}
 use Rattle.norm_kinds.specs.Kinds.{arc_kind}
-use Rattle.byte_section.specs.Told.{span_of}
 use Rattle.norm_kinds.specs.Told.{told_floor}
-use Rattle.norm_heads.proofs.Loops.{reaching, reach_start, reach_end, reach_good, reach_bad}
+use Rattle.norm_heads.proofs.Loops.{reach_start, reach_end, reach_good, reach_bad}
 use Rattle.norm_heads.proofs.walk_arcs.Goals as goal
 
 pub loop-i-init : goal.loop-i-init

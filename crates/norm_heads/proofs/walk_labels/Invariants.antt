@@ -1,13 +1,10 @@
 -- `norm_heads::walk_labels` meets its contract. The loop's invariant: what is left to read makes the whole.
-use borrow.Author.Rules.{rules}
-use native.Mathlib.Omega.{arith}
-use mathlib.Core.Path.{◌≡◌, sym, ap, ◌∙◌}
+use mathlib.Core.Path.{◌≡◌}
 use Prim.Native.Nat.{◌+◌, ◌*◌, ◌-◌, ◌≤◌}
 use Rattle.byte_section.specs.Section.{records}
 use Rattle.norm_kinds.specs.Kinds.{fielded_kind}
 use Rattle.byte_section.specs.Told.{span_of}
-use Rattle.norm_kinds.specs.Told.{told_floor}
-use Rattle.norm_heads.proofs.Loops.{reaching, reach_start, reach_end, reach_good, reach_bad}
+use Rattle.norm_heads.proofs.Loops.{reaching}
 use Rattle.norm_heads.proofs.walk_labels.Given as goal
 
 abbrev pub invariant-loop-i : goal.invariant-loop-i

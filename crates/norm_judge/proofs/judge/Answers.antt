@@ -1,7 +1,6 @@
 -- `norm_judge::judge` meets its contract: the counts and the heads' room, then the values.
 use mathlib.Core.Path.{sym, ◌∙◌}
 use Rattle.norm_judge.proofs.Numbers.{counted, headed, number_count, number_room, number_values}
-use borrow.Author.Rules.{rules}
 use Rattle.norm_judge.proofs.judge.Goals as goal
 
 pub heads_roomy-requires : goal.heads_roomy-requires

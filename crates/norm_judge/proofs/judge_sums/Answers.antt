@@ -1,7 +1,6 @@
 -- `norm_judge::judge_sums` meets its contract: the rooms, then the sums.
 use mathlib.Core.Path.{sym, ◌∙◌}
 use Rattle.norm_judge.proofs.Numbers.{roomed, sums_room, sums_unsound, sums_sound_lem}
-use borrow.Author.Rules.{rules}
 use Rattle.norm_judge.proofs.judge_sums.Goals as goal
 
 pub sums_fit-requires : goal.sums_fit-requires

@@ -2,7 +2,6 @@
 use mathlib.Core.Path.{sym, ◌∙◌}
 use Rattle.norm_fields.proofs.Fields.{fields_in, orders_in}
 use Rattle.norm_judge.proofs.Numbers.{values_limits, values_order, values_sums}
-use borrow.Author.Rules.{rules}
 use Rattle.norm_judge.proofs.judge_values.Goals as goal
 
 pub orders_fit-requires : goal.orders_fit-requires

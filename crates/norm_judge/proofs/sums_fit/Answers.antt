@@ -1,5 +1,4 @@
 -- `norm_judge::sums_fit` meets its contract: the rooms' parts that hold the sums are walked over.
-use borrow.Author.Rules.{rules}
 use native.Mathlib.Omega.{arith}
 use mathlib.Core.Path.{◌≡◌, sym, ◌∙◌}
 use lib.ListN.{length, take}

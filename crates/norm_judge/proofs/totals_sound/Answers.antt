@@ -1,5 +1,4 @@
 -- `norm_judge::totals_sound` meets its contract.
-use borrow.Author.Rules.{rules}
 use mathlib.Core.Path.{sym, ap, ◌∙◌}
 use Rattle.norm_totals.specs.Told.{told_where}
 use Rattle.norm_room.specs.Room.{is_nowhere}

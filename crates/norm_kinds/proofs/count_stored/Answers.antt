@@ -1,12 +1,7 @@
-use mathlib.Core.Path.{◌≡◌, refl, sym, ap, ◌∙◌}
-use mathlib.Core.Logic.{⊎_elim}
-use Prim.Native.Nat.{suc, ◌≤◌, ◌<◌, ◌+◌, ◌-◌, ◌*◌}
+use mathlib.Core.Path.{◌≡◌, sym, ◌∙◌}
+use Prim.Native.Nat.{◌<◌, ◌+◌, ◌-◌}
 use native.Mathlib.Nat.{sub-zero}
 use native.Mathlib.Omega.{arith}
-use borrow.Author.Rules.{rules}
-use lib.ListN.{length}
-use Rattle.byte_words.specs.Stands.{stands}
-use Rattle.norm_kinds.specs.Kinds.{fielded_at, stored_of}
 use Rattle.norm_kinds.proofs.Labels.{count_end, count_on, count_off}
 use Rattle.norm_kinds.proofs.count_stored.Goals as goal
 use Rattle.norm_kinds.proofs.count_stored.Goals.{then-field-ne2, else-field-ne2}
@@ -21,14 +16,14 @@ loop-i-preserved c =
     let is = c.read_u32-field.ensures in
     let v = l.invariant in
     elim c.if-field-ne2.branch [
-      then-field-ne2 w ↦
-        let e = count_on c.args.s.now c.args.p l.i l.at more (λ d. w.if-field-ne2.true (is ∙ d)) in
-        let n : c.if-field-ne2.n ≡ l.n + 1 = w.n-is in
-        (omega arith, omega (arith, v.1), omega (arith, v.2), omega (arith, v.3, e))
-    | else-field-ne2 w ↦
-        let e = count_off c.args.s.now c.args.p l.i l.at more (sym is ∙ w.if-field-ne2.false) in
-        let n : c.if-field-ne2.n ≡ l.n = w.n-is in
-        (omega arith, omega (arith, v.1), omega (arith, v.2), omega (arith, v.3, e))
+      | then-field-ne2 w ↦
+          let e = count_on c.args.s.now c.args.p l.i l.at more (λ d. w.if-field-ne2.true (is ∙ d)) in
+          let n : c.if-field-ne2.n ≡ l.n + 1 = w.n-is in
+          (omega arith, omega (arith, v.1), omega (arith, v.2), omega (arith, v.3, e))
+      | else-field-ne2 w ↦
+          let e = count_off c.args.s.now c.args.p l.i l.at more (sym is ∙ w.if-field-ne2.false) in
+          let n : c.if-field-ne2.n ≡ l.n = w.n-is in
+          (omega arith, omega (arith, v.1), omega (arith, v.2), omega (arith, v.3, e))
     ]
 
 pub returns : goal.returns

@@ -1,14 +1,9 @@
 -- `norm_kinds::count_stored` meets its contract. The loop's invariant: what is left to count makes the whole.
-use mathlib.Core.Path.{◌≡◌, refl, sym, ap, ◌∙◌}
-use mathlib.Core.Logic.{⊎_elim}
-use Prim.Native.Nat.{suc, ◌≤◌, ◌<◌, ◌+◌, ◌-◌, ◌*◌}
-use native.Mathlib.Nat.{sub-zero}
-use native.Mathlib.Omega.{arith}
-use borrow.Author.Rules.{rules}
+use mathlib.Core.Path.{◌≡◌}
+use Prim.Native.Nat.{◌≤◌, ◌+◌, ◌-◌, ◌*◌}
 use lib.ListN.{length}
 use Rattle.byte_words.specs.Stands.{stands}
 use Rattle.norm_kinds.specs.Kinds.{fielded_at, stored_of}
-use Rattle.norm_kinds.proofs.Labels.{count_end, count_on, count_off}
 use Rattle.norm_kinds.proofs.count_stored.Given as goal
 
 abbrev pub invariant-loop-i : goal.invariant-loop-i

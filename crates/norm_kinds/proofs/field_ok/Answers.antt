@@ -1,6 +1,4 @@
 -- `norm_kinds::field_ok` meets its contract.
-use mathlib.Core.Path.{◌≡◌, sym, ◌∙◌}
-use borrow.Author.Rules.{rules}
 use Rattle.num_whole.proofs.Cases.{yes, no, by_same}
 use Rattle.norm_kinds.specs.Kinds.{field_ok}
 use Rattle.norm_kinds.proofs.field_ok.Goals as goal

@@ -1,7 +1,6 @@
 -- `norm_kinds::is_small_form` meets its contract.
 use mathlib.Core.Path.{ap, ◌∙◌}
 use mathlib.Core.Bool.{not}
-use borrow.Author.Rules.{rules}
 use Rattle.num_whole.specs.Tests.{same}
 use Rattle.num_whole.proofs.Cases.{by_not_same}
 use Rattle.norm_kinds.specs.Kinds.{is_small_form}

@@ -2,7 +2,6 @@
 use mir.Syntax.{w64}
 use mir.ValLaws.{to_z-of_z}
 use Rattle.norm_kinds.specs.Kinds.{normal_label_at}
-use borrow.Author.Rules.{rules}
 use Rattle.norm_kinds.proofs.load_label.Goals as goal
 
 pub returns : goal.returns

@@ -4,7 +4,6 @@ use mathlib.Core.Path.{sym, ap, ◌∙◌}
 use Rattle.norm_system.specs.System.{arc_ok}
 use Rattle.norm_kinds.specs.Kinds.{arc_kind}
 use Rattle.norm_kinds.proofs.Floors.{floor_short, floor_limits, floor_order, floor_next}
-use borrow.Author.Rules.{rules}
 use Rattle.norm_kinds.proofs.read_arc.Goals as goal
 
 pub returns-then-left-lt4 : goal.returns-then-left-lt4

@@ -8,7 +8,6 @@ use Rattle.norm_system.proofs.Labels.{label_kind_lem}
 use Rattle.norm_kinds.proofs.Floors.{floor_short, floor_limits, floor_order, floor_next}
 use Rattle.norm_kinds.specs.Kinds.{fielded_at_ok, fielded_kind}
 use Rattle.norm_kinds.proofs.Labels.{field_off, field_on, fielded_is}
-use borrow.Author.Rules.{rules}
 use Rattle.norm_kinds.proofs.read_label.Lts
 use Rattle.norm_kinds.proofs.read_label.Reads
 use Rattle.norm_kinds.proofs.read_label.Tie

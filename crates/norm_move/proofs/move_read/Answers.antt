@@ -13,7 +13,6 @@ use Rattle.norm_gather.specs.Gather.{kept_seats, field_by_seat, heads_gathered, 
 use Rattle.norm_gather.proofs.Seated.{kept_few}
 use Rattle.norm_move.proofs.Gathered.{w, w_long, u, u_many, gathered}
 use Rattle.norm_move.proofs.Known.{Known, known, answer_short, left_short, answer_moved, left_moved, form_long, front_of}
-use borrow.Author.Rules.{rules}
 use Rattle.norm_move.proofs.move_read.Lts
 use Rattle.norm_move.proofs.move_read.Reads
 use Rattle.norm_move.proofs.move_read.Tie

@@ -1,6 +1,5 @@
 -- `norm_move::move_to` meets its contract: what was read is moved, and a refusal stands.
 use Rattle.norm_move.proofs.Known.{refused, answer_refused, left_refused}
-use borrow.Author.Rules.{rules}
 use Rattle.norm_move.proofs.move_to.Goals as goal
 
 pub move_read-requires : goal.move_read-requires

@@ -1,5 +1,4 @@
 -- `norm_put::put` meets its contract: the arcs, the labels and the sums, each section where the last one ends.
-use borrow.Author.Rules.{rules}
 use lib.Seq.{length-take-le}
 use native.Mathlib.Omega.{arith}
 use Rattle.byte_words.proofs.Stands.{length_stands}

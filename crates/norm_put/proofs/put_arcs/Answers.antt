@@ -1,14 +1,11 @@
-use borrow.Author.Rules.{rules}
-use mathlib.Core.Path.{◌≡◌, refl, sym, ap, ◌∙◌}
-use Prim.Native.Nat.{◌≤◌, ◌+◌, ◌-◌, ◌*◌}
+use mathlib.Core.Path.{refl, sym, ap, ◌∙◌}
+use Prim.Native.Nat.{◌-◌}
 use native.Mathlib.Omega.{arith}
-use lib.ListN.{length}
 use lib.Seq.{length-take-le}
 use Rattle.num_whole.specs.Lists.{rest}
 use Rattle.num_whole.proofs.Walks.{rest_end, rest_more}
 use Rattle.byte_words.specs.Words.{bytes_of, lay}
 use Rattle.byte_words.proofs.Words.{low, length_lay}
-use Rattle.byte_section.specs.Section.{encoded}
 use Rattle.byte_section.proofs.Laid.{laid_none, laid_one}
 use Rattle.norm_kinds.specs.Kinds.{arc_number_bytes}
 use Rattle.norm_kinds.proofs.Records.{length_arc}

@@ -1,5 +1,4 @@
 -- `norm_put::put_label` meets its contract: the name, then the estimate as its bits.
-use borrow.Author.Rules.{rules}
 use Prim.Native.Nat.{◌+◌}
 use Rattle.norm_put.proofs.Laid.{label_laid}
 use Rattle.norm_put.proofs.put_label.Goals as goal

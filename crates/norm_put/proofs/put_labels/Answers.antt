@@ -1,18 +1,12 @@
-use borrow.Author.Rules.{rules}
-use mathlib.Core.Path.{◌≡◌, refl, sym, ◌∙◌}
-use Prim.Native.Nat.{◌≤◌, ◌+◌, ◌-◌, ◌*◌}
+use mathlib.Core.Path.{refl, sym, ◌∙◌}
+use Prim.Native.Nat.{◌-◌}
 use native.Mathlib.Nat.{sub-zero}
 use native.Mathlib.Omega.{arith}
-use lib.ListN.{length}
-use Rattle.byte_words.specs.Words.{lay}
 use Rattle.byte_words.proofs.Words.{length_lay}
-use Rattle.byte_section.specs.Section.{encoded}
 use Rattle.byte_section.proofs.Laid.{laid_none, laid_one}
-use Rattle.byte_words.specs.Stands.{stands}
 use Rattle.byte_words.proofs.Stands.{length_stands, stands_done, stands_next}
 use Rattle.norm_kinds.specs.Kinds.{normal_label_bytes}
 use Rattle.norm_kinds.proofs.Records.{length_label}
-use Rattle.norm_room.specs.Room.{label_in_heads}
 use Rattle.norm_put.proofs.Laid.{section_laid}
 use Rattle.norm_put.proofs.put_labels.Goals as goal
 

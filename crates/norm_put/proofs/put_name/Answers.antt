@@ -1,5 +1,4 @@
 -- `norm_put::put_name` meets its contract: the five fields are laid one after the other.
-use borrow.Author.Rules.{rules}
 use Rattle.norm_put.proofs.Laid.{name_laid}
 use Rattle.norm_put.proofs.put_name.Goals as goal
 

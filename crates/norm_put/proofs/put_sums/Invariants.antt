@@ -1,22 +1,11 @@
 -- `norm_put::put_sums` meets its contract. The loop's invariant: the bytes of the sums left, laid at the place, make the whole.
-use borrow.Author.Rules.{rules}
-use mathlib.Core.Path.{◌≡◌, refl, sym, ◌∙◌}
+use mathlib.Core.Path.{◌≡◌}
 use Prim.Native.Nat.{◌≤◌, ◌+◌, ◌-◌, ◌*◌}
-use native.Mathlib.Omega.{arith}
-use lib.ListN.{length, get_or}
-use lib.Seq.{length-take-le}
+use lib.ListN.{length}
 use Rattle.num_whole.specs.Lists.{rest}
-use Rattle.num_whole.proofs.Walks.{rest_end, rest_more}
 use Rattle.byte_words.specs.Words.{lay}
-use Rattle.byte_words.proofs.Words.{length_lay}
 use Rattle.byte_section.specs.Section.{encoded}
-use Rattle.byte_section.proofs.Laid.{laid_none, laid_one}
-use lib.IntN.{pos}
-use mir.Syntax.{w64}
-use mir.ValLaws.{to_z-of_z}
 use Rattle.norm_kinds.specs.Kinds.{sum_bytes}
-use Rattle.norm_kinds.proofs.Records.{length_sum}
-use Rattle.norm_put.proofs.Laid.{section_laid}
 use Rattle.norm_put.proofs.put_sums.Given as goal
 
 abbrev pub invariant-loop-i : goal.invariant-loop-i

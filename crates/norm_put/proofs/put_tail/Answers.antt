@@ -1,5 +1,4 @@
 -- `norm_put::put_tail` meets its contract: each section is laid where the last one ends.
-use borrow.Author.Rules.{rules}
 use lib.Seq.{length-take-le}
 use Rattle.norm_put.proofs.Laid.{tail_laid}
 use Rattle.norm_put.proofs.put_tail.Goals as goal

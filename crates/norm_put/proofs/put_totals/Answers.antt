@@ -1,5 +1,4 @@
 -- `norm_put::put_totals` meets its contract: its count and the two totals are laid one after the other.
-use borrow.Author.Rules.{rules}
 use mathlib.Core.Path.{◌∙◌}
 use native.Mathlib.Omega.{arith}
 use Rattle.byte_words.proofs.Words.{lay_append, length_bytes_of}

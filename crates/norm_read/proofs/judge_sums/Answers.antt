@@ -4,7 +4,6 @@ use mathlib.Core.Path.{sym, ap, ◌∙◌}
 use Rattle.norm_totals.specs.Told.{told_where}
 use Rattle.norm_walk.proofs.Wheres.{inside_matrix, inside_rights}
 use Rattle.norm_read.specs.Parts.{shown_where, shown_sums}
-use borrow.Author.Rules.{rules}
 use Rattle.norm_read.proofs.judge_sums.Goals as goal
 
 pub overflow_mul-k : goal.overflow_mul-k

@@ -3,7 +3,6 @@ use mathlib.Core.Path.{sym, ap, ◌∙◌}
 use Rattle.norm_heads.specs.Heads.{told_heads}
 use Rattle.norm_heads.proofs.Heads.{few_counts}
 use Rattle.norm_read.proofs.Parts.{read_refused, read_rest}
-use borrow.Author.Rules.{rules}
 use Rattle.norm_read.proofs.read.Goals as goal
 
 pub read_rest-requires : goal.read_rest-requires

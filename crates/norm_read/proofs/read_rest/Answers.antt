@@ -3,7 +3,6 @@ use mathlib.Core.Path.{sym, ap, ◌∙◌}
 use Rattle.norm_read.specs.Parts.{shown_rest}
 use Rattle.norm_sections.specs.Sums.{told_sums}
 use Rattle.norm_sections.proofs.Plain.{sums_room}
-use borrow.Author.Rules.{rules}
 use Rattle.norm_read.proofs.read_rest.Goals as goal
 
 pub judge_sums-requires : goal.judge_sums-requires

@@ -2,7 +2,6 @@
 use mathlib.Core.Path.{sym, ◌∙◌}
 use Rattle.num_whole.proofs.Cases.{holds, fails}
 use Rattle.norm_room.specs.Room.{roomy_for}
-use borrow.Author.Rules.{rules}
 use Rattle.norm_room.proofs.is_roomy.Goals as goal
 
 pub returns-then-heads_roomy : goal.returns-then-heads_roomy

@@ -2,7 +2,6 @@
 use native.Mathlib.Omega.{arith}
 use Rattle.num_whole.proofs.Cases.{holds, fails, is_up_to, not_up_to, by_up_to}
 use Rattle.num_packed.specs.Room.{sums_roomy}
-use borrow.Author.Rules.{rules}
 use Rattle.norm_room.proofs.sums_roomy.Goals as goal
 
 pub returns-then-triangle-matrix : goal.returns-then-triangle-matrix

@@ -5,7 +5,6 @@ use native.Mathlib.Nat.{mul-le-mul}
 use Rattle.byte_section.proofs.Walk.{counted}
 use Rattle.byte_section.specs.Section.{told_count}
 use Rattle.norm_sections.proofs.Plain.{plain_refused, plain_short, plain_next}
-use borrow.Author.Rules.{rules}
 use Rattle.norm_sections.proofs.read_plain.Goals as goal
 
 pub overflow_add-start : goal.overflow_add-start

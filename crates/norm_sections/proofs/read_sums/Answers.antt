@@ -5,7 +5,6 @@ use Rattle.num_packed.specs.Triangle.{tri}
 use Rattle.byte_section.proofs.Walk.{then_good, then_bad}
 use Rattle.norm_sections.specs.Sums.{plain_part, sums_part, told_place}
 use Rattle.norm_sections.proofs.Plain.{plain_read}
-use borrow.Author.Rules.{rules}
 use Rattle.norm_sections.proofs.read_sums.Lts
 use Rattle.norm_sections.proofs.read_sums.Reads
 use Rattle.norm_sections.proofs.read_sums.Tie

@@ -6,7 +6,6 @@ use Rattle.byte_section.specs.Section.{closed}
 use Rattle.byte_section.proofs.Walk.{then_good, then_bad}
 use Rattle.norm_sections.specs.Sums.{totals_part, told_place}
 use Rattle.norm_sections.proofs.Plain.{plain_read}
-use borrow.Author.Rules.{rules}
 use Rattle.norm_sections.proofs.read_totals.Goals as goal
 
 pub overflow_add-result : goal.overflow_add-result

@@ -1,11 +1,8 @@
-use mathlib.Core.Path.{◌≡◌, refl, sym, ◌∙◌}
-use Prim.Native.Nat.{◌≤◌, ◌+◌, ◌-◌}
+use mathlib.Core.Path.{refl, sym, ◌∙◌}
+use Prim.Native.Nat.{◌-◌}
 use native.Mathlib.Omega.{arith}
-use borrow.Author.Rules.{rules}
 use lib.IntN.{pos}
-use lib.ListN.{length, length-set}
-use lib.Seq.{sets}
-use Rattle.norm_labels.specs.Table.{rows_of}
+use lib.ListN.{length-set}
 use Rattle.norm_spread.proofs.Rows.{rows_start, rows_end, rows_turn}
 use Rattle.norm_spread.proofs.clear.Goals as goal
 

@@ -1,13 +1,10 @@
 -- `norm_spread::clear` meets its contract. The loop's invariant: what is left to put makes the whole.
-use mathlib.Core.Path.{◌≡◌, refl, sym, ◌∙◌}
+use mathlib.Core.Path.{◌≡◌}
 use Prim.Native.Nat.{◌≤◌, ◌+◌, ◌-◌}
-use native.Mathlib.Omega.{arith}
-use borrow.Author.Rules.{rules}
 use lib.IntN.{pos}
-use lib.ListN.{length, length-set}
+use lib.ListN.{length}
 use lib.Seq.{sets}
 use Rattle.norm_labels.specs.Table.{rows_of}
-use Rattle.norm_spread.proofs.Rows.{rows_start, rows_end, rows_turn}
 use Rattle.norm_spread.proofs.clear.Given as goal
 
 abbrev pub invariant-loop-i : goal.invariant-loop-i

@@ -1,6 +1,5 @@
 -- `norm_spread::spread_column` meets its contract.
-use mathlib.Core.Path.{◌≡◌, refl, sym, ap, ◌∙◌}
-use borrow.Author.Rules.{rules}
+use mathlib.Core.Path.{◌∙◌}
 use Rattle.norm_spread.proofs.Rows.{zeros_are, sums_are}
 use Rattle.norm_spread.proofs.spread_column.Goals as goal
 

@@ -1,16 +1,11 @@
 -- `norm_spread::spread_matrix` meets its contract. The loop's invariant: what is left to put makes the whole.
-use mathlib.Core.Path.{◌≡◌, refl, sym, ap, ◌∙◌}
-use Prim.Native.Nat.{ℕ, ◌≤◌, ◌+◌, ◌*◌, ◌-◌}
-use native.Mathlib.Nat.{sub-zero, mul-le-mul}
-use native.Mathlib.Omega.{arith}
-use borrow.Author.Rules.{rules}
+use mathlib.Core.Path.{◌≡◌}
+use Prim.Native.Nat.{◌≤◌, ◌-◌}
 use lib.ListN.{length}
-use lib.Seq.{sets, length-sets}
+use lib.Seq.{sets}
 use Rattle.num_packed.specs.Triangle.{tri}
-use Rattle.num_packed.proofs.Places.{tri_next, tri_within, tri_twice}
-use Rattle.norm_labels.specs.Table.{rows_of, columns_of}
+use Rattle.norm_labels.specs.Table.{columns_of}
 use Rattle.norm_spread.specs.Spread.{stored_before, spread_column_at}
-use Rattle.norm_spread.proofs.Rows.{columns_done, columns_turn, before_start, column_is, one_more}
 use Rattle.norm_spread.proofs.spread_matrix.Given as goal
 
 abbrev pub invariant-loop-j : goal.invariant-loop-j

@@ -1,13 +1,13 @@
-use mathlib.Core.Path.{◌≡◌, refl, sym, ap, ◌∙◌}
-use Prim.Native.Nat.{◌≤◌, ◌+◌, ◌*◌, ◌-◌}
+use mathlib.Core.Path.{refl, sym, ap, ◌∙◌}
+use Prim.Native.Nat.{◌+◌, ◌-◌}
 use native.Mathlib.Omega.{arith}
 use borrow.Author.Rules.{rules}
-use lib.ListN.{length, set, length-set}
+use lib.ListN.{set, length-set}
 use lib.Seq.{sets}
 use mir.Syntax.{w64}
 use mir.ValLaws.{to_z-of_z}
 use Rattle.norm_labels.specs.Table.{rows_of}
-use Rattle.norm_spread.specs.Spread.{stored_before, spread_row_at}
+use Rattle.norm_spread.specs.Spread.{spread_row_at}
 use Rattle.norm_spread.proofs.Rows.{rows_start, rows_end, rows_turn, before_start, row_is, one_more}
 use Rattle.norm_spread.proofs.spread_row.Goals as goal
 

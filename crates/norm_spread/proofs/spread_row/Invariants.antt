@@ -1,15 +1,10 @@
 -- `norm_spread::spread_row` meets its contract. The loop's invariant: what is left to put makes the whole.
-use mathlib.Core.Path.{◌≡◌, refl, sym, ap, ◌∙◌}
+use mathlib.Core.Path.{◌≡◌}
 use Prim.Native.Nat.{◌≤◌, ◌+◌, ◌*◌, ◌-◌}
-use native.Mathlib.Omega.{arith}
-use borrow.Author.Rules.{rules}
-use lib.ListN.{length, set, length-set}
+use lib.ListN.{length}
 use lib.Seq.{sets}
-use mir.Syntax.{w64}
-use mir.ValLaws.{to_z-of_z}
 use Rattle.norm_labels.specs.Table.{rows_of}
 use Rattle.norm_spread.specs.Spread.{stored_before, spread_row_at}
-use Rattle.norm_spread.proofs.Rows.{rows_start, rows_end, rows_turn, before_start, row_is, one_more}
 use Rattle.norm_spread.proofs.spread_row.Given as goal
 
 abbrev pub invariant-loop-i : goal.invariant-loop-i

@@ -1,6 +1,5 @@
 -- `norm_spread::sum_for` meets its contract.
 use mathlib.Core.Path.{refl, ◌∙◌}
-use borrow.Author.Rules.{rules}
 use mir.Syntax.{w64}
 use mir.ValLaws.{to_z-of_z}
 use Rattle.num_whole.proofs.Cases.{yes, no, is_same, not_same}

@@ -4,7 +4,6 @@ use Rattle.refusal.specs.First.{answered}
 use Rattle.refusal.proofs.Firsts.{number_given}
 use Rattle.refusal.specs.Told.{told_verdict}
 use Rattle.norm_state.proofs.Numbers.{held_judged, held_state}
-use borrow.Author.Rules.{rules}
 use Rattle.norm_state.proofs.judge_held.Goals as goal
 
 pub returns-in-Refused : goal.returns-in-Refused

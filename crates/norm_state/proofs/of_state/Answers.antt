@@ -1,8 +1,7 @@
 -- `norm_state::of_state` meets its contract: the state is judged first, and the file is laid only where it is accepted.
-use borrow.Author.Rules.{rules}
 use mathlib.Core.Path.{◌≡◌, sym, ap, ◌∙◌}
 use native.Mathlib.Omega.{arith}
-use lib.ListN.{length, length-map}
+use lib.ListN.{length}
 use Rattle.num_whole.specs.Answer.{given}
 use Rattle.refusal.specs.Told.{told_verdict}
 use Rattle.take_state.specs.State.{State, state_of}

@@ -1,7 +1,5 @@
 -- `norm_state::put_file` meets its contract: each section is laid where the last one ends.
-use borrow.Author.Rules.{rules}
 use native.Mathlib.Omega.{arith}
-use lib.ListN.{length-map}
 use Rattle.take_state.specs.State.{state_of}
 use Rattle.norm_state.proofs.Laid.{arc_laid, state_laid}
 use Rattle.norm_state.proofs.put_file.Goals as goal

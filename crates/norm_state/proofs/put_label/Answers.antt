@@ -1,5 +1,4 @@
 -- `norm_state::put_label` meets its contract: the name, then the estimate.
-use borrow.Author.Rules.{rules}
 use mir.Syntax.{w64}
 use mir.ValLaws.{to_z-of_z}
 use Rattle.norm_state.proofs.Laid.{label_laid}

@@ -1,22 +1,13 @@
 -- `norm_state::put_labels` meets its contract. The loop's invariant: the bytes of the labels left, laid at the place, make the whole.
-use borrow.Author.Rules.{rules}
-use mathlib.Core.Path.{◌≡◌, refl, sym, ap, ◌∙◌}
+use mathlib.Core.Path.{◌≡◌}
 use mathlib.Core.List.{map}
 use Prim.Native.Nat.{◌≤◌, ◌+◌, ◌-◌, ◌*◌}
-use native.Mathlib.Omega.{arith}
-use lib.ListN.{length, length-map}
+use lib.ListN.{length}
 use Rattle.num_whole.specs.Lists.{rest}
-use Rattle.num_whole.proofs.Walks.{rest_end, rest_more}
 use Rattle.byte_words.specs.Words.{lay}
-use Rattle.byte_words.proofs.Words.{length_lay}
 use Rattle.byte_section.specs.Section.{encoded}
-use Rattle.byte_section.proofs.Laid.{laid_none, laid_one}
-use Rattle.arc_limits.specs.Limits.{no_label}
 use Rattle.arc_heading.specs.Judge.{labels_of}
 use Rattle.norm_kinds.specs.Kinds.{normal_label_bytes}
-use Rattle.norm_kinds.proofs.Records.{length_label}
-use Rattle.norm_put.proofs.Laid.{section_laid}
-use Rattle.norm_state.proofs.Laid.{labels_long}
 use Rattle.norm_state.specs.OfState.{label_of_arc}
 use Rattle.norm_state.proofs.put_labels.Given as goal
 

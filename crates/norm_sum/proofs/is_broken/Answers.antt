@@ -11,7 +11,6 @@ use Rattle.num_packed.specs.Sound.{entry, is_zero}
 use Rattle.num_packed.proofs.Places.{tri_next, tri_within}
 use Rattle.norm_sum.specs.Sums.{sums_at, past}
 use Rattle.norm_sum.proofs.Entries.{entry_read, entry_past, entry_diagonal, entry_zero, entry_row, entry_column, form_broken, form_diagonal, form_beside}
-use borrow.Author.Rules.{rules}
 use Rattle.norm_sum.proofs.is_broken.Lts
 use Rattle.norm_sum.proofs.is_broken.Reads
 use Rattle.norm_sum.proofs.is_broken.Tie

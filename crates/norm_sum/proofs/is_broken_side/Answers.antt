@@ -11,7 +11,6 @@ use Rattle.num_packed.specs.Sound.{is_zero}
 use Rattle.num_packed.proofs.Places.{tri_next}
 use Rattle.norm_sum.specs.Sums.{sums_at, past}
 use Rattle.norm_sum.proofs.Entries.{sum_read, entry_read, side_past, side_zero, side_diagonal}
-use borrow.Author.Rules.{rules}
 use Rattle.norm_sum.proofs.is_broken_side.Lts
 use Rattle.norm_sum.proofs.is_broken_side.Reads
 use Rattle.norm_sum.proofs.is_broken_side.Tie

@@ -11,10 +11,8 @@ use mir.Val.{SFits, to_z, of_z}
 use mir.ValLaws.{to_z-of_z}
 use Rattle.num_packed.proofs.Tests.{neg_fits, lower, lower_back, test_of, chosen, other}
 use Rattle.norm_sum.specs.Sums.{past}
-use borrow.Author.Rules.{rules}
 use Rattle.norm_sum.proofs.is_past.Lts
 use Rattle.norm_sum.proofs.is_past.Reads
-use Rattle.norm_sum.proofs.is_past.Tie
 use Rattle.norm_sum.proofs.is_past.Goals as goal
 
 -- the facts known at one place of the code

@@ -4,7 +4,6 @@ use mathlib.Core.Path.{ap, ◌∙◌}
 use Rattle.num_packed.specs.Sound.{is_zero}
 use Rattle.num_packed.proofs.Places.{tri_next}
 use Rattle.norm_sum.proofs.Entries.{entry_read}
-use borrow.Author.Rules.{rules}
 use Rattle.norm_sum.proofs.is_silent_at.Goals as goal
 
 pub sum_at-requires : goal.sum_at-requires

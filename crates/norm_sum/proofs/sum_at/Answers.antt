@@ -5,7 +5,6 @@ use mir.Syntax.{w64}
 use mir.ValLaws.{to_z-of_z}
 use Rattle.byte_words.specs.Words.{signed_word}
 use Rattle.byte_words.proofs.Stands.{stands_at}
-use borrow.Author.Rules.{rules}
 use Rattle.norm_sum.proofs.sum_at.Goals as goal
 
 pub returns : goal.returns

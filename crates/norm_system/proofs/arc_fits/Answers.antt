@@ -2,7 +2,6 @@
 use native.Mathlib.Omega.{arith}
 use Rattle.num_whole.proofs.Cases.{yes, no, is_up_to, not_up_to, by_same}
 use Rattle.norm_system.specs.System.{arc_listed}
-use borrow.Author.Rules.{rules}
 use Rattle.norm_system.proofs.arc_fits.Goals as goal
 
 pub returns-then-l-gt2 : goal.returns-then-l-gt2

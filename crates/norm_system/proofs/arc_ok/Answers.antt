@@ -1,6 +1,5 @@
 -- `norm_system::arc_ok` meets its contract.
 use Rattle.norm_system.specs.System.{arc_ok}
-use borrow.Author.Rules.{rules}
 use Rattle.norm_system.proofs.arc_ok.Goals as goal
 
 pub returns : goal.returns

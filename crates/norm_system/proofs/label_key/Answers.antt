@@ -2,7 +2,6 @@
 use native.Mathlib.Omega.{arith}
 use mathlib.Core.Path.{refl}
 use Rattle.norm_system.specs.System.{key_of}
-use borrow.Author.Rules.{rules}
 use Rattle.norm_system.proofs.label_key.Goals as goal
 
 pub returns : goal.returns

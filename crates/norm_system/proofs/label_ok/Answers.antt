@@ -3,7 +3,6 @@ use mathlib.Core.Path.{sym, ◌∙◌}
 use native.Mathlib.Omega.{arith}
 use Rattle.num_whole.proofs.Cases.{holds, fails, is_up_to, not_up_to}
 use Rattle.norm_system.specs.System.{normal_label_ok}
-use borrow.Author.Rules.{rules}
 use Rattle.norm_system.proofs.label_ok.Goals as goal
 
 pub returns-then-l-gt-WEIGHT_MOST : goal.returns-then-l-gt-WEIGHT_MOST

@@ -3,7 +3,6 @@ use native.Mathlib.Omega.{arith}
 use mathlib.Core.Path.{refl}
 use Rattle.num_whole.proofs.Cases.{yes, no, is_less, not_less}
 use Rattle.norm_system.specs.System.{totals_where}
-use borrow.Author.Rules.{rules}
 use Rattle.norm_totals.proofs.judge_totals.Goals as goal
 
 pub returns-then-arcs-accepted : goal.returns-then-arcs-accepted

@@ -1,12 +1,8 @@
-use mathlib.Core.Path.{◌≡◌, refl, sym, ◌∙◌}
-use Prim.Native.Nat.{◌≤◌, ◌+◌, ◌*◌, ◌-◌}
+use mathlib.Core.Path.{refl, sym, ◌∙◌}
+use Prim.Native.Nat.{◌-◌}
 use native.Mathlib.Nat.{sub-zero}
 use native.Mathlib.Omega.{arith}
-use borrow.Author.Rules.{rules}
-use lib.ListN.{length}
-use Rattle.byte_words.specs.Words.{lay}
 use Rattle.byte_words.proofs.Words.{length_lay}
-use Rattle.norm_unpack.specs.Parts.{label_numbers_from}
 use Rattle.norm_unpack.proofs.Laid.{labels_end, labels_turn}
 use Rattle.norm_unpack.proofs.fill_labels.Goals as goal
 

@@ -1,14 +1,9 @@
 -- `norm_unpack::fill_labels` meets its contract. The loop's invariant: what is left to put makes the whole.
-use mathlib.Core.Path.{◌≡◌, refl, sym, ◌∙◌}
+use mathlib.Core.Path.{◌≡◌}
 use Prim.Native.Nat.{◌≤◌, ◌+◌, ◌*◌, ◌-◌}
-use native.Mathlib.Nat.{sub-zero}
-use native.Mathlib.Omega.{arith}
-use borrow.Author.Rules.{rules}
 use lib.ListN.{length}
 use Rattle.byte_words.specs.Words.{lay}
-use Rattle.byte_words.proofs.Words.{length_lay}
 use Rattle.norm_unpack.specs.Parts.{label_numbers_from}
-use Rattle.norm_unpack.proofs.Laid.{labels_end, labels_turn}
 use Rattle.norm_unpack.proofs.fill_labels.Given as goal
 
 abbrev pub invariant-loop-i : goal.invariant-loop-i

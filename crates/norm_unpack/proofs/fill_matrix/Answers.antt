@@ -1,7 +1,6 @@
 -- `norm_unpack::fill_matrix` meets its contract, in each form.
-use mathlib.Core.Path.{sym, ap, refl, ◌∙◌}
+use mathlib.Core.Path.{ap, refl, ◌∙◌}
 use native.Mathlib.Omega.{arith}
-use borrow.Author.Rules.{rules}
 use lib.Seq.{sets}
 use Rattle.num_whole.proofs.Cases.{yes, no}
 use Rattle.norm_sum.specs.Sums.{sums_at}

@@ -1,10 +1,7 @@
 -- `norm_unpack::fill_rights` meets its contract, in each form.
-use mathlib.Core.Path.{sym, ap, refl, ◌∙◌}
-use native.Mathlib.Omega.{arith}
-use borrow.Author.Rules.{rules}
+use mathlib.Core.Path.{ap, refl, ◌∙◌}
 use lib.Seq.{sets}
 use Rattle.num_whole.proofs.Cases.{yes, no}
-use Rattle.norm_sum.specs.Sums.{sums_at}
 use Rattle.norm_unpack.proofs.fill_rights.Goals as goal
 
 pub fill_sums-requires : goal.fill_sums-requires

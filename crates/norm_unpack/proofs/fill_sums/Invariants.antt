@@ -1,16 +1,9 @@
 -- `norm_unpack::fill_sums` meets its contract. The loop's invariant: what is left to put makes the whole.
-use mathlib.Core.Path.{◌≡◌, refl, sym, ap, ◌∙◌}
+use mathlib.Core.Path.{◌≡◌}
 use Prim.Native.Nat.{◌≤◌, ◌+◌, ◌*◌, ◌-◌}
-use native.Mathlib.Nat.{sub-zero}
-use native.Mathlib.Omega.{arith}
-use borrow.Author.Rules.{rules}
-use lib.ListN.{length, set, length-set}
+use lib.ListN.{length}
 use lib.Seq.{sets}
-use mir.Syntax.{w64}
-use mir.ValLaws.{to_z-of_z}
-use Rattle.byte_words.specs.Words.{signed_word}
 use Rattle.norm_sum.specs.Sums.{sums_at}
-use Rattle.byte_words.proofs.Stands.{put_end, put_turn}
 use Rattle.norm_unpack.proofs.fill_sums.Given as goal
 
 abbrev pub invariant-loop-i : goal.invariant-loop-i

@@ -4,7 +4,6 @@ use Rattle.norm_read.specs.Normal.{shown_normal}
 use Rattle.norm_room.specs.Room.{heads_of}
 use Rattle.norm_unpack.specs.Unpack.{matrix_of, rights_of}
 use Rattle.norm_unpack.proofs.Taken.{taken, refused, unpack_refused, left_refused}
-use borrow.Author.Rules.{rules}
 use Rattle.norm_unpack.proofs.unpack.Goals as goal
 
 pub unpack_read-requires : goal.unpack_read-requires

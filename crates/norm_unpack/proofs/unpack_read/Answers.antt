@@ -7,7 +7,6 @@ use Rattle.norm_room.specs.Room.{heads_of}
 use Rattle.norm_unpack.specs.Unpack.{filled, matrix_of, rights_of}
 use Rattle.norm_unpack.proofs.Laid.{Roomy, roomy}
 use Rattle.norm_unpack.proofs.Taken.{Known, known, unpack_good, unpack_bad, told_good, heads_left, matrix_left, rights_left, left_refused}
-use borrow.Author.Rules.{rules}
 use Rattle.norm_unpack.proofs.unpack_read.Lts
 use Rattle.norm_unpack.proofs.unpack_read.Reads
 use Rattle.norm_unpack.proofs.unpack_read.Tie

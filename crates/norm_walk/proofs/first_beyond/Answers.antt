@@ -2,7 +2,6 @@
 use mathlib.Core.Path.{sym, ap, ◌∙◌}
 use Rattle.norm_walk.proofs.Wheres.{beyond_right, beyond_totals}
 use Rattle.num_packed.specs.Found.{told_walked}
-use borrow.Author.Rules.{rules}
 use Rattle.norm_walk.proofs.first_beyond.Goals as goal
 
 pub returns-in-Unsound : goal.returns-in-Unsound

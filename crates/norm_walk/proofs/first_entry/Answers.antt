@@ -2,20 +2,14 @@ use borrow.Author.Rules.{rules}
 use native.Mathlib.Omega.{arith}
 use mathlib.Core.Path.{◌≡◌, refl, ap, sym, ◌∙◌}
 use mathlib.Core.Bool.{Bool}
-use mathlib.Core.List.{List}
-use Prim.Native.Nat.{ℕ, ◌+◌, ◌-◌, ◌≤◌}
+use Prim.Native.Nat.{◌+◌, ◌-◌}
 use native.Mathlib.Nat.{sub-zero}
-use lib.IntN.{pos}
 use mir.Syntax.{w64}
 use mir.ValLaws.{to_z-of_z}
-use Rattle.num_packed.specs.Triangle.{tri}
-use Rattle.norm_system.specs.System.{breaks_in}
-use Rattle.num_packed.specs.declared.Walked.TheVariants.{Sound}
 use Rattle.num_packed.proofs.Places.{tri_next, tri_within}
-use Rattle.num_packed.specs.Found.{Found, at, first_from, columns_from, told_walked}
+use Rattle.num_packed.specs.Found.{at, told_walked}
 use Rattle.num_packed.proofs.Found.{first_end, first_here, first_on, columns_end, columns_here, columns_on}
-use Rattle.norm_sum.specs.Sums.{sums_at}
-use Rattle.norm_walk.proofs.first_entry.Invariants.{column, entries}
+use Rattle.norm_walk.proofs.first_entry.Invariants.{entries}
 use Rattle.norm_walk.proofs.first_entry.Lts
 use Rattle.norm_walk.proofs.first_entry.Reads
 use Rattle.norm_walk.proofs.first_entry.Tie

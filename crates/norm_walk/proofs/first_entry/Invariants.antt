@@ -1,21 +1,14 @@
 -- `norm_walk::first_entry` meets its contract. The loops' invariants: the first of the columns left is the first of all, and the first of
 -- the rows left is the first of the column; the loops are left at the first entry that breaks.
-use borrow.Author.Rules.{rules}
-use native.Mathlib.Omega.{arith}
-use mathlib.Core.Path.{◌≡◌, refl, ap, sym, ◌∙◌}
+use mathlib.Core.Path.{◌≡◌}
 use mathlib.Core.Bool.{Bool}
 use mathlib.Core.List.{List}
 use Prim.Native.Nat.{ℕ, ◌+◌, ◌-◌, ◌≤◌}
-use native.Mathlib.Nat.{sub-zero}
 use lib.IntN.{pos}
-use mir.Syntax.{w64}
-use mir.ValLaws.{to_z-of_z}
 use Rattle.num_packed.specs.Triangle.{tri}
 use Rattle.norm_system.specs.System.{breaks_in}
 use Rattle.num_packed.specs.declared.Walked.TheVariants.{Sound}
-use Rattle.num_packed.proofs.Places.{tri_next, tri_within}
-use Rattle.num_packed.specs.Found.{Found, at, first_from, columns_from, told_walked}
-use Rattle.num_packed.proofs.Found.{first_end, first_here, first_on, columns_end, columns_here, columns_on}
+use Rattle.num_packed.specs.Found.{Found, first_from, columns_from}
 use Rattle.norm_sum.specs.Sums.{sums_at}
 use Rattle.norm_walk.proofs.first_entry.Given as goal
 

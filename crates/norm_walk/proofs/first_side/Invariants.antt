@@ -1,17 +1,12 @@
 -- `norm_walk::first_side` meets its contract. The loop's invariant: the first of those left is the first of all.
-use borrow.Author.Rules.{rules}
-use native.Mathlib.Omega.{arith}
-use mathlib.Core.Path.{◌≡◌, sym, ◌∙◌}
+use mathlib.Core.Path.{◌≡◌}
 use mathlib.Core.Bool.{Bool}
 use mathlib.Core.List.{List}
 use Prim.Native.Nat.{ℕ, ◌-◌, ◌≤◌}
-use native.Mathlib.Nat.{sub-zero}
 use lib.IntN.{pos}
 use Rattle.num_packed.specs.Triangle.{tri}
 use Rattle.num_packed.specs.Sound.{breaks_side}
-use Rattle.num_packed.proofs.Places.{tri_next, tri_within}
 use Rattle.num_packed.specs.Found.{first_from}
-use Rattle.num_packed.proofs.Found.{first_end, first_here, first_on}
 use Rattle.norm_sum.specs.Sums.{sums_at}
 use Rattle.norm_walk.proofs.first_side.Given as goal
 

@@ -2,7 +2,6 @@
 use mathlib.Core.Path.{sym, ap, ◌∙◌}
 use Rattle.norm_walk.proofs.Wheres.{unsound_matrix, unsound_beyond}
 use Rattle.num_packed.specs.Found.{told_walked}
-use borrow.Author.Rules.{rules}
 use Rattle.norm_walk.proofs.first_unsound.Goals as goal
 
 pub returns-in-Unsound : goal.returns-in-Unsound

@@ -1,5 +1,4 @@
 -- `norm_write::write` meets its contract: the system is judged first, and the file is laid only where it is accepted.
-use borrow.Author.Rules.{rules}
 use Prim.Native.Nat.{ℕ}
 use mathlib.Core.List.{List}
 use mathlib.Core.Path.{◌≡◌, sym, ap, ◌∙◌}

@@ -1,15 +1,9 @@
 -- `num_packed::all_seen` meets its contract. The loop's invariant: each diagonal before the ith is above 0.
-use mathlib.Core.Path.{◌≡◌, sym, ◌∙◌, subst}
-use mathlib.Core.Bool.{true, false}
+use mathlib.Core.Path.{◌≡◌}
+use mathlib.Core.Bool.{true}
 use Prim.Native.Nat.{◌≤◌, ◌-◌}
-use native.Mathlib.Omega.{arith}
-use native.Mathlib.Nat.{le_antisymm}
-use borrow.Author.Rules.{rules}
 use Rattle.num_whole.specs.Tests.{below}
-use Rattle.num_whole.proofs.Tables.{below_fails}
 use Rattle.num_packed.specs.Plain.{seen_at}
-use Rattle.num_packed.proofs.Plain.{none_yet, one_more}
-use Rattle.num_packed.proofs.Places.{tri_next, tri_within}
 use Rattle.num_packed.proofs.all_seen.Given as goal
 
 abbrev pub invariant-loop-i : goal.invariant-loop-i

@@ -1,16 +1,8 @@
 -- `num_packed::first_broken_side` meets its contract. The loop's invariant: the first of those left is the first of all.
-use mathlib.Core.Path.{◌≡◌, sym, ap, ◌∙◌}
+use mathlib.Core.Path.{◌≡◌}
 use Prim.Native.Nat.{◌≤◌, ◌-◌}
-use native.Mathlib.Nat.{sub-zero}
-use native.Mathlib.Omega.{arith}
-use borrow.Author.Rules.{rules}
-use mir.Syntax.{w64}
-use mir.Val.{to_z, of_z}
-use mir.ValLaws.{to_z-of_z}
 use Rattle.num_packed.specs.Sound.{breaks_side}
 use Rattle.num_packed.specs.Found.{first_from}
-use Rattle.num_packed.proofs.Places.{tri_next, tri_within}
-use Rattle.num_packed.proofs.Found.{first_end, first_here, first_on}
 use Rattle.num_packed.proofs.first_broken_side.Given as goal
 
 abbrev pub invariant-loop-i : goal.invariant-loop-i

@@ -1,8 +1,6 @@
 -- `num_packed::first_unsound` meets its contract: where the bounds alone judge, the walk would find nothing.
 use mathlib.Core.Path.{◌≡◌, sym, ap, ◌∙◌, subst}
 use mathlib.Core.Bool.{true}
-use Prim.Native.Nat.{◌≤◌}
-use borrow.Author.Rules.{rules}
 use mir.Syntax.{w64}
 use mir.ValLaws.{to_z-of_z}
 use Rattle.num_whole.specs.Tests.{below}

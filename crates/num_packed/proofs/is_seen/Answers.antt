@@ -1,11 +1,10 @@
 -- `num_packed::is_seen` meets its contract.
-use mathlib.Core.Path.{◌≡◌, ap, ap₂, ◌∙◌}
+use mathlib.Core.Path.{ap, ◌∙◌}
 use native.Mathlib.Omega.{arith}
-use lib.IntN.{ℤ, pos}
+use lib.IntN.{pos}
 use lib.Signed.{lt_z}
 use lib.ListN.{get_or}
 use mir.Syntax.{w64}
-use mir.Val.{to_z, of_z}
 use mir.ValLaws.{to_z-of_z}
 use borrow.Author.Rules.{rules}
 use Rattle.num_packed.specs.Plain.{seen_at}

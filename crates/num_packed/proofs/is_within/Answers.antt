@@ -1,7 +1,7 @@
 -- `num_packed::is_within` meets its contract.
-use mathlib.Core.Path.{◌≡◌, sym, ap, ap₂, ◌∙◌}
-use mathlib.Core.Bool.{Bool, true, false, not}
-use lib.IntN.{ℤ, pos, neg_ℤ, ◌-ℤ◌}
+use mathlib.Core.Path.{◌≡◌, sym, ap₂, ◌∙◌}
+use mathlib.Core.Bool.{Bool, true, false}
+use lib.IntN.{ℤ, pos, neg_ℤ}
 use lib.Signed.{lt_z, le_z}
 use lib.ListN.{get_or}
 use mir.Syntax.{w64}

@@ -1,12 +1,10 @@
 -- `num_packed::triangle` meets its contract.
-use borrow.Author.Rules.{rules}
 use native.Mathlib.Omega.{arith}
 use native.Mathlib.Nat.{mul-le-mul}
 use Prim.Native.Nat.{◌+◌, ◌*◌, ◌≤◌}
 use Rattle.num_packed.proofs.Places.{tri_twice}
 use Rattle.num_packed.proofs.triangle.Lts
 use Rattle.num_packed.proofs.triangle.Reads
-use Rattle.num_packed.proofs.triangle.Tie
 use Rattle.num_packed.proofs.triangle.Goals as goal
 
 -- the facts known at one place of the code

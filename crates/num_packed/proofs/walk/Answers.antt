@@ -1,19 +1,14 @@
 use mathlib.Core.Path.{◌≡◌, refl, sym, ap, ◌∙◌}
-use mathlib.Core.Bool.{Bool}
-use mathlib.Core.List.{List}
-use Prim.Native.Nat.{ℕ, ◌≤◌, ◌+◌, ◌-◌}
+use Prim.Native.Nat.{◌-◌}
 use native.Mathlib.Nat.{sub-zero}
 use native.Mathlib.Omega.{arith}
-use lib.IntN.{ℤ}
 use mir.Syntax.{w64}
 use mir.Val.{to_z, of_z}
 use mir.ValLaws.{to_z-of_z}
-use Rattle.num_packed.specs.declared.Walked.TheVariants.{Sound}
 use Rattle.num_packed.specs.Sound.{breaks}
-use Rattle.num_packed.specs.Found.{Found, at, first_from, columns_from, told_walked}
+use Rattle.num_packed.specs.Found.{at, columns_from, told_walked}
 use Rattle.num_packed.proofs.Places.{tri_next, tri_within}
 use Rattle.num_packed.proofs.Found.{first_end, first_here, first_on, columns_end, columns_here, columns_on}
-use Rattle.num_packed.proofs.walk.Invariants.{column}
 use Rattle.num_packed.proofs.walk.Lts
 use Rattle.num_packed.proofs.walk.Reads
 use Rattle.num_packed.proofs.walk.Tie

@@ -1,20 +1,12 @@
 -- `num_packed::walk` meets its contract. The loops' invariants: the first of the columns left is the first of all, and the first of the rows
 -- left is the first of the column; the loops are left at the first entry that breaks.
-use mathlib.Core.Path.{◌≡◌, refl, sym, ap, ◌∙◌}
-use mathlib.Core.Bool.{Bool}
+use mathlib.Core.Path.{◌≡◌}
 use mathlib.Core.List.{List}
 use Prim.Native.Nat.{ℕ, ◌≤◌, ◌+◌, ◌-◌}
-use native.Mathlib.Nat.{sub-zero}
-use native.Mathlib.Omega.{arith}
 use lib.IntN.{ℤ}
-use mir.Syntax.{w64}
-use mir.Val.{to_z, of_z}
-use mir.ValLaws.{to_z-of_z}
 use Rattle.num_packed.specs.declared.Walked.TheVariants.{Sound}
 use Rattle.num_packed.specs.Sound.{breaks}
-use Rattle.num_packed.specs.Found.{Found, at, first_from, columns_from, told_walked}
-use Rattle.num_packed.proofs.Places.{tri_next, tri_within}
-use Rattle.num_packed.proofs.Found.{first_end, first_here, first_on, columns_end, columns_here, columns_on}
+use Rattle.num_packed.specs.Found.{Found, first_from, columns_from}
 use Rattle.num_packed.proofs.walk.Given as goal
 
 -- the walk over a column from row i on, n rows

@@ -1,5 +1,4 @@
 -- `num_signs::signed32` meets its contract: the bits turned over twice are the bits.
-use borrow.Author.Rules.{rules}
 use native.Mathlib.Omega.{arith}
 use mathlib.Core.Path.{◌≡◌, ap}
 use Prim.Native.Nat.{◌-◌}

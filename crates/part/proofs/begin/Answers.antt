@@ -4,13 +4,11 @@ use Prim.Native.Nat.{◌≤◌}
 use mathlib.Core.Path.{◌≡◌, refl, sym, ap, ◌∙◌, subst}
 use mathlib.Core.Bool.{true}
 use lib.ListN.{length}
-use Rattle.num_packed.specs.Triangle.{tri}
 use Rattle.take_room.specs.Room.{cleared}
 use Rattle.take_state.specs.State.{state_of}
 use Rattle.part_laws.specs.OneGo.{emptied}
 use Rattle.num_packed.specs.Room.{sums_roomy}
 use Rattle.part.proofs.Stops.{room_asked, room_given, begins, begins_not}
-use borrow.Author.Rules.{rules}
 use Rattle.part.proofs.begin.Lts
 use Rattle.part.proofs.begin.Reads
 use Rattle.part.proofs.begin.Tie

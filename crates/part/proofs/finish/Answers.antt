@@ -1,7 +1,6 @@
 -- `part::finish` meets its contract: 28, 6, or what the reading says.
-use mathlib.Core.Path.{◌≡◌, sym, ◌∙◌}
+use mathlib.Core.Path.{sym, ◌∙◌}
 use Rattle.part.proofs.Stops.{end_over, end_unsound, end_told}
-use borrow.Author.Rules.{rules}
 use Rattle.part.proofs.finish.Goals as goal
 
 pub returns-then-p : goal.returns-then-p

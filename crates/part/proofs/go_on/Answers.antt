@@ -3,11 +3,9 @@ use native.Mathlib.Omega.{arith}
 use Prim.Native.Nat.{◌+◌}
 use mathlib.Core.Path.{◌≡◌, sym, ap, ◌∙◌}
 use mathlib.Core.List.{◌++◌}
-use lib.ListN.{length, length-map}
+use lib.ListN.{length}
 use Rattle.num_whole.specs.Answer.{good, bad}
-use Rattle.refusal.specs.Number.{number_of}
 use Rattle.byte_words.specs.Words.{lay}
-use Rattle.arc_read.specs.Arc.{Arc}
 use Rattle.take_state.specs.State.{state_of}
 use Rattle.take_laws.specs.Machine.{run, answers}
 use Rattle.take_laws.specs.Taking.{frame_of, record_answer, record_step}
@@ -18,7 +16,6 @@ use Rattle.part_laws.proofs.Cuts.{heading_good}
 use Rattle.part_open.proofs.Said.{opening_read, opening_refused}
 use Rattle.part.proofs.Stops.{fine}
 use Rattle.part.proofs.Goes.{front_begins, went, sound_there, few_taken, ready, start_low, inside, before}
-use borrow.Author.Rules.{rules}
 use Rattle.part.proofs.go_on.Lts
 use Rattle.part.proofs.go_on.Reads
 use Rattle.part.proofs.go_on.Tie

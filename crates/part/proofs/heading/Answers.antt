@@ -1,8 +1,7 @@
 -- `part::heading` meets its contract: 6, 1, or the heading.
-use mathlib.Core.Path.{◌≡◌, sym, ◌∙◌}
+use mathlib.Core.Path.{sym, ◌∙◌}
 use Rattle.part_open.proofs.Said.{opening_read, opening_refused}
 use Rattle.part.proofs.Stops.{headed, headed_not}
-use borrow.Author.Rules.{rules}
 use Rattle.part.proofs.heading.Goals as goal
 
 pub returns-in-Read : goal.returns-in-Read

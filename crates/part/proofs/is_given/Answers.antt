@@ -1,7 +1,7 @@
 -- `part::is_given` meets its contract: the position, then the state at it.
 use native.Mathlib.Omega.{arith}
 use Prim.Native.Nat.{◌≤◌}
-use mathlib.Core.Path.{◌≡◌, sym, ap₂, ◌∙◌, subst}
+use mathlib.Core.Path.{sym, ap₂, ◌∙◌, subst}
 use lib.ListN.{length}
 use Rattle.num_whole.proofs.Cases.{holds, fails}
 use Rattle.num_packed.specs.Triangle.{tri}
@@ -9,7 +9,6 @@ use Rattle.take_state.specs.State.{state_of}
 use Rattle.part_laws.specs.Entries.{position_of, sound_by, sound_at}
 use Rattle.part_laws.proofs.States.{parameters_most_lem}
 use Rattle.part.proofs.Goes.{opened_roomy}
-use borrow.Author.Rules.{rules}
 use Rattle.part.proofs.is_given.Goals as goal
 
 pub is_sound_at-requires : goal.is_sound_at-requires

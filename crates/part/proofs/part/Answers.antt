@@ -16,7 +16,6 @@ use Rattle.part_open.specs.Told.{told_opening}
 use Rattle.part_place.specs.Looks.{completed_by}
 use Rattle.part.proofs.Stops.{room_asked, room_given, stop_over, stop_room, stop_answers, stop_unsound, goes}
 use Rattle.part.proofs.Goes.{completed_is, front_room, front_fits, front_opens, all_long}
-use borrow.Author.Rules.{rules}
 use Rattle.part.proofs.part.Lts
 use Rattle.part.proofs.part.Reads
 use Rattle.part.proofs.part.Tie

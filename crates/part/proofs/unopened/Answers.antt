@@ -8,7 +8,6 @@ use Rattle.arc_read.specs.Arc.{Arc}
 use Rattle.part_laws.specs.Feeding.{so_far}
 use Rattle.part_laws.specs.Entries.{told_form}
 use Rattle.part.specs.Going.{grown}
-use borrow.Author.Rules.{rules}
 use Rattle.part.proofs.unopened.Goals as goal
 
 pub returns-then-number-eq1 : goal.returns-then-number-eq1

@@ -5,7 +5,6 @@ use Rattle.byte_section.specs.Section.{and_then, told_count}
 use Rattle.arc_front.proofs.Front.{heading_read, heading_refused}
 use Rattle.part_open.specs.Told.{told_opening}
 use Rattle.part_open.proofs.Opens.{opens, opens_not, heading_not, count_room, count_most_lem}
-use borrow.Author.Rules.{rules}
 use Rattle.part_open.proofs.open.Goals as goal
 
 pub overflow_add-result : goal.overflow_add-result

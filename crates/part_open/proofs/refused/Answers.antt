@@ -3,7 +3,6 @@ use mathlib.Core.Path.{refl, ap}
 use native.Mathlib.Omega.{arith}
 use Rattle.byte_section.specs.Section.{and_then}
 use Rattle.part_open.specs.Told.{told_opening}
-use borrow.Author.Rules.{rules}
 use Rattle.part_open.proofs.refused.Goals as goal
 
 pub returns : goal.returns

@@ -1,10 +1,8 @@
 -- `part_place::completed` meets its contract.
-use mathlib.Core.Path.{◌≡◌, sym, ap, ap₂, ◌∙◌}
+use mathlib.Core.Path.{sym, ap, ap₂, ◌∙◌}
 use Prim.Native.Nat.{◌+◌, ◌*◌, ◌/◌, min}
 use Rattle.part_open.proofs.Said.{opening_read, opening_refused}
-use Rattle.part_laws.specs.Beginning.{size_of}
 use Rattle.part_place.specs.Looks.{completed_by}
-use borrow.Author.Rules.{rules}
 use Rattle.part_place.proofs.completed.Goals as goal
 
 pub returns-in-Read : goal.returns-in-Read

@@ -2,13 +2,12 @@
 use native.Mathlib.Omega.{arith}
 use Prim.Native.Nat.{◌+◌, ◌*◌, ◌≤◌}
 use mathlib.Core.Path.{◌≡◌, sym, ◌∙◌}
-use lib.ListN.{length, length-map}
+use lib.ListN.{length}
 use Rattle.num_whole.specs.Answer.{good}
 use Rattle.part_laws.specs.Beginning.{opened}
 use Rattle.part_laws.specs.Entries.{position_of}
 use Rattle.part_open.proofs.Said.{opening_read, opening_refused}
 use Rattle.part_place.proofs.Ends.{small, fits, few, ends_short, ends_all, ends_before}
-use borrow.Author.Rules.{rules}
 use Rattle.part_place.proofs.end_of.Lts
 use Rattle.part_place.proofs.end_of.Reads
 use Rattle.part_place.proofs.end_of.Tie

@@ -1,8 +1,6 @@
 -- `part_place::first_only` meets its contract.
 use native.Mathlib.Omega.{arith}
-use mathlib.Core.Path.{sym, ◌∙◌}
 use Rattle.num_whole.proofs.Cases.{holds, fails, is_same, not_same, by_same}
-use borrow.Author.Rules.{rules}
 use Rattle.part_place.proofs.first_only.Goals as goal
 
 pub returns-then-number-eq1 : goal.returns-then-number-eq1

@@ -1,14 +1,13 @@
 -- `part_place::front_of` meets its contract.
 use native.Mathlib.Omega.{arith}
-use Prim.Native.Nat.{◌+◌, ◌-◌, ◌≤◌, min}
+use Prim.Native.Nat.{◌+◌, ◌-◌, min}
 use mathlib.Core.Path.{◌≡◌, sym, ap, ◌∙◌}
 use mathlib.Core.List.{◌++◌}
-use lib.ListN.{length, take, length-map}
+use lib.ListN.{length, take}
 use lib.Seq.{length-take-le}
 use Rattle.num_whole.specs.Lists.{padded}
 use Rattle.part_laws.specs.Entries.{position_of}
 use Rattle.part_place.proofs.Looks.{least_take, front_cut}
-use borrow.Author.Rules.{rules}
 use Rattle.part_place.proofs.front_of.Lts
 use Rattle.part_place.proofs.front_of.Reads
 use Rattle.part_place.proofs.front_of.Tie

@@ -1,6 +1,5 @@
 -- `part_place::is_empty` meets its contract: the tally and the sums, then the marks.
-use borrow.Author.Rules.{rules}
-use mathlib.Core.Path.{◌≡◌, sym, ◌∙◌}
+use mathlib.Core.Path.{sym, ◌∙◌}
 use Rattle.num_whole.proofs.Cases.{holds, fails}
 use Rattle.take_state.specs.State.{sound_state}
 use Rattle.part_place.proofs.is_empty.Goals as goal

@@ -1,10 +1,8 @@
 -- `part_place::is_ended` meets its contract.
-use native.Mathlib.Omega.{arith}
-use mathlib.Core.Path.{◌≡◌, sym, ap, ◌∙◌}
+use mathlib.Core.Path.{sym, ap, ◌∙◌}
 use Rattle.num_whole.proofs.Cases.{holds, fails, is_same, not_same, by_same, by_up_to}
 use Rattle.part_open.proofs.Said.{opening_read, opening_refused}
 use Rattle.part_laws.specs.Entries.{ends_by}
-use borrow.Author.Rules.{rules}
 use Rattle.part_place.proofs.is_ended.Goals as goal
 
 pub returns-then-length-start : goal.returns-then-length-start

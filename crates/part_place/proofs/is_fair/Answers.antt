@@ -1,8 +1,6 @@
 -- `part_place::is_fair` meets its contract.
-use mathlib.Core.Path.{◌≡◌, sym, ◌∙◌}
-use lib.ListN.{length, length-map}
+use mathlib.Core.Path.{sym, ◌∙◌}
 use Rattle.part_place.proofs.Looks.{fair_over, fair_on, fair_not}
-use borrow.Author.Rules.{rules}
 use Rattle.part_place.proofs.is_fair.Goals as goal
 
 pub returns-then-p : goal.returns-then-p

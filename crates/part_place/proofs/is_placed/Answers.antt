@@ -2,7 +2,6 @@
 use native.Mathlib.Omega.{arith}
 use Rattle.part_open.proofs.Said.{opening_read, opening_refused}
 use Rattle.part_place.proofs.Places.{placed_yes, placed_no, placed_first}
-use borrow.Author.Rules.{rules}
 use Rattle.part_place.proofs.is_placed.Goals as goal
 
 pub returns-then-taken-count : goal.returns-then-taken-count

@@ -1,9 +1,7 @@
 -- `part_place::is_sound_at` meets its contract: judged once the file is opened, else empty.
-use mathlib.Core.Path.{◌≡◌, sym, ap, ◌∙◌}
 use Rattle.take_state.specs.State.{state_of}
 use Rattle.part_open.proofs.Said.{opening_read, opening_refused}
 use Rattle.part_place.proofs.Heads.{judged_yes, judged_no, sound_yes, sound_no, sound_unread, roomy_read}
-use borrow.Author.Rules.{rules}
 use Rattle.part_place.proofs.is_sound_at.Goals as goal
 
 pub returns-in-Sound : goal.returns-in-Sound

@@ -1,9 +1,8 @@
 -- `part_place::keep` meets its contract: both laid into zeros, one after the other.
-use mathlib.Core.Path.{◌≡◌, sym, ap, ◌∙◌}
+use mathlib.Core.Path.{ap, ◌∙◌}
 use Rattle.byte_words.specs.Words.{lay}
-use lib.ListN.{length, replicate}
+use lib.ListN.{length}
 use Rattle.part_place.proofs.Looks.{kept_so}
-use borrow.Author.Rules.{rules}
 use Rattle.part_place.proofs.keep.Goals as goal
 
 pub returns : goal.returns

@@ -1,11 +1,10 @@
 -- `part_place::open_at` meets its contract: a length past the room is as all of it.
 use native.Mathlib.Omega.{arith}
 use mathlib.Core.Path.{◌≡◌, sym, ap, ◌∙◌}
-use lib.ListN.{length, take, length-map}
+use lib.ListN.{length, take}
 use lib.Seq.{length-take-le}
 use Rattle.part_laws.specs.Beginning.{opened}
 use Rattle.part_place.proofs.Looks.{least_take}
-use borrow.Author.Rules.{rules}
 use Rattle.part_place.proofs.open_at.Lts
 use Rattle.part_place.proofs.open_at.Reads
 use Rattle.part_place.proofs.open_at.Tie

@@ -3,7 +3,6 @@ use mathlib.Core.Path.{sym, ap, ◌∙◌}
 use Rattle.byte_section.specs.Section.{told_count}
 use Rattle.arc_kinds.specs.Told.{told_settings}
 use Rattle.part_place.proofs.Heads.{parameters_are, parameters_not, settings_not}
-use borrow.Author.Rules.{rules}
 use Rattle.part_place.proofs.parameters_in.Goals as goal
 
 pub returns-in-Is : goal.returns-in-Is

@@ -1,14 +1,11 @@
 -- `part_place::sums_empty` meets its contract: the tally, then the sums and the right sides, each 0.
 use mathlib.Core.Path.{◌≡◌, sym, ap, ◌∙◌}
-use lib.ListN.{length, length-map}
-use lib.IntN.{pos}
-use Rattle.num_packed.specs.Found.{told_walked, first_from, columns_from}
-use Rattle.num_packed.specs.Sound.{breaks, breaks_side}
+use lib.ListN.{length}
+use Rattle.num_packed.specs.Found.{told_walked}
 use Rattle.num_packed.specs.declared.Walked.TheVariants.{Sound, Unsound}
 use Rattle.take_state.specs.State.{state_of}
 use Rattle.take_state.proofs.Judged.{matrix_pass, matrix_fail, rights_pass, rights_fail}
 use Rattle.part_place.proofs.Heads.{empty_yes, empty_no, empty_not}
-use borrow.Author.Rules.{rules}
 use Rattle.part_place.proofs.sums_empty.Lts
 use Rattle.part_place.proofs.sums_empty.Reads
 use Rattle.part_place.proofs.sums_empty.Tie

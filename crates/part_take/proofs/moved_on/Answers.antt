@@ -1,6 +1,6 @@
 -- `part_take::moved_on` meets its contract: 3, nothing completed, or what is left after the records.
 use native.Mathlib.Omega.{arith}
-use Prim.Native.Nat.{ℕ, ◌+◌, ◌-◌, ◌*◌, ◌≤◌}
+use Prim.Native.Nat.{ℕ, ◌+◌, ◌-◌, ◌*◌}
 use mathlib.Core.Path.{◌≡◌, sym, ap, ap₂, ◌∙◌}
 use mathlib.Core.Bool.{false}
 use mathlib.Core.List.{List, ◌++◌}
@@ -11,7 +11,6 @@ use Rattle.arc_kinds.specs.Kinds.{record_size}
 use Rattle.part_laws.specs.Entries.{position_most}
 use Rattle.part_place.proofs.Ends.{small}
 use Rattle.part_take.proofs.Moves.{goes_surplus, goes_none, more, rest_fits, goes_some}
-use borrow.Author.Rules.{rules}
 use Rattle.part_take.proofs.moved_on.Lts
 use Rattle.part_take.proofs.moved_on.Reads
 use Rattle.part_take.proofs.moved_on.Tie

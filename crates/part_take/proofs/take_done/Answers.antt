@@ -1,9 +1,9 @@
 -- `part_take::take_done` meets its contract: none; or the first out of the front and the others out of the part.
 use native.Mathlib.Omega.{arith}
-use Prim.Native.Nat.{ℕ, suc, ◌+◌, ◌-◌, ◌*◌, ◌≤◌}
-use mathlib.Core.Path.{◌≡◌, refl, sym, ap, ap₂, ◌∙◌}
-use mathlib.Core.List.{[], ◌∷◌}
-use lib.ListN.{length, take, drop, length-map, length-take, length-drop}
+use Prim.Native.Nat.{◌+◌, ◌-◌, ◌*◌, ◌≤◌}
+use mathlib.Core.Path.{◌≡◌, ap, ap₂, ◌∙◌}
+use mathlib.Core.List.{◌∷◌}
+use lib.ListN.{length, take, drop}
 use Rattle.arc_kinds.specs.Kinds.{record_size}
 use Rattle.byte_words.specs.Words.{lay}
 use Rattle.take_state.specs.State.{state_of}
@@ -11,7 +11,6 @@ use Rattle.take_laws.specs.Machine.{run, answers}
 use Rattle.take_laws.specs.Taking.{frame_of, record_answer, record_step, cut}
 use Rattle.take_lent.proofs.Entries.{few_parameters}
 use Rattle.part_take.proofs.Dones.{low, inside_others, none_done, some_done}
-use borrow.Author.Rules.{rules}
 use Rattle.part_take.proofs.take_done.Lts
 use Rattle.part_take.proofs.take_done.Reads
 use Rattle.part_take.proofs.take_done.Tie

@@ -1,13 +1,12 @@
 -- `part_take::take_records` meets its contract: the first record in a room of one, the others in the rest.
 use native.Mathlib.Omega.{arith}
 use Prim.Native.Nat.{◌≤◌}
-use mathlib.Core.Path.{◌≡◌, sym}
-use lib.ListN.{length, take, length-map}
+use mathlib.Core.Path.{sym}
+use lib.ListN.{length, take}
 use lib.Seq.{length-take-le}
 use Rattle.take_state.specs.State.{state_of}
 use Rattle.take_laws.proofs.Guarded.{Held}
 use Rattle.part_take.proofs.Taken.{one_none, others_none, two_states, two_answers, two_room}
-use borrow.Author.Rules.{rules}
 use Rattle.part_take.proofs.take_records.Lts
 use Rattle.part_take.proofs.take_records.Reads
 use Rattle.part_take.proofs.take_records.Tie

@@ -1,7 +1,6 @@
 -- `refusal::number` meets its contract: in each arm the case is known, and its number by computation.
 use mathlib.Core.Path.{sym, ap}
 use Rattle.refusal.specs.Number.{number_of}
-use borrow.Author.Rules.{rules}
 use Rattle.refusal.proofs.number.Goals as goal
 
 pub returns-in-Short : goal.returns-in-Short

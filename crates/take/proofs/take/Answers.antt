@@ -4,7 +4,6 @@ use Rattle.take_state.specs.State.{state_of}
 use Rattle.refusal.specs.First.{answered}
 use Rattle.refusal.proofs.Firsts.{answered_by}
 use Rattle.take.proofs.Answers.{none_by, some_by, sound_answer, sound_step, refused_answer, refused_step}
-use borrow.Author.Rules.{rules}
 use Rattle.take.proofs.take.Goals as goal
 
 pub take_sound-requires : goal.take_sound-requires

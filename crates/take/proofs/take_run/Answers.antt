@@ -5,7 +5,6 @@ use Rattle.take_state.specs.State.{state_of}
 use Rattle.refusal.proofs.Apart.{not_none}
 use Rattle.refusal.proofs.Firsts.{answered_given, answered_by}
 use Rattle.take.proofs.Answers.{none_by, some_by, state_left, answers_left_lem}
-use borrow.Author.Rules.{rules}
 use Rattle.take.proofs.take_run.Goals as goal
 
 pub run_sound-tally-requires : goal.run_sound-tally-requires

@@ -1,14 +1,13 @@
 -- `take::take_sound` meets its contract: the parts handed on, and what comes back laid before the rest.
 use mathlib.Core.Path.{◌≡◌, sym, ap, ap₂, ◌∙◌}
 use native.Mathlib.Omega.{arith}
-use lib.ListN.{length, take, drop, length-map}
+use lib.ListN.{length, take, drop}
 use lib.Seq.{length-take-le}
 use Rattle.take_state.specs.State.{state_of}
 use mathlib.Core.List.{◌++◌}
 use Rattle.take_laws.specs.Taking.{frame, record_answer, record_step}
 use Rattle.refusal.specs.First.{answered}
 use Rattle.take_lent.proofs.Entries.{Handed, few_parameters, part, numbers_16, corrections_16, parameters_few, stations_few, matrix_room, rights_room, prepared, rights_long, frame_is, answer_back, step_back}
-use borrow.Author.Rules.{rules}
 use Rattle.take.proofs.take_sound.Lts
 use Rattle.take.proofs.take_sound.Reads
 use Rattle.take.proofs.take_sound.Tie

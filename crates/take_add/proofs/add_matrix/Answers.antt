@@ -18,7 +18,7 @@ use mir.Val.{to_z, of_z}
 use mir.ValLaws.{to_z-of_z}
 use Rattle.num_whole.specs.Sums.{plus}
 use Rattle.num_packed.specs.Triangle.{triangle_terms, columns, tri}
-use Rattle.take_add.proofs.Lists.{Adding, columns_start, columns_turn, columns_end, part_within}
+use Rattle.take_add.proofs.Lists.{columns_start, columns_turn, columns_end, part_within}
 use Rattle.num_packed.proofs.Places.{tri_next, tri_within}
 use Rattle.take_add.proofs.add_matrix.Lts
 use Rattle.take_add.proofs.add_matrix.Reads
@@ -110,8 +110,7 @@ add_times-requires c =
 
 pub loop-j-preserved : goal.loop-j-preserved
 loop-j-preserved c =
-    let l = c.loop-j in
-    (
+    let l = c.loop-j in (
       omega arith,
       (
         omega (arith, tri_next l.j),

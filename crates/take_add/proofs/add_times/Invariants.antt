@@ -1,15 +1,10 @@
 -- `take_add::add_times` meets its contract. The loop's invariant: the places before i are done, and the others as they were.
 -- A signed local is its bits to an invariant, so f stands there as `to_z w64 f`.
-use mathlib.Core.Path.{◌≡◌, ap, ◌∙◌, subst}
-use Prim.Native.Nat.{◌≤◌, ◌+◌, ◌-◌, ◌^◌}
-use native.Mathlib.Omega.{arith}
+use Prim.Native.Nat.{◌≤◌, ◌-◌}
 use lib.ListN.{drop}
-use mir.Syntax.{w64}
-use mir.Val.{to_z, of_z}
-use mir.ValLaws.{to_z-of_z}
 use Rattle.num_whole.specs.Sums.{plus}
 use Rattle.num_packed.specs.Triangle.{times}
-use Rattle.take_add.proofs.Lists.{Adding, adding_starts, adding_small, adding_full, times_turn}
+use Rattle.take_add.proofs.Lists.{Adding}
 use Rattle.take_add.proofs.add_times.Given as goal
 
 abbrev pub invariant-loop-i : goal.invariant-loop-i

@@ -1,6 +1,5 @@
 -- `take_add::scale` meets its contract: the product is within 2 ^ 16 * 2 ^ 15.
 use mathlib.Core.Path.{◌≡◌, refl}
-use borrow.Author.Rules.{rules}
 use native.Mathlib.Omega.{arith}
 use Prim.Native.Nat.{◌^◌, ◌*◌, ◌≤◌}
 use lib.IntN.{pos, ◌*ℤ◌, nat_abs}

@@ -1,9 +1,6 @@
 use borrow.Author.Rules.{rules}
-use Prim.Native.Nat.{◌≤◌, ◌+◌, ◌*◌, ◌-◌}
-use mathlib.Core.Path.{◌≡◌}
+use Prim.Native.Nat.{◌-◌}
 use native.Mathlib.Omega.{arith}
-use lib.ListN.{length, drop}
-use Rattle.take_counts.specs.Counts.{sum_of, Few}
 use Rattle.take_counts.proofs.Totals.{sum_end, sum_more}
 use Rattle.take_counts.proofs.accepted.Goals as goal
 
@@ -12,8 +9,7 @@ loop-station-init c = (search rules, search rules, search rules, λ few. omega a
 
 pub loop-station-preserved : goal.loop-station-preserved
 loop-station-preserved c =
-    let l = c.loop-station in
-    (
+    let l = c.loop-station in (
       omega arith,
       l.invariant.1,
       omega (arith, c.wide-n.ensures.1),

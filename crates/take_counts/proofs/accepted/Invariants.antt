@@ -1,12 +1,9 @@
 -- `take_counts::accepted` meets its contract. The loop's invariant: the sum so far, with what is left, is the total; it fits its word, and is small
 -- where the counts are.
-use borrow.Author.Rules.{rules}
 use Prim.Native.Nat.{◌≤◌, ◌+◌, ◌*◌, ◌-◌}
 use mathlib.Core.Path.{◌≡◌}
-use native.Mathlib.Omega.{arith}
 use lib.ListN.{length, drop}
 use Rattle.take_counts.specs.Counts.{sum_of, Few}
-use Rattle.take_counts.proofs.Totals.{sum_end, sum_more}
 use Rattle.take_counts.proofs.accepted.Given as goal
 
 abbrev pub invariant-loop-station : goal.invariant-loop-station

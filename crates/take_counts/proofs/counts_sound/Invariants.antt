@@ -1,12 +1,8 @@
 -- `take_counts::counts_sound` meets its contract: each count that was passed is within its limit.
 use Prim.Native.Nat.{ℕ, ◌≤◌, ◌<◌, ◌-◌}
-use mathlib.Core.Path.{◌≡◌, sym}
-use native.Mathlib.Omega.{arith}
+use mathlib.Core.Path.{◌≡◌}
 use lib.ListN.{length, get_or}
-use borrow.Author.Count.{below_none, below_more}
-use borrow.Author.Rules.{rules}
 use Rattle.num_whole.specs.Tests.{less, pick}
-use Rattle.take_counts.proofs.Totals.{counts_pass, counts_fail}
 use Rattle.take_counts.proofs.counts_sound.Given as goal
 
 abbrev pub invariant-loop-i : goal.invariant-loop-i

@@ -1,11 +1,8 @@
 -- `take_fit::find` meets its contract. The loop's invariant: what is left to search decides the whole.
-use native.Mathlib.Omega.{arith}
-use mathlib.Core.Path.{◌≡◌, refl, sym, ◌∙◌}
+use mathlib.Core.Path.{◌≡◌}
 use Prim.Native.Nat.{◌≤◌, ◌-◌}
 use lib.ListN.{length, drop}
-use borrow.Author.Rules.{rules}
 use Rattle.arc_heading.specs.Judge.{find_from}
-use Rattle.take_fit.proofs.Steps.{find_end, find_here, find_on}
 use Rattle.take_fit.proofs.find.Given as goal
 
 abbrev pub invariant-loop-i : goal.invariant-loop-i

@@ -11,7 +11,6 @@ use Rattle.take_rules.specs.Rules.{sigma_ok}
 use Rattle.arc_record.specs.Record.{record_in}
 use Rattle.take_fit.specs.Fit.{timed, told_time}
 use Rattle.take_fit.proofs.Steps.{type_is, sigma_is, residual_is, time_is, no_sigma, no_time, no_residual, it_fits, fit_is}
-use borrow.Author.Rules.{rules}
 use Rattle.take_fit.proofs.fit_listed.Goals as goal
 
 pub overflow_sub-result : goal.overflow_sub-result

@@ -2,7 +2,6 @@
 use mathlib.Core.Path.{sym, ◌∙◌}
 use native.Mathlib.Omega.{arith}
 use Rattle.take_fit.proofs.Steps.{too_short, too_long, whole_fit}
-use borrow.Author.Rules.{rules}
 use Rattle.take_fit.proofs.fits.Goals as goal
 
 pub returns-then-bytes-size : goal.returns-then-bytes-size

@@ -2,7 +2,6 @@
 use mathlib.Core.Path.{sym, ap, ◌∙◌}
 use Rattle.unit_measure.specs.Measures.{told_measurement}
 use Rattle.take_fit.proofs.Steps.{measured_residual, measured_none}
-use borrow.Author.Rules.{rules}
 use Rattle.take_fit.proofs.residual_of.Goals as goal
 
 pub returns-in-Is : goal.returns-in-Is

@@ -13,7 +13,6 @@ use Rattle.take_rules.specs.Rules.{time_of, in_window}
 use Rattle.take_rules.proofs.Bounds.{window_above}
 use Rattle.take_fit.specs.Fit.{timed}
 use Rattle.take_fit.proofs.Steps.{clock_small, settings_window}
-use borrow.Author.Rules.{rules}
 use Rattle.take_fit.proofs.time_of.Lts
 use Rattle.take_fit.proofs.time_of.Reads
 use Rattle.take_fit.proofs.time_of.Tie

@@ -12,7 +12,6 @@ use Rattle.take_rules.specs.Rules.{weight_of}
 use Rattle.take_rules.proofs.Bounds.{weighted_bound, square_bound}
 use Rattle.take_judge.specs.Judged.{terms_by}
 use Rattle.take_judge.proofs.Late.{scaled_fits}
-use borrow.Author.Rules.{rules}
 use Rattle.take_judge.proofs.terms_of.Lts
 use Rattle.take_judge.proofs.terms_of.Reads
 use Rattle.take_judge.proofs.terms_of.Tie

@@ -1,8 +1,8 @@
 use mathlib.Core.Path.{◌≡◌, refl, sym, ap, ◌∙◌}
 use native.Mathlib.Omega.{arith}
-use Prim.Native.Nat.{◌+◌, ◌-◌, ◌≤◌}
+use Prim.Native.Nat.{◌+◌, ◌-◌}
 use mathlib.Core.List.{map}
-use lib.ListN.{length, get_or, drop, set, length-set, length-map}
+use lib.ListN.{length, get_or, drop, set, length-set}
 use mir.Syntax.{w32}
 use mir.ValLaws.{to_z-of_z}
 use lib.Seq.{sets}

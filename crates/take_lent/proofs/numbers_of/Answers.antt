@@ -1,10 +1,7 @@
 use mathlib.Core.Path.{◌≡◌, refl, sym, ◌∙◌}
 use native.Mathlib.Omega.{arith}
-use Prim.Native.Nat.{◌-◌, ◌≤◌}
-use mathlib.Core.List.{map}
-use lib.ListN.{length, drop, length-set, length-map}
-use lib.Seq.{sets}
-use borrow.Author.Rules.{rules}
+use Prim.Native.Nat.{◌-◌}
+use lib.ListN.{length, length-set}
 use Rattle.arc_heading.specs.Judge.{numbers_of}
 use Rattle.arc_limits.specs.Limits.{station_key, no_station}
 use Rattle.take_lent.proofs.Copies.{copy_start, copy_turn, copy_end}

@@ -1,14 +1,11 @@
 -- `take_lent::numbers_of` meets its contract. The loop's invariant: what is left to copy makes the whole.
-use mathlib.Core.Path.{◌≡◌, refl, sym, ◌∙◌}
-use native.Mathlib.Omega.{arith}
+use mathlib.Core.Path.{◌≡◌}
 use Prim.Native.Nat.{◌-◌, ◌≤◌}
 use mathlib.Core.List.{map}
-use lib.ListN.{length, drop, length-set, length-map}
+use lib.ListN.{length, drop}
 use lib.Seq.{sets}
-use borrow.Author.Rules.{rules}
 use Rattle.arc_heading.specs.Judge.{numbers_of}
-use Rattle.arc_limits.specs.Limits.{station_key, no_station}
-use Rattle.take_lent.proofs.Copies.{copy_start, copy_turn, copy_end}
+use Rattle.arc_limits.specs.Limits.{station_key}
 use Rattle.take_lent.proofs.numbers_of.Given as goal
 
 abbrev pub invariant-loop-i : goal.invariant-loop-i

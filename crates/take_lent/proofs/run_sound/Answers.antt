@@ -5,7 +5,7 @@ use Prim.Native.Nat.{◌/◌, ◌≤◌}
 use Rattle.byte_words.specs.Words.{lay}
 use Rattle.arc_kinds.specs.Kinds.{record_size}
 use Rattle.take_laws.specs.Machine.{run, answers}
-use lib.ListN.{length, take, drop, length-map}
+use lib.ListN.{length, take, drop}
 use lib.Seq.{length-take-le}
 use Rattle.take_state.specs.State.{state_of}
 use mathlib.Core.List.{◌++◌}
@@ -13,7 +13,6 @@ use Rattle.take_laws.specs.Taking.{frame, frame_of, record_answer, record_step, 
 use Rattle.take_steps.specs.Runs.{run_by, answers_by}
 use Rattle.take_lent.proofs.Entries.{Handed, part, numbers_16, corrections_16, few_parameters, parameters_few, stations_few, matrix_room, rights_room, prepared, rights_long, frame_is, run_back, answers_back}
 use Rattle.take_lent.proofs.Whole.{whole_run_lem, state_taken, answers_taken, whole_are, records_are}
-use borrow.Author.Rules.{rules}
 use Rattle.take_lent.proofs.run_sound.Lts
 use Rattle.take_lent.proofs.run_sound.Reads
 use Rattle.take_lent.proofs.run_sound.Tie

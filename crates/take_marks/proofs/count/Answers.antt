@@ -1,5 +1,5 @@
 -- `take_marks::count` meets its contract.
-use mathlib.Core.Path.{◌≡◌, refl}
+use mathlib.Core.Path.{refl}
 use native.Mathlib.Omega.{arith}
 use lib.Count.{ones-le}
 use Rattle.take_marks.specs.Marks.{mark_count}

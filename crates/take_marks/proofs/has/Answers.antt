@@ -1,7 +1,6 @@
 -- `take_marks::has` meets its contract.
-use borrow.Author.Rules.{rules}
-use mathlib.Core.Path.{◌≡◌, ap, ◌∙◌}
-use Prim.Native.Nat.{ℕ, ◌/◌, ◌%◌, ◌^◌}
+use mathlib.Core.Path.{ap, ◌∙◌}
+use Prim.Native.Nat.{◌/◌, ◌^◌}
 use lib.Bits.{and_mask}
 use Rattle.num_whole.specs.Tests.{same}
 use Rattle.num_whole.proofs.Cases.{by_same}

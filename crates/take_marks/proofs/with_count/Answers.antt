@@ -1,6 +1,5 @@
 -- `take_marks::with_count` meets its contract.
-use borrow.Author.Rules.{rules}
-use mathlib.Core.Path.{◌≡◌, refl}
+use mathlib.Core.Path.{refl}
 use native.Mathlib.Omega.{arith}
 use Rattle.num_whole.proofs.Cases.{yes, no, is_less, not_less}
 use Rattle.take_marks.proofs.with_count.Goals as goal

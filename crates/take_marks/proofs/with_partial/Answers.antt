@@ -1,6 +1,5 @@
 -- `take_marks::with_partial` meets its contract.
-use borrow.Author.Rules.{rules}
-use mathlib.Core.Path.{◌≡◌, refl}
+use mathlib.Core.Path.{refl}
 use Rattle.num_whole.proofs.Cases.{yes, no}
 use Rattle.take_marks.proofs.Partials.{zero_of, not_zero_of}
 use Rattle.take_marks.proofs.with_partial.Goals as goal

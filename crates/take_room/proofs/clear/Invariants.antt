@@ -1,13 +1,9 @@
 -- `take_room::clear` meets its contract. The loop's invariant: what is done, with the rest cleared, is the whole.
 use Prim.Native.Nat.{◌≤◌, ◌-◌}
-use mathlib.Core.Path.{◌≡◌, refl, sym, ◌∙◌}
+use mathlib.Core.Path.{◌≡◌}
 use mathlib.Core.List.{◌++◌}
-use native.Mathlib.Nat.{sub-zero}
-use native.Mathlib.Omega.{arith}
-use lib.ListN.{length, take, drop, length-set}
-use borrow.Author.Rules.{rules}
+use lib.ListN.{length, take, drop}
 use Rattle.take_room.specs.Room.{cleared}
-use Rattle.take_room.proofs.Cleared.{clear_end, clear_turn}
 use Rattle.take_room.proofs.clear.Given as goal
 
 abbrev pub invariant-loop-i : goal.invariant-loop-i

@@ -8,7 +8,6 @@ use Rattle.num_whole.specs.Tests.{up_to}
 use Rattle.num_packed.specs.Triangle.{tri}
 use Rattle.num_packed.specs.Room.{sums_roomy}
 use Rattle.num_whole.proofs.Cases.{holds, fails, is_up_to, not_up_to, by_up_to}
-use borrow.Author.Rules.{rules}
 use Rattle.take_room.proofs.is_roomy.Lts
 use Rattle.take_room.proofs.is_roomy.Reads
 use Rattle.take_room.proofs.is_roomy.Tie

@@ -1,6 +1,5 @@
 -- `take_rules::clock_ok` meets its contract: its tests are the definition's.
 use mathlib.Core.Path.{sym, ◌∙◌}
-use borrow.Author.Rules.{rules}
 use Rattle.num_whole.proofs.Cases.{holds, fails, between_true}
 use Rattle.take_rules.specs.Rules.{clock_ok}
 use Rattle.take_rules.proofs.clock_ok.Goals as goal

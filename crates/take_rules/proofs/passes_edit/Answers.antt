@@ -1,5 +1,4 @@
 -- `take_rules::passes_edit` meets its contract: the products fit, and the test is the definition's.
-use borrow.Author.Rules.{rules}
 use native.Mathlib.Omega.{arith}
 use mathlib.Core.Path.{◌≡◌, ap, ◌∙◌}
 use Prim.Native.Nat.{◌*◌, ◌≤◌}

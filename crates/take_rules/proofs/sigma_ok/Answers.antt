@@ -1,5 +1,4 @@
 -- `take_rules::sigma_ok` meets its contract.
-use borrow.Author.Rules.{rules}
 use Rattle.take_rules.specs.Rules.{sigma_ok}
 use Rattle.take_rules.proofs.sigma_ok.Goals as goal
 

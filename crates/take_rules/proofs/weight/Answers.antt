@@ -1,7 +1,7 @@
 -- `take_rules::weight` meets its contract.
 use native.Mathlib.Omega.{arith}
-use mathlib.Core.Path.{◌≡◌, refl, sym, ◌∙◌, subst}
-use Prim.Native.Nat.{ℕ, ◌+◌, ◌*◌, ◌/◌, ◌%◌, ◌≤◌, ◌<◌}
+use mathlib.Core.Path.{◌≡◌, sym, subst}
+use Prim.Native.Nat.{ℕ, ◌*◌, ◌≤◌}
 use native.Mathlib.Nat.{mul-le-mul, mul-pos, div-le_self, mod-lt}
 use Rattle.num_limits.specs.Capacities.{sigma_most, weight_top}
 use Rattle.take_rules.specs.Rules.{nearest_quotient, weight_of}

@@ -7,7 +7,6 @@ use native.Mathlib.Omega.{arith}
 use mir.Syntax.{w64}
 use Rattle.take_state.proofs.bound_of.Lts
 use Rattle.take_state.proofs.bound_of.Reads
-use Rattle.take_state.proofs.bound_of.Tie
 use Rattle.take_state.proofs.bound_of.Goals as goal
 
 -- the facts known at one place of the code

@@ -2,7 +2,6 @@
 use Prim.Native.Nat.{ℕ, ◌<◌}
 use mathlib.Core.Path.{◌≡◌, sym, ap, ◌∙◌}
 use native.Mathlib.Omega.{arith}
-use Rattle.num_whole.specs.Answer.{given}
 use Rattle.refusal.specs.Told.{told_verdict}
 use Rattle.take_state.specs.State.{state_of, parameter_number}
 use Rattle.take_state.proofs.Rooms.{by_given, by_refused, state_roomed, parameter_is, row_judged, row_none, row_some}

@@ -4,7 +4,6 @@ use native.Mathlib.Omega.{arith}
 use Rattle.refusal.specs.Told.{told_verdict}
 use Rattle.take_state.specs.State.{state_of, state_number}
 use Rattle.take_state.proofs.Rooms.{by_given, by_refused, parameter_judged, parameter_none, parameter_some}
-use borrow.Author.Rules.{rules}
 use Rattle.take_state.proofs.judge_parameter.Lts
 use Rattle.take_state.proofs.judge_parameter.Reads
 use Rattle.take_state.proofs.judge_parameter.Tie

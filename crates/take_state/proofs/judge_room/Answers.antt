@@ -2,7 +2,6 @@
 use mathlib.Core.Path.{sym, ◌∙◌}
 use Rattle.take_state.specs.State.{roomy}
 use Rattle.take_state.proofs.Rooms.{room_judged, room_short}
-use borrow.Author.Rules.{rules}
 use Rattle.take_state.proofs.judge_room.Goals as goal
 
 pub returns-then-is_roomy : goal.returns-then-is_roomy

@@ -3,7 +3,6 @@ use mathlib.Core.Path.{◌≡◌, sym, ap, ◌∙◌}
 use Rattle.refusal.specs.Told.{told_verdict}
 use Rattle.take_state.specs.State.{room_number}
 use Rattle.take_state.proofs.Rooms.{by_given, by_refused, roomed, state_room, state_unsound, state_sound}
-use borrow.Author.Rules.{rules}
 use Rattle.take_state.proofs.judge_state.Lts
 use Rattle.take_state.proofs.judge_state.Reads
 use Rattle.take_state.proofs.judge_state.Tie

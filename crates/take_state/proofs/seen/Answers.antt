@@ -7,7 +7,6 @@ use Rattle.refusal.specs.Told.{told_verdict}
 use Rattle.refusal.proofs.Firsts.{answered_given, answered_by}
 use Rattle.take_state.specs.State.{state_of, parameter_number, seen_in, sight_of}
 use Rattle.take_state.proofs.Rooms.{by_given, by_refused, state_roomed, parameter_is}
-use borrow.Author.Rules.{rules}
 use Rattle.take_state.proofs.seen.Lts
 use Rattle.take_state.proofs.seen.Reads
 use Rattle.take_state.proofs.seen.Tie

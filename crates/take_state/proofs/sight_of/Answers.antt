@@ -1,5 +1,5 @@
 -- `take_state::sight_of` meets its contract.
-use mathlib.Core.Path.{◌≡◌, sym, ap}
+use mathlib.Core.Path.{sym, ap}
 use Rattle.num_whole.specs.Answer.{given}
 use Rattle.take_state.proofs.sight_of.Goals as goal
 

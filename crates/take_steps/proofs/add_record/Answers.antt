@@ -10,7 +10,6 @@ use Rattle.num_packed.specs.Triangle.{times, triangle_terms}
 use Rattle.arc_record.specs.Record.{partials_in}
 use Rattle.take_marks.specs.Marks.{marks_with}
 use Rattle.take_laws.proofs.Accepted.{length_partials_in}
-use borrow.Author.Rules.{rules}
 use Rattle.take_steps.proofs.add_record.Lts
 use Rattle.take_steps.proofs.add_record.Reads
 use Rattle.take_steps.proofs.add_record.Tie

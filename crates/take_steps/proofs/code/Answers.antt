@@ -1,7 +1,6 @@
 -- `take_steps::code` meets its contract: every number fits a byte.
 use native.Mathlib.Omega.{arith}
 use Rattle.refusal.proofs.Apart.{few}
-use borrow.Author.Rules.{rules}
 use Rattle.take_steps.proofs.code.Goals as goal
 
 pub overflow_cast-result : goal.overflow_cast-result

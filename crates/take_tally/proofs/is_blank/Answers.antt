@@ -1,4 +1,4 @@
-use Prim.Native.Nat.{◌≤◌, ◌-◌}
+use Prim.Native.Nat.{◌-◌}
 use mathlib.Core.Path.{◌≡◌, sym, ap, ◌∙◌}
 use native.Mathlib.Omega.{arith}
 use lib.ListN.{length}
@@ -10,7 +10,6 @@ use Rattle.num_whole.proofs.Cases.{is_same, not_same}
 use Rattle.num_whole.proofs.Walks.{all_end, all_pass, all_fail}
 use Rattle.take_tally.proofs.is_blank.Lts
 use Rattle.take_tally.proofs.is_blank.Reads
-use Rattle.take_tally.proofs.is_blank.Tie
 use Rattle.take_tally.proofs.is_blank.Goals as goal
 
 -- the facts known at one place of the code

@@ -1,14 +1,9 @@
 -- `take_tally::is_blank` meets its contract. The loop's invariant: what is left to judge decides the whole.
 use Prim.Native.Nat.{◌≤◌, ◌-◌}
-use mathlib.Core.Path.{◌≡◌, sym, ap, ◌∙◌}
-use native.Mathlib.Omega.{arith}
+use mathlib.Core.Path.{◌≡◌}
 use lib.ListN.{length}
-use lib.Seq.{take_all}
-use borrow.Author.Rules.{rules}
 use Rattle.num_whole.specs.Tests.{same}
 use Rattle.num_whole.specs.Lists.{all, rest}
-use Rattle.num_whole.proofs.Cases.{is_same, not_same}
-use Rattle.num_whole.proofs.Walks.{all_end, all_pass, all_fail}
 use Rattle.take_tally.proofs.is_blank.Given as goal
 
 abbrev pub invariant-loop-k : goal.invariant-loop-k

@@ -1,6 +1,5 @@
 -- `take_tally::is_marked` meets its contract.
-use borrow.Author.Rules.{rules}
-use mathlib.Core.Path.{◌≡◌, ap}
+use mathlib.Core.Path.{ap}
 use mathlib.Core.Bool.{not}
 use Rattle.num_whole.proofs.Cases.{holds, fails, is_same, not_same}
 use Rattle.take_tally.proofs.is_marked.Goals as goal

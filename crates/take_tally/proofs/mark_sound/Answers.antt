@@ -1,5 +1,4 @@
 -- `take_tally::mark_sound` meets its contract: its tests are the definition's.
-use borrow.Author.Rules.{rules}
 use mathlib.Core.Path.{◌≡◌, refl, sym, ◌∙◌}
 use mathlib.Core.Bool.{Bool, true, false, not}
 use native.Mathlib.Omega.{arith}

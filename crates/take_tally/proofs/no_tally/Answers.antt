@@ -4,7 +4,6 @@ use Rattle.take_tally.specs.declared.Row.{Row}
 use lib.ListN.{replicate}
 use mathlib.Core.List.{List}
 use mathlib.Core.Path.{ap}
-use borrow.Author.Rules.{rules}
 use Rattle.take_tally.proofs.no_tally.Goals as goal
 
 abbrev with_rows : List Row → Tally

@@ -1,13 +1,9 @@
-use Prim.Native.Nat.{ℕ, ◌≤◌, ◌<◌, ◌-◌}
-use mathlib.Core.Path.{◌≡◌, sym, ◌∙◌}
+use Prim.Native.Nat.{◌-◌}
+use mathlib.Core.Path.{sym, ◌∙◌}
 use mathlib.Core.Bool.{true}
 use native.Mathlib.Omega.{arith}
-use lib.ListN.{get_or}
 use borrow.Author.Count.{below_more}
 use borrow.Author.Rules.{rules}
-use Rattle.num_whole.specs.Tests.{same}
-use Rattle.num_whole.specs.Lists.{all}
-use Rattle.take_tally.specs.Tally.{no_row}
 use Rattle.take_tally.proofs.Rows.{rows_pass, rows_fail}
 use Rattle.take_tally.proofs.rows_sound.Goals as goal
 

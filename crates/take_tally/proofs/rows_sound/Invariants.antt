@@ -1,15 +1,11 @@
 -- `take_tally::rows_sound` meets its contract: each row past the stations that was passed is blank.
 use Prim.Native.Nat.{ℕ, ◌≤◌, ◌<◌, ◌-◌}
-use mathlib.Core.Path.{◌≡◌, sym, ◌∙◌}
+use mathlib.Core.Path.{◌≡◌}
 use mathlib.Core.Bool.{true}
-use native.Mathlib.Omega.{arith}
 use lib.ListN.{get_or}
-use borrow.Author.Count.{below_more}
-use borrow.Author.Rules.{rules}
 use Rattle.num_whole.specs.Tests.{same}
 use Rattle.num_whole.specs.Lists.{all}
 use Rattle.take_tally.specs.Tally.{no_row}
-use Rattle.take_tally.proofs.Rows.{rows_pass, rows_fail}
 use Rattle.take_tally.proofs.rows_sound.Given as goal
 
 abbrev pub invariant-loop-i : goal.invariant-loop-i

@@ -1,12 +1,10 @@
 -- `take_tally::tally_sound` meets its contract: its tests in the definition's order.
 use mathlib.Core.Path.{sym, ap, ◌∙◌}
-use Prim.Native.Nat.{◌*◌, ◌^◌}
 use native.Mathlib.Omega.{arith}
 use Rattle.num_whole.specs.Tests.{up_to}
 use Rattle.num_whole.proofs.Cases.{holds, fails, by_up_to}
 use Rattle.take_tally.specs.Tally.{square_top, tally_sound}
 use Rattle.take_counts.proofs.Totals.{counts_small}
-use borrow.Author.Rules.{rules}
 use Rattle.take_tally.proofs.tally_sound.Goals as goal
 
 pub overflow_mul-result : goal.overflow_mul-result

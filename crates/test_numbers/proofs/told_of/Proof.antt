@@ -2,9 +2,6 @@
 use Rattle.std.proofs.Common.{◌-◌, ◌≤◌, rules}
 use Rattle.test_numbers.proofs.told_of.Statement.{statement}
 use Rattle.test_numbers.proofs.told_of.Tie as tie
-use Rattle.test_numbers.proofs.told_of.Reads as reads
-use Rattle.test_numbers.proofs.told_of.Lts as lts
-use Rattle.test_numbers.proofs.with_exponent.Reads as with-exponent-reads
 
 abbrev invariant-loop : tie.invariant-loop
 invariant-loop kind block told₀ i₀ told i = i ≤ 64

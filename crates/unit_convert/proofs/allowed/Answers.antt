@@ -4,7 +4,6 @@ use mathlib.Core.Path.{sym, ap, ap₂, ◌∙◌}
 use mathlib.Core.Bool.{true, false, ◌&&◌}
 use lib.Signed.{le_z}
 use mir.Facts.{to_z-of_z}
-use borrow.Author.Rules.{rules}
 use Rattle.unit_nearest.proofs.Laws.{tested}
 use Rattle.unit_turn.specs.Turning.{top_of}
 use Rattle.unit_convert.proofs.allowed.Goals as goal

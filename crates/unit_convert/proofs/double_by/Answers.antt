@@ -4,7 +4,6 @@ use native.Mathlib.Omega.{arith}
 use mathlib.Core.Path.{refl, sym, ap, ◌∙◌, subst}
 use lib.IntN.{nat_abs}
 use mir.Facts.{to_z-of_z}
-use borrow.Author.Rules.{rules}
 use Rattle.num_whole.specs.Answer.{given}
 use Rattle.num_whole.proofs.Cases.{yes, no}
 use Rattle.unit_nearest.specs.Doubles.{fits_in, quotient}

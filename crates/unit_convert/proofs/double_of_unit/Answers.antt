@@ -2,7 +2,6 @@
 use mathlib.Core.Path.{refl, ap₂, ◌∙◌, sym}
 use lib.IntN.{ℤ}
 use mir.Facts.{to_z-of_z}
-use borrow.Author.Rules.{rules}
 use Rattle.num_whole.specs.Answer.{given, refused}
 use Rattle.num_whole.specs.Tests.{pick}
 use Rattle.num_whole.proofs.Cases.{yes, no}

@@ -2,7 +2,6 @@
 use mir.Syntax.{w64}
 use mathlib.Core.Path.{sym, ap, ◌∙◌}
 use mir.Facts.{to_z-of_z}
-use borrow.Author.Rules.{rules}
 use Rattle.num_whole.specs.Answer.{given}
 use Rattle.unit_nearest.specs.Doubles.{told_nearest}
 use Rattle.unit_turn.specs.Turning.{on_circle}

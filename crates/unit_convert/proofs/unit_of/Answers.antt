@@ -1,6 +1,5 @@
 -- `unit_convert::unit_of` meets its contract.
 use mathlib.Core.Path.{refl, ap, ◌∙◌, sym}
-use borrow.Author.Rules.{rules}
 use Rattle.num_whole.proofs.Cases.{yes, no}
 use Rattle.unit_nearest.specs.Doubles.{unit_within}
 use Rattle.unit_types.specs.declared.TypeRow.{TypeRow}

@@ -1,6 +1,5 @@
 -- `unit_measure::parts_of` meets its contract: in each arm the case is known.
 use mathlib.Core.Path.{sym, ap, ◌∙◌}
-use borrow.Author.Rules.{rules}
 use Rattle.unit_measure.specs.Measures.{reading_of}
 use Rattle.unit_measure.proofs.parts_of.Goals as goal
 

@@ -2,12 +2,8 @@
 use mathlib.Core.Path.{◌≡◌, ap}
 use Prim.Native.Nat.{ℕ, ◌+◌, ◌^◌, ◌<◌}
 use native.Mathlib.Omega.{arith}
-use borrow.Author.Rules.{rules}
 use Rattle.unit_nearest.specs.Doubles.{hidden}
 use Rattle.unit_nearest.proofs.Steps.{hidden_most}
-use Rattle.unit_nearest.proofs.digits_of.Reads as reads
-use Rattle.unit_nearest.proofs.digits_of.Lts as lts
-use Rattle.unit_nearest.proofs.hidden_bit.Reads as hidden-bit-reads
 use Rattle.unit_nearest.proofs.digits_of.Goals as goal
 
 below : (h x t : ℕ) → h ≡ hidden x → t < 2 ^ 52 → h + t < 2 ^ 53

@@ -5,7 +5,6 @@ use lib.Dec.{T, leb, le→leb}
 use lib.IntN.{ℤ, pos}
 use lib.Ieee.{binary64, of_int, in_float, div}
 use mir.Facts.{to_z-of_z}
-use borrow.Author.Rules.{rules}
 use Rattle.unit_nearest.proofs.Values.{up_to, power_value}
 use Rattle.unit_nearest.proofs.Back.{in_float_lem, quotient_is}
 use Rattle.unit_nearest.proofs.double_of.Goals as goal

@@ -5,15 +5,9 @@ use native.Mathlib.Omega.{arith}
 use lib.IntN.{ℤ, nat_abs}
 use lib.Ieee.Nearest.{closest}
 use mir.Facts.{to_z-of_z}
-use borrow.Author.Rules.{rules}
 use Rattle.unit_nearest.specs.Doubles.{signed, within, hidden}
 use Rattle.unit_nearest.proofs.Signs.{limits_handed}
 use Rattle.unit_nearest.proofs.Steps.{hidden_set, of_subnormal, of_normal}
-use Rattle.unit_nearest.proofs.fields_unit.Reads as reads
-use Rattle.unit_nearest.proofs.fields_unit.Lts as lts
-use Rattle.unit_nearest.proofs.digits_of.Reads as digits-of-reads
-use Rattle.unit_nearest.proofs.placed_unit.Reads as placed-unit-reads
-use Rattle.unit_nearest.proofs.shifted_unit.Reads as shifted-unit-reads
 use Rattle.unit_nearest.proofs.fields_unit.Goals as goal
 
 -- with the hidden bit the digits are from 2 ^ 52 on

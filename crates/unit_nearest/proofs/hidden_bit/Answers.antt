@@ -1,6 +1,5 @@
 -- `unit_nearest::hidden_bit` meets its contract. Assumes nothing.
 use mathlib.Core.Path.{sym}
-use borrow.Author.Rules.{rules}
 use Rattle.unit_nearest.proofs.Steps.{hidden_set}
 use Rattle.unit_nearest.proofs.hidden_bit.Goals as goal
 

@@ -5,13 +5,9 @@ use native.Mathlib.Nat.{le_of_lt, lt_of_lt_of_le}
 use native.Mathlib.Omega.{arith}
 use lib.Dec.{lit<}
 use lib.Ieee.Nearest.{closest}
-use borrow.Author.Rules.{rules}
 use Rattle.unit_nearest.specs.Doubles.{signed, within}
 use Rattle.unit_nearest.proofs.Signs.{outside, limits_handed}
 use Rattle.unit_nearest.proofs.Steps.{lowered, too_large}
-use Rattle.unit_nearest.proofs.placed_unit.Reads as reads
-use Rattle.unit_nearest.proofs.placed_unit.Lts as lts
-use Rattle.unit_nearest.proofs.shifted_unit.Reads as shifted-unit-reads
 use Rattle.unit_nearest.proofs.placed_unit.Goals as goal
 
 whole : (p : ℕ) → p ≤ 1075 → p + (1075 - p) ≡ 1075

@@ -5,11 +5,7 @@ use native.Mathlib.Omega.{arith}
 use lib.Dec.{lit≤}
 use lib.Pow.{pow_pos, pow_mono}
 use lib.Ieee.Nearest.{closest}
-use borrow.Author.Rules.{rules}
 use Rattle.unit_nearest.proofs.Steps.{rounds, shifted_out, closest_small}
-use Rattle.unit_nearest.proofs.shifted.Reads as reads
-use Rattle.unit_nearest.proofs.shifted.Lts as lts
-use Rattle.unit_nearest.proofs.power.Reads as power-reads
 use Rattle.unit_nearest.proofs.shifted.Goals as goal
 
 -- the unit is from 1 to 2 ^ 63

@@ -2,14 +2,8 @@
 use mathlib.Core.Path.{ap, ◌∙◌}
 use Prim.Native.Nat.{ℕ}
 use lib.IntN.{ℤ}
-use borrow.Author.Rules.{rules}
 use Rattle.unit_nearest.specs.Doubles.{signed, within}
 use Rattle.unit_nearest.proofs.Signs.{handed}
-use Rattle.unit_nearest.proofs.shifted_unit.Reads as reads
-use Rattle.unit_nearest.proofs.shifted_unit.Lts as lts
-use Rattle.unit_nearest.proofs.limited.Reads as limited-reads
-use Rattle.unit_nearest.proofs.shifted.Reads as shifted-reads
-use Rattle.unit_nearest.proofs.signed_of.Reads as signed-of-reads
 use Rattle.unit_nearest.proofs.shifted_unit.Goals as goal
 
 pub returns : goal.returns

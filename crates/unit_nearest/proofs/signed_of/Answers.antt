@@ -7,11 +7,8 @@ use lib.IntN.{ℤ, pos, ◌-ℤ◌}
 use mir.Syntax.{w64}
 use mir.Val.{SFits, of_z, to_z}
 use mir.Facts.{to_z-of_z, to_z_pos}
-use borrow.Author.Rules.{rules}
 use Rattle.unit_nearest.specs.Doubles.{signed}
 use Rattle.unit_nearest.proofs.Signs.{sfits_signed, less_of_zero}
-use Rattle.unit_nearest.proofs.signed_of.Reads as reads
-use Rattle.unit_nearest.proofs.signed_of.Lts as lts
 use Rattle.unit_nearest.proofs.signed_of.Goals as goal
 
 read : (n : ℕ) → n ≤ 2 ^ 53 → to_z w64 n ≡ pos n

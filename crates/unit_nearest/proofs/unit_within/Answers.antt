@@ -9,18 +9,12 @@ use lib.Ieee.Bits.{of_bits-to_bits}
 use lib.Ieee.Scale.{finite}
 use lib.Ieee.Nearest.{closest}
 use mir.Facts.{to_z-of_z}
-use borrow.Author.Rules.{rules}
 use Rattle.unit_nearest.specs.Doubles.{signed, mant, unit_within}
 use Rattle.unit_nearest.specs.Steps.{fields_of, fields_unit}
 use Rattle.unit_nearest.specs.declared.Fields.{Fields}
 use Rattle.unit_nearest.proofs.Claims.{number_bits}
 use Rattle.unit_nearest.proofs.Signs.{limits_handed}
 use Rattle.unit_nearest.proofs.Steps.{field_small, fraction_small, not_finite, a_number}
-use Rattle.unit_nearest.proofs.unit_within.Reads as reads
-use Rattle.unit_nearest.proofs.unit_within.Lts as lts
-use Rattle.unit_nearest.proofs.fields_of.Reads as fields-of-reads
-use Rattle.unit_nearest.proofs.fields_unit.Reads as fields-unit-reads
-use Rattle.unit_nearest.proofs.is_finite.Reads as is-finite-reads
 use Rattle.unit_nearest.proofs.unit_within.Goals as goal
 
 -- the unit before its limits

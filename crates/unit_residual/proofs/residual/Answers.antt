@@ -1,6 +1,5 @@
 -- `unit_residual::residual` meets its contract.
 use mathlib.Core.Path.{ap, ◌∙◌}
-use borrow.Author.Rules.{rules}
 use Rattle.unit_residual.specs.Residuals.{residual_by, residual_of}
 use Rattle.unit_types.proofs.Rows.{narrow_row}
 use Rattle.unit_residual.proofs.residual.Goals as goal

@@ -2,7 +2,6 @@
 use mir.Syntax.{w64}
 use mathlib.Core.Path.{refl, sym, ap, ap₂, ◌∙◌}
 use mir.Facts.{to_z-of_z}
-use borrow.Author.Rules.{rules}
 use Rattle.num_whole.specs.Answer.{given}
 use Rattle.num_whole.proofs.Cases.{yes, no, holds, fails}
 use Rattle.unit_nearest.specs.Doubles.{told_nearest}
@@ -14,8 +13,7 @@ use Rattle.unit_residual.proofs.residual_by.Goals as goal
 
 pub apart-requires : goal.apart-requires
 apart-requires c =
-    let r = c.args.row in
-    (
+    let r = c.args.row in (
       word_within c.in-Whole.p (inside_small r c.args.observed _ c.requires (sym c.unit_in-o.ensures ∙ ap told_nearest c.in-Whole.is)),
       word_within c.in-Whole-c-2.q (inside_small r c.args.computed _ c.requires (sym c.unit_in-c.ensures ∙ ap told_nearest c.in-Whole-c-2.is)),
     )

@@ -6,7 +6,6 @@ use lib.IntN.{ℤ, nat_abs, ◌-ℤ◌}
 use mir.Syntax.{w64}
 use mir.Val.{SFits, of_z, to_z}
 use mir.Facts.{to_z-of_z}
-use borrow.Author.Rules.{rules}
 use Rattle.num_whole.proofs.Cases.{yes, no}
 use Rattle.unit_types.specs.declared.TypeRow.{TypeRow}
 use Rattle.unit_turn.specs.Turning.{on_circle, brought, apart_by}

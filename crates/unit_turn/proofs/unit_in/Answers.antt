@@ -2,7 +2,6 @@
 use mathlib.Core.Path.{ap₂, ◌∙◌}
 use mir.Syntax.{w64}
 use mir.Facts.{to_z-of_z}
-use borrow.Author.Rules.{rules}
 use Rattle.num_whole.proofs.Ints.{within_fits}
 use Rattle.unit_nearest.specs.Doubles.{unit_within}
 use Rattle.unit_turn.proofs.unit_in.Goals as goal

@@ -1,5 +1,4 @@
 -- `unit_types::is_type` meets its contract.
-use borrow.Author.Rules.{rules}
 use Rattle.unit_types.specs.Types.{is_type}
 use Rattle.unit_types.proofs.is_type.Goals as goal
 

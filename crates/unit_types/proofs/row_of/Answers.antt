@@ -1,6 +1,5 @@
 -- `unit_types::row_of` meets its contract: the test of the type is the definition's.
 use mathlib.Core.Path.{refl, ap, sym, ◌∙◌}
-use borrow.Author.Rules.{rules}
 use Rattle.num_whole.specs.Answer.{given}
 use Rattle.num_whole.proofs.Cases.{yes, no}
 use Rattle.unit_types.specs.Types.{row_at}

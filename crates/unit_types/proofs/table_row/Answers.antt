@@ -1,6 +1,5 @@
 -- `unit_types::table_row` meets its contract: each arm has the row at its place in the list, and what no arm names is 1 or no type.
 use mathlib.Core.Path.{sym, ap, ◌∙◌}
-use borrow.Author.Rules.{rules}
 use Rattle.unit_types.specs.Types.{row_of_type}
 use Rattle.unit_types.proofs.Rows.{past, other}
 use Rattle.unit_types.proofs.table_row.Goals as goal

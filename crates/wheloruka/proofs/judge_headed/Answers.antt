@@ -4,7 +4,6 @@ use Rattle.arc_heading.specs.Judge.{judged}
 use Rattle.refusal.specs.Told.{told_verdict}
 use Rattle.call_heading.specs.Lent.{heading_in, head_number}
 use Rattle.wheloruka.proofs.Writes.{headed_head, headed_judged, headed_tally, headed_none}
-use borrow.Author.Rules.{rules}
 use Rattle.wheloruka.proofs.judge_headed.Lts
 use Rattle.wheloruka.proofs.judge_headed.Reads
 use Rattle.wheloruka.proofs.judge_headed.Tie

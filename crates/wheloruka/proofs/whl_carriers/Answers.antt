@@ -2,7 +2,6 @@
 use mathlib.Core.Path.{sym, ap₂, ◌∙◌}
 use Rattle.take_state.specs.State.{state_of, carriers_of}
 use Rattle.wheloruka.proofs.Calls.{carriers_short, carriers_whole}
-use borrow.Author.Rules.{rules}
 use Rattle.wheloruka.proofs.whl_carriers.Goals as goal
 
 pub returns-then-has_both : goal.returns-then-has_both

@@ -2,7 +2,6 @@
 use mathlib.Core.Path.{sym, ap₂, ◌∙◌}
 use Rattle.take_state.specs.State.{state_of, carries_of}
 use Rattle.wheloruka.proofs.Calls.{carries_short, carries_whole}
-use borrow.Author.Rules.{rules}
 use Rattle.wheloruka.proofs.whl_carries.Goals as goal
 
 pub returns-then-has_both : goal.returns-then-has_both

@@ -2,7 +2,6 @@
 use Rattle.call_numbers.specs.Given.{cell_numbers}
 use Rattle.wheloruka.specs.Numbers.{cell_values}
 use Rattle.wheloruka.proofs.Numbers.{as_told}
-use borrow.Author.Rules.{rules}
 use Rattle.wheloruka.proofs.whl_cell_at.Goals as goal
 
 pub returns : goal.returns

@@ -2,7 +2,6 @@
 use Rattle.call_numbers.specs.Given.{date_numbers}
 use Rattle.wheloruka.specs.Numbers.{date_values}
 use Rattle.wheloruka.proofs.Numbers.{as_told}
-use borrow.Author.Rules.{rules}
 use Rattle.wheloruka.proofs.whl_date_of_day.Goals as goal
 
 pub returns : goal.returns

@@ -2,7 +2,6 @@
 use Rattle.call_rooms.specs.Result.{one}
 use Rattle.wheloruka.specs.Numbers.{day_values}
 use Rattle.wheloruka.proofs.Numbers.{as_told}
-use borrow.Author.Rules.{rules}
 use Rattle.wheloruka.proofs.whl_day_of_date.Goals as goal
 
 pub returns : goal.returns

@@ -6,7 +6,6 @@ use Rattle.call_rooms.specs.Result.{one}
 use Rattle.unit_convert.specs.Units.{double_of}
 use Rattle.wheloruka.specs.Numbers.{double_values}
 use Rattle.wheloruka.proofs.Numbers.{as_told}
-use borrow.Author.Rules.{rules}
 use Rattle.wheloruka.proofs.whl_double_of.Goals as goal
 
 pub returns : goal.returns

@@ -4,7 +4,6 @@ use Rattle.refusal.specs.First.{answered}
 use Rattle.refusal.specs.Told.{told_verdict}
 use Rattle.take_state.specs.State.{state_of, state_number}
 use Rattle.wheloruka.proofs.Calls.{number_short, number_done, number_refused}
-use borrow.Author.Rules.{rules}
 use Rattle.wheloruka.proofs.whl_judge.Goals as goal
 
 pub returns-in-Sound : goal.returns-in-Sound

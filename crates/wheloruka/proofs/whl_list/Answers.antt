@@ -3,7 +3,6 @@ use mathlib.Core.Path.{sym}
 use lib.Seq.{length-take-le}
 use Rattle.list.specs.Listing.{list_answer, list_left}
 use Rattle.wheloruka.proofs.Writes.{gives, list_none}
-use borrow.Author.Rules.{rules}
 use Rattle.wheloruka.proofs.whl_list.Goals as goal
 
 pub slice_bounds-list-end-2 : goal.slice_bounds-list-end-2

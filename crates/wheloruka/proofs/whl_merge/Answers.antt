@@ -4,7 +4,6 @@ use lib.Seq.{length-take-le}
 use Rattle.merge.specs.Files.{merge_answer, merge_left}
 use Rattle.call_files.specs.Writing.{merge_call_number}
 use Rattle.wheloruka.proofs.Writes.{gives, merge_none}
-use borrow.Author.Rules.{rules}
 use Rattle.wheloruka.proofs.whl_merge.Goals as goal
 
 pub slice_bounds-merge-end-2 : goal.slice_bounds-merge-end-2

@@ -5,7 +5,6 @@ use mathlib.Core.Bool.{false}
 use Rattle.norm_move.specs.Move.{move_answer, move_left}
 use Rattle.call_files.specs.Writing.{move_call_number}
 use Rattle.wheloruka.proofs.Writes.{gives, move_none}
-use borrow.Author.Rules.{rules}
 use Rattle.wheloruka.proofs.whl_normal_old.Goals as goal
 
 pub slice_bounds-old-end-2 : goal.slice_bounds-old-end-2

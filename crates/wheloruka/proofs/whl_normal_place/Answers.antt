@@ -2,7 +2,6 @@
 use mathlib.Core.Path.{◌∙◌}
 use Rattle.norm_read.specs.Normal.{read_normal}
 use Rattle.wheloruka.proofs.Files.{normal_place}
-use borrow.Author.Rules.{rules}
 use Rattle.wheloruka.proofs.whl_normal_place.Goals as goal
 
 pub returns : goal.returns

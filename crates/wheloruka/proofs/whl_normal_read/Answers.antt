@@ -3,7 +3,6 @@ use mathlib.Core.Path.{ap}
 use Rattle.byte_section.specs.Told.{told_answer}
 use Rattle.call_rooms.proofs.Rooms.{as_given, as_refused}
 use Rattle.wheloruka.proofs.Files.{normal_good, normal_bad}
-use borrow.Author.Rules.{rules}
 use Rattle.wheloruka.proofs.whl_normal_read.Goals as goal
 
 pub returns-in-Refused : goal.returns-in-Refused

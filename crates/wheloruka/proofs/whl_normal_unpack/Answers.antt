@@ -2,7 +2,6 @@
 use mathlib.Core.Path.{◌∙◌}
 use Rattle.norm_unpack.specs.Unpack.{unpack_normal}
 use Rattle.wheloruka.proofs.Writes.{judged_number_lem}
-use borrow.Author.Rules.{rules}
 use Rattle.wheloruka.proofs.whl_normal_unpack.Goals as goal
 
 pub returns : goal.returns

@@ -3,7 +3,6 @@ use mathlib.Core.Path.{sym}
 use lib.Seq.{length-take-le}
 use Rattle.norm_write.specs.Write.{write_normal, normal_left_in}
 use Rattle.wheloruka.proofs.Writes.{gives, write_none}
-use borrow.Author.Rules.{rules}
 use Rattle.wheloruka.proofs.whl_normal_write.Goals as goal
 
 pub slice_bounds-write-end-2 : goal.slice_bounds-write-end-2

@@ -7,7 +7,6 @@ use Rattle.norm_state.specs.OfState.{file_of, state_left_in}
 use Rattle.wheloruka.specs.Taking.{lent}
 use Rattle.wheloruka.specs.Writing.{headed_number, state_file, state_file_left}
 use Rattle.wheloruka.proofs.Writes.{gives, keeps, file_whole, left_whole, file_headed, left_headed, state_none}
-use borrow.Author.Rules.{rules}
 use Rattle.wheloruka.proofs.whl_of_state.Goals as goal
 
 pub slice_bounds-of_state-end-then-k-eq0 : goal.slice_bounds-of_state-end-then-k-eq0

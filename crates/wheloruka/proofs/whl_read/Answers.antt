@@ -4,7 +4,6 @@ use lib.ListN.{length}
 use Rattle.arc_read.specs.Arc.{read_arc}
 use Rattle.call_files.specs.Reading.{read_number, heading_left, places_left}
 use Rattle.wheloruka.proofs.Files.{arc_is, arc_fits}
-use borrow.Author.Rules.{rules}
 use Rattle.wheloruka.proofs.whl_read.Goals as goal
 
 pub give_arc-requires : goal.give_arc-requires

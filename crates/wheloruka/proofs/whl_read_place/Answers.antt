@@ -2,7 +2,6 @@
 use mathlib.Core.Path.{◌∙◌}
 use Rattle.arc_read.specs.Arc.{read_arc}
 use Rattle.wheloruka.proofs.Files.{arc_place}
-use borrow.Author.Rules.{rules}
 use Rattle.wheloruka.proofs.whl_read_place.Goals as goal
 
 pub returns : goal.returns

@@ -4,7 +4,6 @@ use Rattle.refusal.specs.First.{answered}
 use Rattle.refusal.specs.Told.{told_verdict}
 use Rattle.take_state.specs.State.{room_number, started}
 use Rattle.wheloruka.proofs.Calls.{short, done, kept, start_kept}
-use borrow.Author.Rules.{rules}
 use Rattle.wheloruka.proofs.whl_start.Goals as goal
 
 pub returns-in-Sound : goal.returns-in-Sound

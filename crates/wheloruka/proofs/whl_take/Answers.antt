@@ -4,7 +4,6 @@ use Rattle.refusal.specs.First.{answered}
 use Rattle.take_state.specs.State.{state_of}
 use Rattle.take_laws.specs.Taking.{take_answer, take_step}
 use Rattle.wheloruka.proofs.Calls.{short, gives, take_kept}
-use borrow.Author.Rules.{rules}
 use Rattle.wheloruka.proofs.whl_take.Goals as goal
 
 pub returns-then-has_both : goal.returns-then-has_both

@@ -6,7 +6,6 @@ use Rattle.take_state.specs.State.{state_of}
 use Rattle.take_laws.specs.Taking.{run_number, run_state, run_answers}
 use Rattle.take.proofs.Answers.{state_left}
 use Rattle.wheloruka.proofs.Calls.{short, gives, answers_short, answers_whole}
-use borrow.Author.Rules.{rules}
 use Rattle.wheloruka.proofs.whl_take_run.Goals as goal
 
 pub returns-then-has_both : goal.returns-then-has_both

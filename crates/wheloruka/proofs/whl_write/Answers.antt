@@ -4,7 +4,6 @@ use lib.Seq.{length-take-le}
 use Rattle.call_files.specs.Arcs.{arc_file, arc_left}
 use Rattle.call_files.proofs.Arcs.{arc_none}
 use Rattle.wheloruka.proofs.Writes.{gives}
-use borrow.Author.Rules.{rules}
 use Rattle.wheloruka.proofs.whl_write.Goals as goal
 
 pub slice_bounds-write_arc-end-2 : goal.slice_bounds-write_arc-end-2

@@ -1,5 +1,4 @@
 -- `cells::table::entry` meets its contract: the test of the table's agreement with the index rules passes, which the checker computes.
-use borrow.Author.Rules.{rules}
 use mathlib.Core.Bool.{true}
 use mathlib.Core.Path.{◌≡◌, refl}
 use Rattle.num_whole.specs.Tests.{less, up_to, same, pick, both, between}
