@@ -1,6 +1,6 @@
 -- Document 01: a heading that is handed in, of any values, is refused by 2, then 4, then 5, over the whole heading, or is sound. Slots past
 -- the counts are not looked at.
-use Rattle.std.specs.Prelude.{ℕ, ◌+◌, List, ◌∷◌, map, Bool, take}
+use Rattle.std.specs.Prelude.{ℕ, ◌+◌, List, [], ◌∷◌, map, Bool, take}
 use Rattle.num_whole.specs.Tests.{same, pick, both}
 use Rattle.num_whole.specs.Answer.{Answered, given, refused}
 use Rattle.num_whole.specs.Lists.{all, ascend}

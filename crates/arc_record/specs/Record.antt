@@ -1,6 +1,6 @@
 -- Document 01, 'Arc file': "Records, each 32 + 2P bytes for P parameters: station u16, sigma s u16 in steps, type u32, day u32, ms u32, observed
 -- f64, computed f64, P partials i16".
-use Rattle.std.specs.Prelude.{ℕ, zero, suc, ◌+◌, ◌*◌, List, ◌∷◌, length, take, drop, ℤ}
+use Rattle.std.specs.Prelude.{ℕ, zero, suc, ◌+◌, ◌*◌, List, [], ◌∷◌, length, take, drop, ℤ}
 use Rattle.std.specs.Float.{binary64}
 use Rattle.std.specs.Float.Ieee.{of_bits}
 use Rattle.std.specs.Int.{w16}

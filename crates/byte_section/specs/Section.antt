@@ -1,6 +1,6 @@
 -- Document 01: "Files are read left to right: a section's count (1, 2), then its records one by one, each 1, 4, 5; then 3" and "A reading
 -- refusal adds a place: for 1 the length, else the first byte of the count, record or surplus." One definition for every kind of record.
-use Rattle.std.specs.Prelude.{ℕ, zero, suc, ◌+◌, ◌-◌, List, ◌∷◌, ◌++◌, Bool, length}
+use Rattle.std.specs.Prelude.{ℕ, zero, suc, ◌+◌, ◌-◌, List, [], ◌∷◌, ◌++◌, Bool, length}
 use Rattle.num_whole.specs.Tests.{less, up_to, pick, between}
 use Rattle.num_whole.specs.Answer.{Judged, good, bad}
 use Rattle.byte_words.specs.Words.{word}

@@ -1,6 +1,6 @@
 -- Document 01: how a file that is written is answered. "Writing: 2, 4, 5, 6, .. 20": 20 comes last. "For 20, needed is the length of the bytes
 -- written". "A longer buffer keeps its rest. A refusal changes nothing lent."
-use Rattle.std.specs.Prelude.{ℕ, List, ◌∷◌, length}
+use Rattle.std.specs.Prelude.{ℕ, List, [], ◌∷◌, length}
 use Rattle.num_whole.specs.Tests.{less}
 use Rattle.num_whole.specs.Answer.{Answered}
 use Rattle.refusal.specs.First.{when, first, answered}

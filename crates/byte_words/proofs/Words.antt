@@ -1,7 +1,7 @@
 -- Laws of words in bytes, over the width: reading, writing, and that each undoes the other.
 -- Assumes nothing.
 use mathlib.Core.Path.{◌≡◌, refl, sym, ap, ap₂, ◌∙◌}
-use mathlib.Core.List.{List, ◌∷◌, ◌++◌}
+use mathlib.Core.List.{List, [], ◌∷◌, ◌++◌}
 use Prim.Native.Nat.{ℕ, zero, suc, ◌+◌, ◌*◌, ◌-◌, ◌/◌, ◌%◌, ◌^◌, ◌<◌, ◌≤◌, min}
 use native.Mathlib.Nat.{pow-suc, pow-zero, pow-le-pow_right, add-suc, suc-add, add-zero, zero-add, sub_self, mul_assoc, le_refl, mul_comm, one-mul, div-one, div-div-eq-div-mul, div-add-mod'}
 use native.Mathlib.Numerals.{add-one}

@@ -1,5 +1,5 @@
 -- Document 01, 'Arc file': "Little-endian." Words of k bytes at a place of a list of bytes, read and written, one definition for every width.
-use Rattle.std.specs.Prelude.{List, ◌∷◌, ℕ, zero, suc, ◌+◌, ◌*◌, ◌/◌, ◌%◌, ℤ, get_or}
+use Rattle.std.specs.Prelude.{List, [], ◌∷◌, ℕ, zero, suc, ◌+◌, ◌*◌, ◌/◌, ◌%◌, ℤ, get_or}
 use Rattle.std.proofs.lemmas.List.Edits.{sets}
 use Rattle.std.specs.Int.{Width}
 use mir.Val.{to_z, of_z, bytes}

@@ -1,7 +1,7 @@
 -- What the call that writes an arc file answers and leaves, for a heading in lent bytes. Document 01: "Writing: 2, 4, 5, 6, 1 where a lent run of
 -- records ends inside one, 20." So 20 for the heading's own room comes as late as the judging allows: its two numbers must be there for 2, and all
 -- of it for 4.
-use Rattle.std.specs.Prelude.{ℕ, List, ◌∷◌, length}
+use Rattle.std.specs.Prelude.{ℕ, List, [], ◌∷◌, length}
 use Rattle.num_whole.specs.Tests.{up_to}
 use Rattle.num_whole.specs.Answer.{Answered}
 use Rattle.byte_words.specs.Words.{lay}

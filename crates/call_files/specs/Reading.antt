@@ -1,6 +1,6 @@
 -- What the calls that read an arc file answer and leave. Document 01: "An entry that unpacks into lent room gives 20 last, with the length as
 -- place."
-use Rattle.std.specs.Prelude.{ℕ, List, ◌∷◌, Bool, length}
+use Rattle.std.specs.Prelude.{ℕ, List, [], ◌∷◌, Bool, length}
 use Rattle.num_whole.specs.Tests.{up_to, pick, both}
 use Rattle.num_whole.specs.Answer.{Judged, good, bad}
 use Rattle.num_whole.specs.Lists.{over}

@@ -1,7 +1,7 @@
 -- A heading in lent bytes, for callers that hand in numbers and slices only: where each value stands. Every list of bytes is a heading, since a
 -- byte past the end counts as 0. Document 01: "for a heading, state, system or record in lent room, a length that
 -- docs/ fixes by its numbers of parameters, stations and arcs alone (a number past its capacity standing as the capacity)".
-use Rattle.std.specs.Prelude.{ℕ, ◌+◌, ◌*◌, min, List, ◌∷◌, ◌++◌, Bool, length}
+use Rattle.std.specs.Prelude.{ℕ, ◌+◌, ◌*◌, min, List, [], ◌∷◌, ◌++◌, Bool, length}
 use Rattle.num_limits.specs.Capacities.{parameters_most, stations_most}
 use Rattle.num_whole.specs.Tests.{up_to, both}
 use Rattle.refusal.specs.First.{unless, first}

@@ -1,5 +1,5 @@
 -- The values that calls for days and cells put into lent room, in the order of the definitions they name; the residual by a type's number.
-use Rattle.std.specs.Prelude.{ℕ, List, ◌∷◌, ℤ, Float}
+use Rattle.std.specs.Prelude.{ℕ, List, [], ◌∷◌, ℤ, Float}
 use Rattle.num_whole.specs.Tests.{same, pick}
 use Rattle.num_whole.specs.Answer.{Answered, given, refused}
 use Rattle.days.specs.declared.Date.{Date}

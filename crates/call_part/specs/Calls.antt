@@ -1,7 +1,7 @@
 -- What the calls for an arc file in parts answer and leave, for a position and a state in lent room, of any values. 20 comes first where a position,
 -- a tally or the room for two numbers is not there whole. "A longer buffer keeps its rest. A refusal changes nothing lent", but for a refusal in the
 -- file's form: the records completed before it stay taken.
-use Rattle.std.specs.Prelude.{ℕ, List, ◌∷◌, Bool, ℤ, length}
+use Rattle.std.specs.Prelude.{ℕ, List, [], ◌∷◌, Bool, ℤ, length}
 use Rattle.num_whole.specs.Tests.{up_to, same, pick, both}
 use Rattle.byte_words.specs.Words.{lay}
 use Rattle.refusal.specs.First.{unless, first}

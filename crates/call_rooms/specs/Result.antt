@@ -1,6 +1,6 @@
 -- Results in lent room, one element a value, for every entry and every type of element. Document 01: 20 is "a lent buffer shorter than needed";
 -- "A longer buffer keeps its rest. A refusal changes nothing lent."
-use Rattle.std.specs.Prelude.{ℕ, List, ◌∷◌, length}
+use Rattle.std.specs.Prelude.{ℕ, List, [], ◌∷◌, length}
 use Rattle.num_whole.specs.Tests.{less, pick}
 use Rattle.num_whole.specs.Lists.{over}
 use Rattle.num_whole.specs.Answer.{Answered, given, refused}

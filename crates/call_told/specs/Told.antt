@@ -1,5 +1,5 @@
 -- What an entry for an arc file in parts told, in numbers.
-use Rattle.std.specs.Prelude.{ℕ, List, ◌∷◌, Bool, true, false}
+use Rattle.std.specs.Prelude.{ℕ, List, [], ◌∷◌, Bool, true, false}
 use Rattle.num_whole.specs.Tests.{up_to}
 use Rattle.num_whole.specs.Lists.{over}
 use Rattle.arc_heading.specs.declared.Heading.{Heading}

@@ -1,6 +1,6 @@
 -- Document 02, #103: "UTC days are not all alike." The days that end in a leap second, and of each day its length, its last millisecond and
 -- its start.
-use Rattle.std.specs.Prelude.{ℕ, ◌+◌, ◌-◌, ◌*◌, Bool, false, List, ◌∷◌}
+use Rattle.std.specs.Prelude.{ℕ, ◌+◌, ◌-◌, ◌*◌, Bool, false, List, [], ◌∷◌}
 use Rattle.num_whole.specs.Tests.{less, same, pick, either}
 use Rattle.days.specs.declared.Date.{Date}
 use Rattle.days.specs.Calendar.{date_of, day_number}

@@ -1,6 +1,6 @@
 -- Document 01, 'At the edges' 7: numbers as the arc program prints them, in ASCII: decimal digits with no leading zero, a minus before a negative
 -- number.
-use Rattle.std.specs.Prelude.{ℕ, zero, suc, ◌+◌, ◌-◌, ◌*◌, ◌/◌, ◌%◌, List, ◌∷◌, ℤ, pos, negsuc}
+use Rattle.std.specs.Prelude.{ℕ, zero, suc, ◌+◌, ◌-◌, ◌*◌, ◌/◌, ◌%◌, List, [], ◌∷◌, ℤ, pos, negsuc}
 use Rattle.num_whole.specs.Tests.{less, pick}
 
 -- the digits of n before those that stand already, at most so many

@@ -1,5 +1,5 @@
 -- Document 01, 'At the edges' 7: its arc file, with and without its records, and the text that the arc program prints of each, byte by byte.
-use Rattle.std.specs.Prelude.{ℕ, ◌+◌, ◌*◌, ◌^◌, ◌≡◌, List, ◌++◌}
+use Rattle.std.specs.Prelude.{ℕ, ◌+◌, ◌*◌, ◌^◌, ◌≡◌, List, [], ◌++◌}
 use Rattle.byte_words.specs.Words.{bytes_of}
 use Rattle.decimal.specs.Text.{ascii}
 use Rattle.list_run.specs.Runs.{listing}

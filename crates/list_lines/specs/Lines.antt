@@ -2,7 +2,7 @@
 -- number and tally, ascending. With no records, line 3 is `3 0 unseen 0 0`. A refused file prints only `refused N at PLACE`". 02, #105: "The
 -- listing adds the number after the right side: `3 0 seen 147456 50331648 1`", the number of stations that have a mark; it stands on unseen
 -- lines too (docs/DECISIONS.md, R13). Every line ends in one newline; numbers with tally 0 are left out.
-use Rattle.std.specs.Prelude.{ℕ, zero, suc, Bool, List, ◌∷◌, ◌++◌, ℤ, pos, length, get_or}
+use Rattle.std.specs.Prelude.{ℕ, zero, suc, Bool, List, [], ◌∷◌, ◌++◌, ℤ, pos, length, get_or}
 use Rattle.num_whole.specs.Tests.{same, pick}
 use Rattle.decimal.specs.Decimal.{decimal, signed_decimal}
 use Rattle.decimal.specs.Text.{ascii}

@@ -1,5 +1,5 @@
 -- A table of counts as answers come in, one after another: each adds one at its own place.
-use Rattle.std.specs.Prelude.{ℕ, ◌+◌, ◌<◌, ◌^◌, List, ◌∷◌, get_or, set}
+use Rattle.std.specs.Prelude.{ℕ, ◌+◌, ◌<◌, ◌^◌, List, [], ◌∷◌, get_or, set}
 
 unfoldable pub counted : List ℕ → List ℕ → List ℕ
 counted table [] = table

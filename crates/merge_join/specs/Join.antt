@@ -1,6 +1,6 @@
 -- Document 01, 'Normal file': "Merging .. unites labels and arcs". Two ascending lists of numbers (arcs, or the keys of labels) united in
 -- order, and where each number of the union stands in the one and in the other.
-use Rattle.std.specs.Prelude.{◌≡◌, List, ◌∷◌, Bool, false, ℕ, ◌<◌, length, get_or}
+use Rattle.std.specs.Prelude.{◌≡◌, List, [], ◌∷◌, Bool, false, ℕ, ◌<◌, length, get_or}
 use Rattle.num_whole.specs.Tests.{less, pick, either}
 use Rattle.byte_words.specs.Words.{lay}
 use Rattle.norm_system.specs.System.{has}

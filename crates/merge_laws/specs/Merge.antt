@@ -1,6 +1,6 @@
 -- Document 01, 'Normal file': "Merging adds sums of like labels, unites labels and arcs, and carries priors over without adding them." All of
 -- it is said by labels, each named by its key, so that no place matters. Uniting the headings stands apart from adding a file's sums.
-use Rattle.std.specs.Prelude.{List, ◌∷◌, map, Bool, not, ℕ, ◌+◌, pos, length, replicate}
+use Rattle.std.specs.Prelude.{List, [], ◌∷◌, map, Bool, not, ℕ, ◌+◌, pos, length, replicate}
 use Rattle.num_limits.specs.Capacities.{arcs_most, labels_most}
 use Rattle.num_whole.specs.Tests.{less, pick, both, either}
 use Rattle.num_whole.specs.Lists.{all}

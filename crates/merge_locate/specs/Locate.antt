@@ -1,6 +1,6 @@
 -- For the proofs of the code alone: no public promise and no law cites this, and an auditor may skip it.
 -- Which of united labels have their sums stored in one file, whose labels stand at a place of its bytes.
-use Rattle.std.specs.Prelude.{ℕ, zero, suc, ◌+◌, ◌*◌, List, ◌∷◌, Bool, not, get_or}
+use Rattle.std.specs.Prelude.{ℕ, zero, suc, ◌+◌, ◌*◌, List, [], ◌∷◌, Bool, not, get_or}
 use Rattle.num_whole.specs.Tests.{less, same, pick, both}
 use Rattle.byte_words.specs.Words.{word}
 

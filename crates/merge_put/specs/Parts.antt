@@ -1,6 +1,6 @@
 -- For the proofs of the code alone: no public promise and no law cites this, and an auditor may skip it.
 -- Merging in the parts that the code has: what it knows of the two files, and the bytes of the merged file in three parts.
-use Rattle.std.specs.Prelude.{◌≡◌, List, ◌∷◌, false, ℕ, ◌≤◌, length}
+use Rattle.std.specs.Prelude.{◌≡◌, List, [], ◌∷◌, false, ℕ, ◌≤◌, length}
 use Rattle.num_limits.specs.Capacities.{arcs_most}
 use Rattle.num_whole.specs.Answer.{Judged, good, bad}
 use Rattle.norm_system.specs.System.{System}

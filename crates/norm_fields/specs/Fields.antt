@@ -1,6 +1,6 @@
 -- For the proofs of the code alone: no public promise and no law cites this, and an auditor may skip it.
 -- The judging of a system's arcs and labels in lent room in the parts that the code has.
-use Rattle.std.specs.Prelude.{ℕ, ◌+◌, ◌^◌, ◌<◌, List, Bool, pos, get_or}
+use Rattle.std.specs.Prelude.{ℕ, ◌+◌, ◌^◌, ◌<◌, List, [], Bool, pos, get_or}
 use Rattle.num_whole.specs.Tests.{up_to, both}
 use Rattle.norm_system.specs.System.{System}
 use Rattle.norm_system.specs.declared.NormalLabel.{NormalLabel}

@@ -1,7 +1,7 @@
 -- For the proofs of the code alone: no public promise and no law cites this, and an auditor may skip it.
 -- A normal file in a form, from another one's bytes: the place of each label among the labels whose sums are stored there, the labels that the
 -- form stores, and their sums gathered from where they stand.
-use Rattle.std.specs.Prelude.{ℕ, suc, ◌+◌, ◌*◌, List, ◌∷◌, Bool, ℤ, length, get_or}
+use Rattle.std.specs.Prelude.{ℕ, suc, ◌+◌, ◌*◌, List, [], ◌∷◌, Bool, ℤ, length, get_or}
 use Rattle.num_whole.specs.Tests.{same, pick}
 use Rattle.num_packed.specs.Sound.{is_zero}
 use Rattle.norm_kinds.specs.Kinds.{Fielded, normal_label_at, fielded_bytes, arc_number_bytes, sum_bytes, totals_at, totals_bytes}

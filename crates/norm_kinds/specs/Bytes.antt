@@ -1,6 +1,6 @@
 -- Document 01, 'Normal file': "Sections, each after its count: arcs ..; parameters ..; matrix sums ..; right sides ..; totals". The bytes of a
 -- whole file, for readers and writers alike: of either form by what it stores, and of the old form, 01's, by its system.
-use Rattle.std.specs.Prelude.{ℕ, List, ◌∷◌, ◌++◌, length}
+use Rattle.std.specs.Prelude.{ℕ, List, [], ◌∷◌, ◌++◌, length}
 use Rattle.byte_words.specs.Words.{bytes_of}
 use Rattle.byte_section.specs.Section.{encoded}
 use Rattle.norm_system.specs.System.{System}

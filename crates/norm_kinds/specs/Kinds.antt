@@ -1,6 +1,6 @@
 -- Document 01, 'Normal file': the four kinds of record of a normal file, as kinds of the generic section. Each has its bytes beside it. Document
 -- 02, #106, gives the labels a second form.
-use Rattle.std.specs.Prelude.{ℕ, ◌+◌, List, ◌∷◌, ◌++◌, map, Bool, true, not, ℤ}
+use Rattle.std.specs.Prelude.{ℕ, ◌+◌, List, [], ◌∷◌, ◌++◌, map, Bool, true, not, ℤ}
 use Rattle.std.specs.Int.{w64}
 use Rattle.num_whole.specs.Tests.{same, pick, both, between}
 use Rattle.byte_words.specs.Words.{word, bytes_of, signed_word, signed_bytes}

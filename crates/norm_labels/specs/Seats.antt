@@ -1,5 +1,5 @@
 -- Numbers in order and their places: those of a normal file are its arcs and the keys of its labels.
-use Rattle.std.specs.Prelude.{List, ◌∷◌, map, Bool, ℕ, suc}
+use Rattle.std.specs.Prelude.{List, [], ◌∷◌, map, Bool, ℕ, suc}
 use Rattle.num_whole.specs.Tests.{same, pick}
 use Rattle.num_whole.specs.Lists.{ascend}
 

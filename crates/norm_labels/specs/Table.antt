@@ -1,5 +1,5 @@
 -- Packed upper triangles by row and column: one of which each sum is given by a function, and the sum that stands in one.
-use Rattle.std.specs.Prelude.{List, ◌∷◌, ◌++◌, ℕ, zero, suc, ℤ, pos}
+use Rattle.std.specs.Prelude.{List, [], ◌∷◌, ◌++◌, ℕ, zero, suc, ℤ, pos}
 use Rattle.num_whole.specs.Tests.{less, up_to, pick}
 use Rattle.num_packed.specs.Sound.{entry}
 

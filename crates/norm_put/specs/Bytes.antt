@@ -1,6 +1,6 @@
 -- For the proofs of the code alone: no public promise and no law cites this, and an auditor may skip it.
 -- The bytes of a normal file in the parts that the code lays one after the other.
-use Rattle.std.specs.Prelude.{ℕ, List, ◌∷◌, ◌++◌, ℤ}
+use Rattle.std.specs.Prelude.{ℕ, List, [], ◌∷◌, ◌++◌, ℤ}
 use Rattle.byte_words.specs.Words.{bytes_of}
 use Rattle.norm_kinds.specs.Kinds.{sum_bytes, totals_bytes}
 use Rattle.norm_kinds.specs.Bytes.{sectioned}

@@ -1,7 +1,7 @@
 -- A normal file of either form that was read is rewritten to the same bytes.
 -- Assumes nothing.
 use mathlib.Core.Path.{◌≡◌, sym, ap, ◌∙◌}
-use mathlib.Core.List.{List, ◌∷◌}
+use mathlib.Core.List.{List, [], ◌∷◌}
 use lib.ListN.{length, get_or, drop, drop_of_length-le}
 use Prim.Native.Nat.{ℕ}
 use Rattle.num_whole.specs.Answer.{good}

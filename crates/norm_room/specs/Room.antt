@@ -1,7 +1,7 @@
 -- Document 01, 'Refusal numbers': "for a heading, state, system or record in lent room, a length that docs/ fixes by its numbers of parameters,
 -- stations and arcs alone (a number past its capacity standing as the capacity), at most .. one element for each value that these papers name
 -- for it". A system in lent room: what stands where, which lengths it wants, and how it is judged.
-use Rattle.std.specs.Prelude.{ℕ, ◌+◌, ◌*◌, List, ◌∷◌, ◌++◌, Bool, true, false, ℤ, length, get_or, take}
+use Rattle.std.specs.Prelude.{ℕ, ◌+◌, ◌*◌, List, [], ◌∷◌, ◌++◌, Bool, true, false, ℤ, length, get_or, take}
 use Rattle.std.proofs.Common.{to_z, of_z}
 use Rattle.std.specs.Int.{w64}
 use Rattle.num_limits.specs.Capacities.{arcs_most, labels_most}

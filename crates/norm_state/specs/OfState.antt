@@ -1,6 +1,6 @@
 -- Document 01, 'Normal file': "A state gives the file of its one arc, accepted being n." "arc 0 for kinds 1 and 2, else a listed arc". "Writing: 2, 4, 5,
 -- 6, .. 20"; a state whose room is too short is 20 before 6, since nothing can be judged of sums that are not there. "A longer buffer keeps its rest. A refusal changes nothing lent."
-use Rattle.std.specs.Prelude.{ℕ, List, ◌∷◌, map, take}
+use Rattle.std.specs.Prelude.{ℕ, List, [], ◌∷◌, map, take}
 use Rattle.num_whole.specs.Tests.{up_to, pick}
 use Rattle.num_whole.specs.Answer.{Answered}
 use Rattle.refusal.specs.First.{unless, number_in, first}

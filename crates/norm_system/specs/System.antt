@@ -1,6 +1,6 @@
 -- Document 01, 'Normal file': what a normal file holds, the limits and the order of its labels, and which sums are sound; document 02, #106,
 -- for the small form.
-use Rattle.std.specs.Prelude.{ℕ, ◌+◌, ◌*◌, ◌^◌, List, ◌∷◌, Bool, false, ℤ, pos, length}
+use Rattle.std.specs.Prelude.{ℕ, ◌+◌, ◌*◌, ◌^◌, List, [], ◌∷◌, Bool, false, ℤ, pos, length}
 use Rattle.num_limits.specs.Capacities.{accepted_most, arc_most}
 use Rattle.num_whole.specs.Tests.{less, up_to, same, pick, both, either, between}
 use Rattle.arc_limits.specs.Limits.{index_ok, weight_most}

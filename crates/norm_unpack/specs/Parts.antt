@@ -1,6 +1,6 @@
 -- For the proofs of the code alone: no public promise and no law cites this, and an auditor may skip it.
 -- Unpacking in the parts that the code has: what stands at places of the file's bytes.
-use Rattle.std.specs.Prelude.{ℕ, ◌+◌, ◌*◌, List, ◌∷◌, ◌++◌, Bool}
+use Rattle.std.specs.Prelude.{ℕ, ◌+◌, ◌*◌, List, [], ◌∷◌, ◌++◌, Bool}
 use Rattle.byte_words.specs.Words.{word}
 use Rattle.byte_section.specs.Section.{encoded}
 use Rattle.num_packed.specs.Triangle.{tri}

@@ -1,6 +1,6 @@
 -- Document 01, 'Taking a record': "an accepted record adds w·aᵢ·aⱼ to each matrix sum, w·aᵢ·R to each right side"; "The state holds the packed
 -- upper triangle by columns (source document 003: b11, b12, b22, b13, ..)". The terms of one record, as lists of whole numbers.
-use Rattle.std.specs.Prelude.{List, ◌++◌, map, ℕ, zero, suc, ◌+◌, ℤ, pos, ◌*ℤ◌, get_or, take, length}
+use Rattle.std.specs.Prelude.{List, [], ◌++◌, map, ℕ, zero, suc, ◌+◌, ℤ, pos, ◌*ℤ◌, get_or, take, length}
 
 -- each number times f
 abbrev pub times : ℤ → List ℤ → List ℤ

@@ -1,5 +1,5 @@
 -- Lists that are judged: each element by a test, and their order by a key; lists that are walked over, filled up and put into room.
-use Rattle.std.specs.Prelude.{ℕ, ◌+◌, ◌-◌, List, ◌∷◌, ◌++◌, Bool, true, length, take, drop, replicate}
+use Rattle.std.specs.Prelude.{ℕ, ◌+◌, ◌-◌, List, [], ◌∷◌, ◌++◌, Bool, true, length, take, drop, replicate}
 use Rattle.num_whole.specs.Tests.{up_to, both}
 
 -- each element passes

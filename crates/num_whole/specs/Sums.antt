@@ -1,5 +1,5 @@
 -- Sums of whole numbers over a list, and lists added entry by entry.
-use Rattle.std.specs.Prelude.{List, ◌∷◌, ℕ, ◌≤◌, ℤ, pos, ◌+ℤ◌, nat_abs, get_or}
+use Rattle.std.specs.Prelude.{List, [], ◌∷◌, ℕ, ◌≤◌, ℤ, pos, ◌+ℤ◌, nat_abs, get_or}
 
 -- the sum of what f gives for each element
 unfoldable pub total : {A : Type 0} → (A → ℤ) → List A → ℤ

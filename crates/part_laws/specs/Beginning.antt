@@ -1,6 +1,6 @@
 -- What is known of an arc file by its beginning: its heading and the count of its records, the records that are whole, and what is left of it
 -- when these are taken out. A beginning may itself lack its first records, taken out before.
-use Rattle.std.specs.Prelude.{ℕ, zero, suc, ◌+◌, ◌-◌, ◌*◌, List, ◌∷◌, ◌++◌, length, get_or, take, drop}
+use Rattle.std.specs.Prelude.{ℕ, zero, suc, ◌+◌, ◌-◌, ◌*◌, List, [], ◌∷◌, ◌++◌, length, get_or, take, drop}
 use Rattle.num_whole.specs.Tests.{less, pick}
 use Rattle.num_limits.specs.Capacities.{parameters_most, stations_most, records_most}
 use Rattle.num_whole.specs.Answer.{Judged, good, bad}

@@ -1,5 +1,5 @@
 -- Document 02, #102, the entries: the position by value, what they refuse besides the file's form (28, 20, 6), and what they give and leave.
-use Rattle.std.specs.Prelude.{ℕ, ◌+◌, List, ◌∷◌, ◌++◌, Bool, ℤ, length, take}
+use Rattle.std.specs.Prelude.{ℕ, ◌+◌, List, [], ◌∷◌, ◌++◌, Bool, ℤ, length, take}
 use Rattle.num_whole.specs.Tests.{less, up_to, same, pick, both}
 use Rattle.num_limits.specs.Capacities.{parameters_most, records_most}
 use Rattle.num_whole.specs.Lists.{all, rest, padded}

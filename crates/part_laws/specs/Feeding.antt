@@ -1,6 +1,6 @@
 -- Document 02, #102: "an arc file handed over in parts cut anywhere .. Records are taken as they complete. A call to finish says the file is
 -- over." What a part does to a position and a state, what finish does, and what each says of the file's form.
-use Rattle.std.specs.Prelude.{ℕ, ◌+◌, List, ◌∷◌, ◌++◌, Bool, true, false, length}
+use Rattle.std.specs.Prelude.{ℕ, ◌+◌, List, [], ◌∷◌, ◌++◌, Bool, true, false, length}
 use Rattle.num_whole.specs.Tests.{same, pick}
 use Rattle.num_whole.specs.Answer.{Judged, good, bad}
 use Rattle.byte_section.specs.Section.{and_then}

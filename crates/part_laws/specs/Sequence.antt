@@ -1,5 +1,5 @@
 -- Document 02, #102, the entries one after another: parts handed over from begin on, each with a room of its own for its answers.
-use Rattle.std.specs.Prelude.{ℕ, ◌-◌, ◌≤◌, ◌≡◌, List, ◌∷◌, ◌++◌, map, false, ℤ, length, take, drop}
+use Rattle.std.specs.Prelude.{ℕ, ◌-◌, ◌≤◌, ◌≡◌, List, [], ◌∷◌, ◌++◌, map, false, ℤ, length, take, drop}
 use Rattle.num_whole.specs.Answer.{Judged, good, bad}
 use Rattle.byte_section.specs.Section.{and_then}
 use Rattle.byte_words.specs.Words.{lay}

@@ -3,7 +3,7 @@
 use Prim.Native.Nat.{ℕ}
 use mathlib.Core.Path.{◌≡◌, refl, sym, ap, ◌∙◌}
 use mathlib.Core.Bool.{Bool, true, false}
-use mathlib.Core.List.{List, ◌∷◌}
+use mathlib.Core.List.{List, [], ◌∷◌}
 use Rattle.num_whole.specs.Tests.{same}
 use Rattle.num_whole.specs.Answer.{Answered, given, refused}
 use Rattle.num_whole.proofs.Cases.{yes, no, is_same, not_same, same_true, same_false, by_cases, refused_not}

@@ -1,6 +1,6 @@
 -- Document 01, 'Refusal numbers', with its orders ("Taking: 20, 2, 4, 5, 6, 1, 3, then 10 to 19"): each test has its number, 0 where nothing is
 -- wrong, and the first number that is not 0 is the answer.
-use Rattle.std.specs.Prelude.{ℕ, Bool, List, ◌∷◌}
+use Rattle.std.specs.Prelude.{ℕ, Bool, List, [], ◌∷◌}
 use Rattle.num_whole.specs.Tests.{same, pick}
 use Rattle.num_whole.specs.Answer.{Answered, given, refused}
 

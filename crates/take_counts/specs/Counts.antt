@@ -1,5 +1,5 @@
 -- Document 01, 'Taking a record': "a count for each station", their total, and which counts are sound (6).
-use Rattle.std.specs.Prelude.{ℕ, ◌+◌, ◌≤◌, ◌<◌, List, ◌∷◌, Bool, get_or}
+use Rattle.std.specs.Prelude.{ℕ, ◌+◌, ◌≤◌, ◌<◌, List, [], ◌∷◌, Bool, get_or}
 use Rattle.num_limits.specs.Capacities.{count_most, stations_most}
 use Rattle.num_whole.specs.Tests.{less, up_to, pick, below}
 

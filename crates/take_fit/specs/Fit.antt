@@ -1,6 +1,6 @@
 -- For the proofs of the code alone: no public promise and no law cites this, and an auditor may skip it.
 -- What the code keeps of a record once it fits its heading.
-use Rattle.std.specs.Prelude.{ℕ, ◌≡◌, List, ◌∷◌, ℤ, pos, nat_abs, get_or}
+use Rattle.std.specs.Prelude.{ℕ, ◌≡◌, List, [], ◌∷◌, ℤ, pos, nat_abs, get_or}
 use Rattle.num_whole.specs.Answer.{Answered, given, refused}
 use Rattle.num_whole.specs.Tests.{pick}
 use Rattle.refusal.specs.Number.{number_of}

@@ -1,6 +1,6 @@
 -- For the proofs of the code alone: no public promise and no law cites this, and an auditor may skip it.
 -- What an accepted record adds, and the tests that are left for one that fits its heading.
-use Rattle.std.specs.Prelude.{ℕ, ◌*◌, ◌∷◌, ℤ, pos, ◌*ℤ◌, nat_abs}
+use Rattle.std.specs.Prelude.{ℕ, ◌*◌, [], ◌∷◌, ℤ, pos, ◌*ℤ◌, nat_abs}
 use Rattle.num_limits.specs.Capacities.{count_most}
 use Rattle.num_whole.specs.Answer.{Answered, given, refused}
 use Rattle.num_whole.specs.Tests.{less}

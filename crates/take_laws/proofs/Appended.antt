@@ -1,7 +1,7 @@
 -- A machine's answers to two lists of records, one after the other.
 -- Assumes nothing.
 use mathlib.Core.Path.{◌≡◌, refl, ap}
-use mathlib.Core.List.{List, ◌∷◌, ◌++◌}
+use mathlib.Core.List.{List, [], ◌∷◌, ◌++◌}
 use Rattle.take_laws.specs.Machine.{run, answers}
 
 pub answers_append : {R S A : Type 0} (step : R → S → S) (ans : R → S → A) (s : S) (l m : List R)

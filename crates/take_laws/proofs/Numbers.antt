@@ -3,7 +3,7 @@
 use Prim.Native.Nat.{ℕ}
 use mathlib.Core.Path.{◌≡◌, refl, sym, subst}
 use mathlib.Core.Bool.{Bool, true, false}
-use mathlib.Core.List.{List, ◌∷◌}
+use mathlib.Core.List.{List, [], ◌∷◌}
 use lib.IntN.{ℤ}
 use Rattle.num_whole.specs.Tests.{up_to, same, pick, both, either, between}
 use Rattle.num_whole.specs.Answer.{given, refused}

@@ -4,7 +4,7 @@
 use Prim.Native.Nat.{ℕ, ◌≤◌, ◌<◌}
 use mathlib.Core.Path.{◌≡◌, refl, sym, ap, ap₂, ◌∙◌}
 use mathlib.Core.Bool.{false}
-use mathlib.Core.List.{List, ◌∷◌, ◌++◌, map}
+use mathlib.Core.List.{List, [], ◌∷◌, ◌++◌, map}
 use native.Mathlib.Omega.{arith}
 use Rattle.num_whole.specs.Tests.{less, up_to, same}
 use Rattle.num_whole.proofs.Cases.{by_cases, less_true, less_false, up_to_true, same_true, same_false, is_same, not_same}

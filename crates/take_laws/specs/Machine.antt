@@ -1,5 +1,5 @@
 -- A machine that takes records one by one: where it ends, and what it answers.
-use Rattle.std.specs.Prelude.{List, ◌∷◌}
+use Rattle.std.specs.Prelude.{List, [], ◌∷◌}
 
 module _ {R S : Type 0} (step : R → S → S) where
   -- the state after a list of records

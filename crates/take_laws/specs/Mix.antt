@@ -1,5 +1,5 @@
 -- Lists of records by their station, mixes of them, and what a machine tells each record. Nothing here knows what a record is.
-use Rattle.std.specs.Prelude.{ℕ, zero, suc, ◌<◌, ◌≡◌, Bool, List, ◌∷◌, ◌++◌, map}
+use Rattle.std.specs.Prelude.{ℕ, zero, suc, ◌<◌, ◌≡◌, Bool, List, [], ◌∷◌, ◌++◌, map}
 use Rattle.num_whole.specs.Tests.{same, pick}
 use Rattle.take_laws.specs.Machine.{answers}
 

@@ -1,7 +1,7 @@
 -- Demand 3, order: however the stations' records are mixed, each record gets the same answer as with the stations taken one after another, which
 -- is the one that it gets where its station's records are taken alone, and the sums, counts and last times end the same. A mix keeps each station's
 -- own order; records of no station stand anywhere.
-use Rattle.std.specs.Prelude.{ℕ, ◌<◌, ◌≡◌, List, ◌∷◌, map, ◌↔◌, ℤ, length}
+use Rattle.std.specs.Prelude.{ℕ, ◌<◌, ◌≡◌, List, [], ◌∷◌, map, ◌↔◌, ℤ, length}
 use Rattle.num_limits.specs.Capacities.{stations_most}
 use Rattle.num_whole.specs.Tests.{up_to, same, pick}
 use Rattle.num_whole.specs.Answer.{given}

@@ -1,7 +1,7 @@
 -- Demand 2, silence: "A parameter is reported unseen exactly where its diagonal sum is 0". In sums begun empty that is exactly where each
 -- accepted record has the partial 0 for it; and with no record accepted nothing is seen and every sum is 0. 02, #105: "A parameter is unseen
 -- exactly when it has no mark."
-use Rattle.std.specs.Prelude.{ℕ, ◌≤◌, ◌<◌, ◌≡◌, false, List, ◌↔◌, ℤ, pos, get_or}
+use Rattle.std.specs.Prelude.{ℕ, ◌≤◌, ◌<◌, ◌≡◌, false, List, [], ◌↔◌, ℤ, pos, get_or}
 use Rattle.num_limits.specs.Capacities.{parameters_most}
 use Rattle.num_packed.specs.Sound.{entry}
 use Rattle.arc_heading.specs.declared.Heading.{Heading}

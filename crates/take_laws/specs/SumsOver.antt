@@ -2,7 +2,7 @@
 -- w·aᵢ·R to each right side, w·R² to the square sum, 1 to the station's count". No prior weight stands in it. Entry by entry it is BᵀWB and
 -- BᵀW times the residuals of GEODYN volume 1, section 10.1 (source document 004), where B has a row of partials for each accepted record, W
 -- is diagonal with their weights, and the residuals are their R.
-use Rattle.std.specs.Prelude.{ℕ, ◌≤◌, ◌<◌, ◌≡◌, Bool, false, not, List, ◌∷◌, map, ℤ, pos, ◌*ℤ◌, length, get_or}
+use Rattle.std.specs.Prelude.{ℕ, ◌≤◌, ◌<◌, ◌≡◌, Bool, false, not, List, [], ◌∷◌, map, ℤ, pos, ◌*ℤ◌, length, get_or}
 use Rattle.num_limits.specs.Capacities.{stations_most, types_most, parameters_most}
 use Rattle.num_whole.specs.Sums.{total}
 use Rattle.num_whole.specs.Tests.{either}

@@ -1,5 +1,5 @@
 -- Document 01, 'Taking a record': what is answered to a record, what an accepted one adds, and a run of records.
-use Rattle.std.specs.Prelude.{ℕ, zero, suc, ◌-◌, ◌*◌, ◌/◌, List, ◌∷◌, map, Bool, ℤ, pos, ◌*ℤ◌, nat_abs, length, get_or, take, drop}
+use Rattle.std.specs.Prelude.{ℕ, zero, suc, ◌-◌, ◌*◌, ◌/◌, List, [], ◌∷◌, map, Bool, ℤ, pos, ◌*ℤ◌, nat_abs, length, get_or, take, drop}
 use Rattle.num_limits.specs.Capacities.{count_most, stations_most}
 use Rattle.num_whole.specs.Tests.{less, up_to, same, pick}
 use Rattle.num_whole.specs.Sums.{plus}

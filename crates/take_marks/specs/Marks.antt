@@ -1,7 +1,7 @@
 -- Document 02, #105: "Keep beside the sums, for each parameter, a mark for each station that gave an accepted partial other than zero, and give the
 -- number of stations for each parameter." Document 01: "sixteen station marks in one word per parameter": the mark of the station of row k is
 -- the word's digit of 2^k.
-use Rattle.std.specs.Prelude.{ℕ, zero, suc, ◌+◌, ◌/◌, ◌%◌, ◌^◌, Bool, not, List, ◌∷◌, ℤ, get_or}
+use Rattle.std.specs.Prelude.{ℕ, zero, suc, ◌+◌, ◌/◌, ◌%◌, ◌^◌, Bool, not, List, [], ◌∷◌, ℤ, get_or}
 use Rattle.std.specs.Int.Bits.{bit_or}
 use Rattle.std.specs.Int.Count.{ones}
 use Rattle.num_limits.specs.Capacities.{stations_most}

@@ -1,7 +1,7 @@
 -- Document 01, 'Taking a record': "The state holds the packed upper triangle by columns, the right sides, the square sum, a count for each
 -- station and a table of sixteen rows of ten last times, 0 for none."; 02, #105: "The arc's state gains this table [of marks] and its rule". What
 -- a state is, the empty one, and which states are sound (6).
-use Rattle.std.specs.Prelude.{ℕ, suc, ◌*◌, ◌^◌, min, List, ◌∷◌, Bool, true, false, not, ℤ, pos, length}
+use Rattle.std.specs.Prelude.{ℕ, suc, ◌*◌, ◌^◌, min, List, [], ◌∷◌, Bool, true, false, not, ℤ, pos, length}
 use Rattle.num_limits.specs.Capacities.{parameters_most}
 use Rattle.take_room.specs.Room.{cleared}
 use Rattle.num_whole.specs.Tests.{less, same, pick, both, below}

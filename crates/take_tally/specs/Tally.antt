@@ -1,7 +1,7 @@
 -- Document 01, 'Taking a record': "the square sum, a count for each station and a table of sixteen rows of ten last times, 0 for none."; 02,
 -- #105: "The arc's state gains this table", a word of marks for each parameter. The tally of these, the empty one, and which tallies are
 -- sound (6), with their sums' diagonals too.
-use Rattle.std.specs.Prelude.{ℕ, ◌+◌, ◌*◌, ◌^◌, List, Bool, not, get_or, set, replicate, ℤ}
+use Rattle.std.specs.Prelude.{ℕ, ◌+◌, ◌*◌, ◌^◌, List, [], Bool, not, get_or, set, replicate, ℤ}
 use Rattle.num_limits.specs.Capacities.{stations_most, types_most, parameters_most}
 use Rattle.num_whole.specs.Tests.{less, up_to, same, pick, both, either, below}
 use Rattle.num_whole.specs.Lists.{all}

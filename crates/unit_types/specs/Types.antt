@@ -1,5 +1,5 @@
 -- Document 01, 'Units': the table of the ten types of measurement. Code, promises and laws all read it here.
-use Rattle.std.specs.Prelude.{ℕ, ◌-◌, ◌^◌, Bool, true, false, List, ◌∷◌, ℤ, pos, neg_ℤ, get_or}
+use Rattle.std.specs.Prelude.{ℕ, ◌-◌, ◌^◌, Bool, true, false, List, [], ◌∷◌, ℤ, pos, neg_ℤ, get_or}
 use Rattle.num_whole.specs.Tests.{pick, between}
 use Rattle.num_whole.specs.Answer.{Answered, given, refused}
 use Rattle.refusal.specs.Number.{number_of}

@@ -1,5 +1,5 @@
 -- What the call that reads a normal file puts into lent room.
-use Rattle.std.specs.Prelude.{ℕ, List, ◌∷◌, Bool, length}
+use Rattle.std.specs.Prelude.{ℕ, List, [], ◌∷◌, Bool, length}
 use Rattle.num_whole.specs.Tests.{pick}
 use Rattle.num_whole.specs.Answer.{Answered, given, refused, Judged, good, bad}
 use Rattle.norm_read.specs.Normal.{Normal}

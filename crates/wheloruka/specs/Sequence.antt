@@ -1,6 +1,6 @@
 -- Calls one after the other: what stands in the rooms after each is the very state that the definitions step to. So what is shown of an arc's
 -- records taken one by one, the demands among it, holds of what a caller has in its rooms.
-use Rattle.std.specs.Prelude.{ℕ, ◌<◌, ◌≡◌, false, List, ◌∷◌, ◌++◌, map, ◌↔◌, pos, length, get_or}
+use Rattle.std.specs.Prelude.{ℕ, ◌<◌, ◌≡◌, false, List, [], ◌∷◌, ◌++◌, map, ◌↔◌, pos, length, get_or}
 use Rattle.num_limits.specs.Capacities.{stations_most}
 use Rattle.num_whole.specs.Tests.{same, pick}
 use Rattle.num_whole.specs.Lists.{Each}

@@ -1,6 +1,6 @@
 -- What the calls that take records answer and leave, for a heading and a state in lent room, of any values. 20 comes first where a heading or a
 -- tally is not there whole, since nothing can be judged of it. "A longer buffer keeps its rest. A refusal changes nothing lent."
-use Rattle.std.specs.Prelude.{ℕ, List, ◌∷◌, ℤ}
+use Rattle.std.specs.Prelude.{ℕ, List, [], ◌∷◌, ℤ}
 use Rattle.num_whole.specs.Tests.{same, pick}
 use Rattle.num_whole.specs.Answer.{Answered, refused}
 use Rattle.byte_words.specs.Words.{lay}

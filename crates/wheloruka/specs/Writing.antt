@@ -1,5 +1,5 @@
 -- What the call that writes the normal file of a state in lent room answers and leaves.
-use Rattle.std.specs.Prelude.{ℕ, List, ◌∷◌}
+use Rattle.std.specs.Prelude.{ℕ, List, [], ◌∷◌}
 use Rattle.num_whole.specs.Answer.{Answered}
 use Rattle.refusal.specs.First.{unless, number_in, first}
 use Rattle.byte_section.specs.Writing.{written, written_in}

@@ -1,7 +1,7 @@
 -- `days_leap::of_six` meets its contract: each leaf has the number of days before, since they ascend.
 use native.Mathlib.Omega.{arith}
 use mathlib.Core.Path.{◌≡◌, refl}
-use mathlib.Core.List.{◌∷◌}
+use mathlib.Core.List.{[], ◌∷◌}
 use Prim.Native.Nat.{ℕ, ◌+◌, ◌≤◌, ◌<◌}
 use Rattle.num_whole.specs.Tests.{less}
 use Rattle.days_leap.specs.Leap.{days_before}

@@ -1,6 +1,6 @@
 -- `list_run::put_end` meets its contract.
 use mathlib.Core.Path.{ap, ◌∙◌, subst}
-use mathlib.Core.List.{append-nil}
+use mathlib.Core.List.{[], append-nil}
 use Rattle.byte_section.specs.Told.{told_answer}
 use Rattle.decimal.specs.Laid.{laid}
 use Rattle.list_lines.specs.Lines.{refused_line}

@@ -26,7 +26,7 @@ test c t e =
     let a = c.args in
     let j = c.all.j in
     let o = c.least_of-least in
-    let low = to_z-of_z w64 o.result (record { sfits = o.ok }) ∙ o.ensures in
+    let low = to_z-of_z w64 o.result (record { sfits = o.type_inv }) ∙ o.ensures in
     sym (c.is_broken.ensures a.is_small _ low (omega (arith, tri_next j, tri_within j a.p (omega arith)))) ∙ e
 
 pub all-init : goal.all-init
