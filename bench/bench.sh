@@ -8,14 +8,14 @@
 # It wants the toolchain's rt on the path. What it makes goes to target/bench.
 set -e
 cd "$(dirname "$0")/.."
-kit=$(dirname "$(dirname "$(readlink -f "$(command -v rt)")")"); own=$kit/on/$(uname -m); tools=$own/toolchain; out=target/bench
+kit=$(dirname "$(rt doc)"); tools=$kit/toolchain; out=target/bench
 case ${2:-taking} in
 taking | parts) peer=peer; drive=drive; names='take_run take' ;;
 normal) peer=normal_peer; drive=normal_drive; names='read merge'; of=0 ;;
 small) peer=normal_peer; drive=normal_drive; names='read merge'; of=4 ;;
 *) echo "usage: bench.sh [time | count] [taking | normal], bench.sh count small, bench.sh count parts" >&2; exit 2 ;;
 esac
-rt staticlib bench >/dev/null
+(cd crates/bench && rt lib >/dev/null)
 mkdir -p $out
 cc="$tools/bin/clang --target=x86_64-unknown-linux-gnu -O3 -fPIE -nostdinc -Wall -Wno-unused-parameter"
 qemu=$tools/bin/qemu-x86_64; [ -x "$qemu" ] || qemu=
@@ -25,7 +25,7 @@ for f in $peer $drive; do $cc -c bench/$f.c -o $out/$f.o; done
 link() { # link PAD: the driver with so many bytes before the code
     printf '__asm__(".section .text.pad,\\"axR\\"\\n.skip %d, 0x90\\n");\n' "$1" >$out/pad.c
     $cc -c $out/pad.c -o $out/pad.o
-    "$own/bin/rattle-link" --target x86_64-unknown-linux-gnu --toolchain "$tools" -o $out/bench $out/$drive.o $out/$peer.o $out/pad.o target/staticlib/libbench.a >/dev/null 2>&1
+    "$kit/bin/rattle-link" --target x86_64-unknown-linux-gnu --toolchain "$tools" -o $out/bench $out/$drive.o $out/$peer.o $out/pad.o crates/bench/out/libbench.a >/dev/null 2>&1
 }
 
 instructions() { # instructions ARGS..: how many the driver executes, the loader's among them; a block is cleared by a loop, not by a string instruction whose every byte would count

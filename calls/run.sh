@@ -3,16 +3,15 @@
 # tells what they are. Run by hand; the gate does not run it. It wants the toolchain's rt on the path. What it makes goes to target/calls.
 set -e
 cd "$(dirname "$0")/.."
-kit=$(dirname "$(dirname "$(readlink -f "$(command -v rt)")")"); own=$kit/on/$(uname -m); tools=$own/toolchain; out=target/calls
-rt staticlib wheloruka >/dev/null
+kit=$(dirname "$(rt doc)"); tools=$kit/toolchain; out=target/calls
+(cd crates/wheloruka && rt lib >/dev/null)
 mkdir -p $out
 cc="$tools/bin/clang --target=x86_64-unknown-linux-gnu -O2 -fPIE -nostdinc -Wall -Wextra -Wno-unused-parameter -Icalls/headers -Iinclude"
-qemu=$tools/bin/qemu-x86_64; [ -x "$qemu" ] || qemu=
-run="$qemu $tools/lib/ld-linux-x86-64.so.2 --library-path $tools/lib"
+run="$tools/lib/ld-linux-x86-64.so.2 --library-path $tools/lib"
 
 link() { # link NAME OBJECT..: a program of these objects and the library
     name=$1; shift
-    "$own/bin/rattle-link" --target x86_64-unknown-linux-gnu --toolchain "$tools" -o $out/$name "$@" target/staticlib/libwheloruka.a >/dev/null 2>&1
+    "$kit/bin/rattle-link" --target x86_64-unknown-linux-gnu --toolchain "$tools" -o $out/$name "$@" crates/wheloruka/out/libwheloruka.a >/dev/null 2>&1
 }
 
 # the programs that docs/CALLING.md shows are those that are run

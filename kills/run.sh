@@ -7,10 +7,8 @@ cd "$(dirname "$0")/.."
 runs=${1:-400} work=${2:-target/kills}
 mkdir -p target "$work"
 echo "proving the desk program, if that is not done yet"
-rt check desk >target/kills.log 2>&1 || { cat target/kills.log; exit 1; }
-kit=$(dirname "$(dirname "$(readlink -f "$(command -v rt)")")"); tools=$kit/on/$(uname -m)/toolchain
-run=; [ "$(uname -m)" = x86_64 ] || run="$tools/bin/qemu-x86_64 $tools/lib/ld-linux-x86-64.so.2 --library-path $tools/lib"
-desk="$run $PWD/target/bin/desk"
+(cd crates/desk && rt run -- help) >target/kills.log 2>&1 || { cat target/kills.log; exit 1; }
+desk="$PWD/crates/desk/out/desk"
 cd "$work"
 rm -f A B OUT OUT.part RIGHT
 

@@ -21,10 +21,10 @@ abbrev At-After-struct_known-1 : Type 0
 At-After-struct_known-1 = Lts.After-struct_known Tie.the-claims Reads.Pre Reads.Post Tie.handed_clauses
 
 -- the numbers fit
-record Numbers (c : tie.After-struct-known) : Type 0 where
-  few : (start-of-some c).args.h.parameters ≤ 50
-  start : (start-of-some c).args.start ≤ 956
-  rest : (start-of-some c).args.start + (((start-of-some c).args.n - 1) * record_size (start-of-some c).args.h.parameters + record_size (start-of-some c).args.h.parameters) ≤ (start-of-some c).args.len + length (start-of-some c).args.bytes.now
+record Numbers (c : At-After-struct_known-1) : Type 0 where
+  few : c.args.h.parameters ≤ 50
+  start : c.args.start ≤ 956
+  rest : c.args.start + ((c.args.n - 1) * record_size c.args.h.parameters + record_size c.args.h.parameters) ≤ c.args.len + length c.args.bytes.now
 
 room : (c : At-After-struct_known-1) → length c.args.front ≡ 1088
 room c = c.well_formed.1.1.1.0.1.0.1
@@ -35,15 +35,15 @@ numbers c =
     let pre = (c.requires.t_value, (c.requires.ready, c.requires.n_in_bounds)) in
     record {
       few = few_parameters a.h (state_of a.matrix.now a.rights.now a.t) pre.0;
-      start = low a.h a.count a.start a.t4 a.len a.taken a.n a.bytes.now pre.1.0 (room c);
-      rest = inside_others a.h a.count a.start a.t4 a.len a.taken a.n a.bytes.now pre.1.0 (room c) (a.n - 1) (omega arith);
+      start = low a.h a.count a.start a.front a.len a.taken a.n a.bytes.now pre.1.0 (room c);
+      rest = inside_others a.h a.count a.start a.front a.len a.taken a.n a.bytes.now pre.1.0 (room c) (a.n - 1) (omega arith);
     }
 
 pub returns-then-n-eq0 : goal.returns-then-n-eq0
 unfolding run answers lay
 returns-then-n-eq0 c =
     let a = c.args in
-    let e = none_done a.h a.count a.start a.t4 a.len a.taken a.n a.bytes.now c.requires.ready c.well_formed.1.1.1.0.1.0.1 (omega arith) in record {
+    let e = none_done a.h a.count a.start a.front a.len a.taken a.n a.bytes.now c.requires.ready c.well_formed.1.1.1.0.1.0.1 (omega arith) in record {
       state = ap (run (record_step (frame_of a.h)) (state_of a.matrix.now a.rights.now a.t)) e;
       told = ap (λ x. lay a.answers.now 0 (answers (record_step (frame_of a.h)) (record_answer (frame_of a.h)) (state_of a.matrix.now a.rights.now a.t) x)) e;
     }
@@ -78,8 +78,8 @@ returns c =
     let s = state_of a.matrix.now a.rights.now a.t in
     let one : a.start + size - a.start ≡ size = omega arith in
     let others : a.start + size - a.len + k * size - (a.start + size - a.len) ≡ k * size = omega arith in
-    let e = ap₂ (λ i j. take i (drop a.start a.t4) ∷ cut size k (take j (drop (a.start + size - a.len) a.bytes.now))) one others
-    ∙ some_done a.h a.count a.start a.t4 a.len a.taken a.n a.bytes.now c.requires.ready (room c.before.before.before.before.before.before.before.before.before.before.before) k (omega (arith, c.if-n-eq0.false)) m.few in
+    let e = ap₂ (λ i j. take i (drop a.start a.front) ∷ cut size k (take j (drop (a.start + size - a.len) a.bytes.now))) one others
+    ∙ some_done a.h a.count a.start a.front a.len a.taken a.n a.bytes.now c.requires.ready (room c.before.before.before.before.before.before.before.before.before.before.before) k (omega (arith, c.if-n-eq0.false)) m.few in
     let r = c.take_records in record {
       state = r.ensures.state ∙ ap (run (record_step (frame_of a.h)) s) e;
       told = r.ensures.told ∙ ap (λ x. lay a.answers.now 0 (answers (record_step (frame_of a.h)) (record_answer (frame_of a.h)) s x)) e;

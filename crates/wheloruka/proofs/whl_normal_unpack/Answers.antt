@@ -5,5 +5,9 @@ use Rattle.wheloruka.proofs.Writes.{judged_number_lem}
 use Rattle.wheloruka.proofs.whl_normal_unpack.Goals as goal
 
 pub returns : goal.returns
-returns c =
-    let u = (c.unpack-r.ensures.result_value, (c.unpack-r.ensures.heads_after, (c.unpack-r.ensures.matrix_after, c.unpack-r.ensures.rights_after))) in (c.read_number.ensures ∙ judged_number_lem (unpack_normal _ _ _ _) _ u.0, u.1)
+returns c = record {
+  value = c.read_number.ensures ∙ judged_number_lem (unpack_normal _ _ _ _) _ c.unpack-r.ensures.result_value;
+  heads = c.unpack-r.ensures.heads_after;
+  matrix = c.unpack-r.ensures.matrix_after;
+  rights = c.unpack-r.ensures.rights_after;
+}
