@@ -8,7 +8,9 @@ use Rattle.call_numbers.proofs.give_cell.Goals as goal
 pub returns-in-Is : goal.returns-in-Is
 unfolding cell_numbers
 returns-in-Is c =
-    let got = on_given cell_numbers _ _ _ (ap told_cell c.in-Is.is) (rw c.letter_number.ensures at (c.give_three.ensures.value, c.give_three.ensures.left)) in record {
+    let value = rw c.letter_number.ensures at c.give_three.ensures.value in
+    let left = rw c.letter_number.ensures at c.give_three.ensures.left in
+    let got = on_given cell_numbers _ _ _ (ap told_cell c.in-Is.is) (value, left) in record {
       value = got.0;
       left = got.1;
     }

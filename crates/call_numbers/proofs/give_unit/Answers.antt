@@ -11,7 +11,10 @@ use Rattle.call_numbers.proofs.give_unit.Goals as goal
 pub returns-in-Is : goal.returns-in-Is
 unfolding one
 returns-in-Is c =
-    let q = c.in-Is.q in let got = on_given one _ _ q (ap told_unit c.in-Is.is) (rw (to_z-of_z w64 q (search rules)) at (c.give_unit.ensures.value, c.give_unit.ensures.left)) in record {
+    let q = c.in-Is.q in
+    let value = rw (to_z-of_z w64 q (search rules)) at c.give_unit.ensures.value in
+    let left = rw (to_z-of_z w64 q (search rules)) at c.give_unit.ensures.left in
+    let got = on_given one _ _ q (ap told_unit c.in-Is.is) (value, left) in record {
       value = got.0;
       left = got.1;
     }

@@ -1,5 +1,6 @@
 -- `call_rooms::give_unit` meets its contract.
 use native.Mathlib.Omega.{arith}
+use mathlib.Core.List.{[], ◌∷◌}
 use mir.Syntax.{w64}
 use mir.ValLaws.{to_z-of_z}
 use Rattle.call_rooms.proofs.Rooms.{short, placed}
@@ -14,7 +15,7 @@ returns-then-out-lt1 c =
 
 pub returns : goal.returns
 returns c =
-    let got = rw (to_z-of_z w64 c.args.q c.ranges.q) (placed _ _ (omega arith)) in record {
+    let got = placed (c.args.q ∷ []) c.args.out.now (omega arith) in record {
       value = got.0;
-      left = got.1;
+      left = rw (to_z-of_z w64 c.args.q c.ranges.q) got.1;
     }

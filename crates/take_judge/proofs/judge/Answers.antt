@@ -15,9 +15,10 @@ pub terms_of-requires : goal.terms_of-requires
 terms_of-requires c =
     let x = c.args.x in
     let z = to_z-of_z w64 x.residual (search rules) in
-    let edit = ap (passes_edit _ _ _) (sym z) ∙ sym c.passes_edit.ensures ∙ c.if-passes_edit.true in let got = rw z ((c.requires.level_bound.1, c.requires.level_bound.2, c.requires.step_bound.1, c.requires.level_bound.4), scaled_bound c.args.level x.sigma x.step x.factor x.residual c.requires.level_bound.0 c.requires.level_bound.3 edit) in record {
-      le_sigma = got.0;
-      factor_bound = got.1;
+    let edit = ap (passes_edit _ _ _) (sym z) ∙ sym c.passes_edit.ensures ∙ c.if-passes_edit.true in
+    record {
+      le_sigma = (c.requires.level_bound.1, c.requires.level_bound.2, c.requires.step_bound.1, rw z c.requires.level_bound.4);
+      factor_bound = rw z (scaled_bound c.args.level x.sigma x.step x.factor x.residual c.requires.level_bound.0 c.requires.level_bound.3 edit);
     }
 
 pub returns-then-count-lt256 : goal.returns-then-count-lt256
