@@ -67,13 +67,13 @@ put_column-requires c =
     let j = c.join_column-d in
     let l = c.loop-j in
     let long = ap length j.ensures.0 ∙ length_rows _ _ _ in
-    omega (arith, (fits c.before.before.before.before.before.before).1, ap length (front_take j.new.col l.room (l.j + 1) long) ∙ long)
+    omega (arith, (fits c.before.before.before.before.before).1, ap length (front_take j.new.col l.room (l.j + 1) long) ∙ long)
 
 pub overflow_mul-k : goal.overflow_mul-k
-overflow_mul-k c = omega (arith, (fits c.before.before.before.before.before.before.before.before.before).1)
+overflow_mul-k c = omega (arith, (fits c.before.before.before.before.before.before.before.before).1)
 
 pub overflow_add-k : goal.overflow_add-k
-overflow_add-k c = omega (arith, (fits c.before.before.before.before.before.before.before.before.before).1)
+overflow_add-k c = omega (arith, (fits c.before.before.before.before.before.before.before.before).1)
 
 pub loop-j-preserved : goal.loop-j-preserved
 loop-j-preserved c =
@@ -88,7 +88,7 @@ loop-j-preserved c =
       omega (arith, more),
       omega (arith, l.invariant.1, tri_next l.j),
       ap length e ∙ length_lay _ _ _ ∙ l.invariant.2,
-      front_long j.new.col l.room (l.j + 1) long (fits c.before.before.before.before.before.before.before.before.before).0 ∙ l.invariant.3,
+      front_long j.new.col l.room (l.j + 1) long (fits c.before.before.before.before.before.before.before.before).0 ∙ l.invariant.3,
       j.ensures.1,
       j.ensures.2,
       l.invariant.6 ∙ columns_turn l.out l.k f c.args.count l.j more ∙ ap (λ o. lay o (l.k + 8 * (l.j + 1)) (bytes_in (columns_of f (l.j + 1) (c.args.count - (l.j + 1))))) (sym e),

@@ -30,6 +30,10 @@ scaled : (c : At-After-weight-w) → let a = c.args in to_z w64 (of_z w64 a.resi
 scaled c =
     ap₂ (λ x y. x *ℤ y) (to_z-of_z w64 c.args.residual c.ranges.residual) (to_z_pos w64 c.args.factor (omega (arith, c.requires.le_sigma.2)))
 
+pub overflow_mul-scaled : goal.overflow_mul-scaled
+overflow_mul-scaled c =
+    rw (scaled c) (within_fits w64 (c.args.residual *ℤ pos c.args.factor) (scaled_fits c.args.residual c.args.factor c.requires.le_sigma.3 c.requires.le_sigma.2) tt)
+
 -- the machine's w·R is w·R
 side : (c : At-After-magnitude-size) → let a = c.args in
     to_z w64 c.weight-w.result *ℤ to_z w64 (of_z w64 (to_z w64 (of_z w64 a.residual) *ℤ to_z w64 a.factor)) ≡ pos (weight_of a.sigma) *ℤ (a.residual *ℤ pos a.factor)
@@ -46,10 +50,6 @@ side_small c =
 -- the size of R
 size : (c : At-After-magnitude-size) → let a = c.args in c.magnitude-size.result ≡ nat_abs (a.residual *ℤ pos a.factor)
 size c = c.magnitude-size.ensures ∙ ap nat_abs (to_z-of_z w64 _ (overflow_mul-scaled c.before) ∙ scaled c.before)
-
-pub overflow_mul-scaled : goal.overflow_mul-scaled
-overflow_mul-scaled c =
-    rw (scaled c) (within_fits w64 (c.args.residual *ℤ pos c.args.factor) (scaled_fits c.args.residual c.args.factor c.requires.le_sigma.3 c.requires.le_sigma.2) tt)
 
 pub overflow_mul-result : goal.overflow_mul-result
 overflow_mul-result c = rw (side c) (within_fits w64 _ (side_small c) tt)
