@@ -32,7 +32,7 @@ loop-i-preserved c =
     let f = fielded_by_seat s.is_small s.s.now s.labels s.start s.n s.w.now in
     let e : c.put_fields.new.out ≡ lay l.out (s.at + 24 * l.i) (fielded_bytes (f l.i)) =
     c.put_fields.ensures
-    ∙ (λ i. lay l.out (s.at + 24 * l.i) (fielded_bytes (record { label = c.load_label-l.ensures i; c.before.before.before.before.before.before = c.field_in-field.ensures i }))) in
+    ∙ (λ i. lay l.out (s.at + 24 * l.i) (fielded_bytes (record { label = c.load_label-l.ensures i; field = c.field_in-field.ensures i }))) in
     let next : s.at + 24 * l.i + 24 ≡ s.at + 24 * (l.i + 1) = omega arith in (
       omega arith,
       ap length e ∙ length_lay _ _ _ ∙ l.invariant.1,
