@@ -46,7 +46,7 @@ state-of c = let a = c.args in state_of a.matrix.now a.rights.now a.t
 
 -- a record that fits
 fit_at : (c : At-In-Is) → fitted (frame-of c.before.before.before.before) c.args.bytes.now ≡ given c.in-Is.x
-fit_at c = sym c.fits2.ensures ∙ ap told_fit c.in-Is.is
+fit_at c = sym c.fits.ensures ∙ ap told_fit c.in-Is.is
 
 ready_at : (c : At-In-Is) → Ready (length c.args.numbers.now) c.in-Is.x
 ready_at c = ready (frame-of c.before.before.before.before) _ _ (fit_at c)
@@ -171,7 +171,7 @@ returns-in-Refused c =
     let a = c.args in
     let f = frame-of c.before.before.before.before.before in let s = state-of c.before.before.before.before.before in
     let e = c.in-Refused.e in
-    let n = fit_refused f a.bytes.now s e (sym c.fits2.ensures ∙ ap told_fit c.in-Refused.is) in record {
+    let n = fit_refused f a.bytes.now s e (sym c.fits.ensures ∙ ap told_fit c.in-Refused.is) in record {
       answer_value = answered_by _ tt e n;
       state = sym (step_leaves f a.bytes.now s (λ z. not_none e (sym n ∙ z)));
     }

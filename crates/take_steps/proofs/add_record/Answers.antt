@@ -25,7 +25,7 @@ laid c = c.partials.ensures ∙ ap (λ n. partials_in n c.args.bytes.now) c.requ
 
 pub add_matrix-requires : goal.add_matrix-requires
 add_matrix-requires c =
-    let n : length c.partials.new.out ≡ length c.args.rights.now = ap length (laid c.before.before.before.before.before) ∙ length_partials_in _ _ in record {
+    let n : length c.partials.new.out ≡ length c.args.rights.now = ap length (laid c.before.before.before.before) ∙ length_partials_in _ _ in record {
       a_in_bounds = rw n (rw c.requires.rights_len_bound.1 (omega arith));
       w_le_weight_top = (c.requires.weight_le_weight_top.0, rw n c.requires.rights_len_bound.0);
       a_in_bounds_2 = (rw n (rw c.requires.weight_le_weight_top.2 c.requires.rights_len_bound.0), c.requires.weight_le_weight_top.3);

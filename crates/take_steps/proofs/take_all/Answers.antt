@@ -73,7 +73,7 @@ fit_at : (c : At-In-Is) → fitted (frame-of c.before.before.before) (bytes_of c
 fit_at c =
     let a = c.args in let l = c.loop-i in
     ap (λ k. fitted (frame-of c.before.before.before) (take k (drop l.at a.run.now))) (part_size l.at (32 + 2 * length a.rights.now))
-    ∙ sym c.fits2.ensures ∙ ap told_fit c.in-Is.is
+    ∙ sym c.fits.ensures ∙ ap told_fit c.in-Is.is
 
 ready_at : (c : At-In-Is) → Ready (length c.args.numbers.now) c.in-Is.x
 ready_at c = ready (frame-of c.before.before.before) _ _ (fit_at c)
@@ -260,7 +260,7 @@ loop-i-preserved c =
     let f = frame-of c.before.before.before.before.before in let b = bytes_of c.before.before.before.before.before in let s = state-of c.before.before.before.before.before in
     let size = 32 + 2 * length a.rights.now in
     let e = c.in-Refused.e2 in
-    let n = fit_refused f b s e (ap (λ k. fitted f (take k (drop l.at a.run.now))) (part_size l.at size) ∙ sym c.fits2.ensures ∙ ap told_fit c.in-Refused.is) in
+    let n = fit_refused f b s e (ap (λ k. fitted f (take k (drop l.at a.run.now))) (part_size l.at size) ∙ sym c.fits.ensures ∙ ap told_fit c.in-Refused.is) in
     next c.before.before.before.before.before s c.code-in-Refused.result l.room l.invariant.room_long
     (sym (step_leaves f b s (λ z. not_none e (sym n ∙ z))))
     (c.code-in-Refused.ensures ∙ sym n)
