@@ -15,12 +15,12 @@ returns-then-has_rooms c =
     let lent = sym c.has_rooms.ensures ∙ c.if-has_rooms.true in
     let p = c.position_in-p.ensures in
     let t = c.tally_in-t.ensures in
-    let put = (c.give_parted.ensures.value, (c.give_parted.ensures.position, (c.give_parted.ensures.tally, c.give_parted.ensures.left))) in let got = part_done _ _ _ _ lent _ _ _ _ _
+    let got = part_done _ _ _ _ lent _ _ _ _ _
     (c.part-x.ensures.answer_value ∙ ap₂ (λ p t. part_told p (state_of a.matrix.now a.rights.now t) a.bytes.now (length a.answers.now)) p t)
     (c.part-x.ensures.position ∙ ap₂ (λ p t. part_position p (state_of a.matrix.now a.rights.now t) a.bytes.now (length a.answers.now)) p t)
     (c.part-x.ensures.state ∙ ap₂ (λ p t. part_state p (state_of a.matrix.now a.rights.now t) a.bytes.now (length a.answers.now)) p t)
     (c.part-x.ensures.told ∙ ap₂ (λ p t. part_answers p (state_of a.matrix.now a.rights.now t) a.bytes.now a.answers.now) p t)
-    put.0 put.1.0 put.1.1.0 put.1.1.1 in record {
+    c.give_parted.ensures.value c.give_parted.ensures.position c.give_parted.ensures.tally c.give_parted.ensures.left in record {
       value = got.0;
       left = got.1.0;
       answers = got.1.1.0;

@@ -9,7 +9,7 @@ pub slice_bounds-put_run-end : goal.slice_bounds-put_run-end
 slice_bounds-put_run-end c = sym (length-take-le _ _ (omega (arith, c.least-n.ensures)))
 
 pub put_run-requires : goal.put_run-requires
-put_run-requires c = omega (arith, slice_bounds-put_run-end c.before.before, c.least-n.ensures)
+put_run-requires c = omega (arith, length-take-le _ _ (few c.before.before.before), c.least-n.ensures)
 
 pub returns : goal.returns
 returns c = kept_laid _ _ _ c.least-n.ensures c.put_run.ensures

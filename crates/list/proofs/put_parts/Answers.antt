@@ -70,13 +70,13 @@ pub shape_of-room-in-Refused : goal.shape_of-room-in-Refused
 shape_of-room-in-Refused c = c.put_refused.auto.room ∙ ap length c.loop-at.invariant.1
 
 pub shape_of-matrix-in-Refused : goal.shape_of-matrix-in-Refused
-shape_of-matrix-in-Refused c = c.hear-x.kept.1.0 ∙ c.loop-at.invariant.2 ∙ sym c.requires.0
+shape_of-matrix-in-Refused c = c.hear-x.auto.matrix ∙ c.loop-at.invariant.2 ∙ sym c.requires.0
 
 pub shape_of-rights-in-Refused : goal.shape_of-rights-in-Refused
-shape_of-rights-in-Refused c = c.hear-x.kept.1.1.0 ∙ c.loop-at.invariant.3 ∙ sym c.requires.1
+shape_of-rights-in-Refused c = c.hear-x.auto.rights ∙ c.loop-at.invariant.3 ∙ sym c.requires.1
 
 pub shape_of-table-in-Refused : goal.shape_of-table-in-Refused
-shape_of-table-in-Refused c = c.hear-x.kept.1.1.1.0 ∙ c.loop-at.invariant.4
+shape_of-table-in-Refused c = c.hear-x.auto.table ∙ c.loop-at.invariant.4
 
 pub returns-in-Refused : goal.returns-in-Refused
 returns-in-Refused c =

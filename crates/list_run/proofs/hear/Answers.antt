@@ -21,7 +21,7 @@ pub note-requires : goal.note-requires
 note-requires c =
     let a = c.args in
     countable c.requires.0.0 a.c a.matrix.now a.rights.now a.table.now c.requires.0.1 a.bytes.now c.requires.1
-    c.told_room-told.result (room_long c.before.before.before.before.before.before.before.before) _ c.part-x.ensures.answer_value _ c.part-x.kept.1.1.1.1.1.0
+    c.told_room-told.result (room_long c.before.before.before.before.before.before.before.before) _ c.part-x.ensures.answer_value _ c.part-x.auto.answers
 
 pub returns : goal.returns
 returns c s h =

@@ -23,10 +23,10 @@ returns-then-out-length c =
 
 pub put_file-requires : goal.put_file-requires
 put_file-requires c =
-    let p = (c.requires.as_read, (c.requires.arcs_fit, c.requires.b_value)) in record {
-      as_read = p.0;
-      arcs_fit = p.1.0;
-      b_value = (p.1.1.0, p.1.1.1, omega (arith, c.needed-length.ensures, c.if-out-length.false));
+    record {
+      as_read = c.requires.as_read;
+      arcs_fit = c.requires.arcs_fit;
+      b_value = (c.requires.b_value.0, c.requires.b_value.1, omega (arith, c.needed-length.ensures, c.if-out-length.false));
     }
 
 pub returns : goal.returns

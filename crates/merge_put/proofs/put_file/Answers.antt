@@ -20,22 +20,21 @@ ky c = known _ _ c.requires.as_read.1
 
 pub put_heads-requires : goal.put_heads-requires
 put_heads-requires c =
-    let p = (c.requires.as_read, (c.requires.arcs_fit, c.requires.b_value)) in record {
-      as_read = p.0;
-      arcs_fit = p.1.0;
-      n_le_labels_most = (p.1.1.1, omega arith);
+    record {
+      as_read = c.requires.as_read;
+      arcs_fit = c.requires.arcs_fit;
+      n_le_labels_most = (c.requires.b_value.1, omega arith);
     }
 
 pub put_middle-requires : goal.put_middle-requires
 put_middle-requires c =
-    let p = (c.requires.as_read, (c.requires.arcs_fit, c.requires.b_value)) in record {
-      as_read = p.0;
-      b_value = (p.1.1.0, p.1.0.1);
+    record {
+      as_read = c.requires.as_read;
+      b_value = (c.requires.b_value.0, c.requires.arcs_fit.1);
       n_in_bounds = omega arith;
     }
 
 pub returns : goal.returns
 returns c =
-    let p = (c.requires.as_read, (c.requires.arcs_fit, c.requires.b_value)) in
-    file_put _ _ (kx c.before.before.before.before.before.before.before.before.before.before.before.before.before.before.before.before.before.before.before) _ _ (ky c.before.before.before.before.before.before.before.before.before.before.before.before.before.before.before.before.before.before.before) _ _ _ p.1.0.1 _ p.1.0.0 _ _ _ _ _ _ refl (omega (arith, c.triangle.ensures.0))
+    file_put _ _ (kx c.before.before.before.before.before.before.before.before.before.before.before.before.before.before.before.before.before.before.before) _ _ (ky c.before.before.before.before.before.before.before.before.before.before.before.before.before.before.before.before.before.before.before) _ _ _ c.requires.arcs_fit.1 _ c.requires.arcs_fit.0 _ _ _ _ _ _ refl (omega (arith, c.triangle.ensures.0))
     c.put_heads.ensures c.put_middle.ensures c.put_last.ensures

@@ -46,6 +46,5 @@ put_labels-requires c =
 
 pub returns : goal.returns
 returns c =
-    let p = (c.requires.as_read, (c.requires.arcs_fit, c.requires.n_le_labels_most)) in
-    heads_put _ _ (kx c.before.before.before.before.before.before.before.before.before.before.before.before.before.before.before.before.before.before.before.before.before.before.before.before) _ _ (ky c.before.before.before.before.before.before.before.before.before.before.before.before.before.before.before.before.before.before.before.before.before.before.before.before) _ _ _ p.1.0.1 _ p.1.0.0 _ _ _ _ _
+    heads_put _ _ (kx c.before.before.before.before.before.before.before.before.before.before.before.before.before.before.before.before.before.before.before.before.before.before.before.before) _ _ (ky c.before.before.before.before.before.before.before.before.before.before.before.before.before.before.before.before.before.before.before.before.before.before.before.before) _ _ _ c.requires.arcs_fit.1 _ c.requires.arcs_fit.0 _ _ _ _ _
     c.write_u32.ensures c.put_arcs.ensures c.write_u32-2.ensures c.put_labels.ensures

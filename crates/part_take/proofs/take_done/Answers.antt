@@ -32,11 +32,10 @@ room c = c.well_formed.1.1.1.0.1.0.1
 numbers : (c : At-After-struct_known-1) → Numbers c
 numbers c =
     let a = c.args in
-    let pre = (c.requires.t_value, (c.requires.ready, c.requires.n_in_bounds)) in
     record {
-      few = few_parameters a.h (state_of a.matrix.now a.rights.now a.t) pre.0;
-      start = low a.h a.count a.start a.front a.len a.taken a.n a.bytes.now pre.1.0 (room c);
-      rest = inside_others a.h a.count a.start a.front a.len a.taken a.n a.bytes.now pre.1.0 (room c) (a.n - 1) (omega arith);
+      few = few_parameters a.h (state_of a.matrix.now a.rights.now a.t) c.requires.t_value;
+      start = low a.h a.count a.start a.front a.len a.taken a.n a.bytes.now c.requires.ready (room c);
+      rest = inside_others a.h a.count a.start a.front a.len a.taken a.n a.bytes.now c.requires.ready (room c) (a.n - 1) (omega arith);
     }
 
 pub returns-then-n-eq0 : goal.returns-then-n-eq0

@@ -44,10 +44,9 @@ run_sound-requires c =
 pub returns : goal.returns
 returns c =
     let a = c.args in
-    let pre = (c.requires.t_value, c.requires.one_len) in
     let v = held c.before.before.before.before.before.before.before.before.before.before.before.before.before.before.before.before.before.before.before.before in
     let one = c.run_sound-u in
     let two = c.run_sound in record {
-      state = two_states a.h a.one.now a.run.now a.n _ v pre.1.0 pre.1.1 _ _ _ _ (single c.before.before.before.before.before.before.before.before.before.before.before.before.before.before.before.before.before.before.before.before) (two_room a.h a.one.now a.run.now a.n _ v pre.1.0 pre.1.1 a.answers.now _ pre.1.2 one.ensures.told) one.ensures.state two.ensures.state;
-      told = two_answers a.h a.one.now a.run.now a.n _ v pre.1.0 pre.1.1 a.answers.now _ _ _ _ pre.1.2 (single c.before.before.before.before.before.before.before.before.before.before.before.before.before.before.before.before.before.before.before.before) one.ensures.state one.ensures.told two.ensures.told;
+      state = two_states a.h a.one.now a.run.now a.n _ v c.requires.one_len.0 c.requires.one_len.1 _ _ _ _ (single c.before.before.before.before.before.before.before.before.before.before.before.before.before.before.before.before.before.before.before.before) (two_room a.h a.one.now a.run.now a.n _ v c.requires.one_len.0 c.requires.one_len.1 a.answers.now _ c.requires.one_len.2 one.ensures.told) one.ensures.state two.ensures.state;
+      told = two_answers a.h a.one.now a.run.now a.n _ v c.requires.one_len.0 c.requires.one_len.1 a.answers.now _ _ _ _ c.requires.one_len.2 (single c.before.before.before.before.before.before.before.before.before.before.before.before.before.before.before.before.before.before.before.before) one.ensures.state one.ensures.told two.ensures.told;
     }

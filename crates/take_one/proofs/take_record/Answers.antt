@@ -149,10 +149,9 @@ returns-in-Accepted c =
     let y = c.in-Accepted.y in
     let j = judged_at_lem c.before.before.before.before.before.before.before.before.before.before.before.before.before.before in
     let n = late_taken f a.bytes.now s x fit y j in
-    let add = (c.add_record.ensures.matrix, (c.add_record.ensures.rights, c.add_record.ensures.marks)) in
-    let sides = add.1.0 ∙ ap (λ z. plus a.rights.now (times z (partials_in (length a.rights.now) a.bytes.now))) (to_z-of_z w64 y.side (side_fits c.before.before.before.before.before.before.before.before.before.before.before.before.before.before)) in record {
+    let sides = c.add_record.ensures.rights ∙ ap (λ z. plus a.rights.now (times z (partials_in (length a.rights.now) a.bytes.now))) (to_z-of_z w64 y.side (side_fits c.before.before.before.before.before.before.before.before.before.before.before.before.before.before)) in record {
       answer_value = answered_given _ tt n;
-      state = (λ i. state_of (add.0 i) (sides i) (record { square = a.t.square + y.square; counts = set a.t.counts x.place (get_or a.t.counts x.place 0 + 1); rows = set a.t.rows x.place (c.row_with.ensures i); marks = add.1.1 i }))
+      state = (λ i. state_of (c.add_record.ensures.matrix i) (sides i) (record { square = a.t.square + y.square; counts = set a.t.counts x.place (get_or a.t.counts x.place 0 + 1); rows = set a.t.rows x.place (c.row_with.ensures i); marks = c.add_record.ensures.marks i }))
           ∙ sym (step_books f a.bytes.now s n ∙ booked f a.bytes.now s x fit y j);
     }
 

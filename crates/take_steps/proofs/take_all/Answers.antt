@@ -212,18 +212,17 @@ loop-i-preserved-in-Accepted c =
     let y = c.in-Accepted.y in
     let j = judged_at_lem c.before.before.before.before.before.before.before.before.before.before.before.before.before in
     let n = late_taken f b s x fit y j in
-    let add = (c.add_record.ensures.matrix, (c.add_record.ensures.rights, c.add_record.ensures.marks)) in
     let wide = l.invariant.rights_long in
     let whole : take (l.at + size - l.at) (drop l.at a.run.now) ≡ b = ap (λ k. take k (drop l.at a.run.now)) (sym (part_size l.at size)) in
-    let sums = add.0 ∙ ap₂ (λ k r. plus l.matrix (triangle_terms (pos y.weight) (partials_in k r))) wide whole in
-    let sides = add.1.0 ∙ ap (λ z. plus l.rights (times z (partials_in (length l.rights) (take (l.at + size - l.at) (drop l.at a.run.now))))) (to_z-of_z w64 y.side (side_fits c.before.before.before.before.before.before.before.before.before.before.before.before.before))
+    let sums = c.add_record.ensures.matrix ∙ ap₂ (λ k r. plus l.matrix (triangle_terms (pos y.weight) (partials_in k r))) wide whole in
+    let sides = c.add_record.ensures.rights ∙ ap (λ z. plus l.rights (times z (partials_in (length l.rights) (take (l.at + size - l.at) (drop l.at a.run.now))))) (to_z-of_z w64 y.side (side_fits c.before.before.before.before.before.before.before.before.before.before.before.before.before))
     ∙ ap₂ (λ k r. plus l.rights (times y.side (partials_in k r))) wide whole in
-    let marks = add.1.1 ∙ ap₂ (λ k r. marks_with x.place (partials_in k r) l.marks) wide whole in
+    let marks = c.add_record.ensures.marks ∙ ap₂ (λ k r. marks_with x.place (partials_in k r) l.marks) wide whole in
     let after : state_of c.add_record.new.matrix c.add_record.new.rights (record { square = l.u.square + y.square; counts = set l.u.counts x.place (get_or l.u.counts x.place 0 + 1); rows = set l.u.rows x.place c.row_with.result; marks = c.add_record.new.marks }) ≡ record_step f b s =
     (λ i. state_of (sums i) (sides i) (record { square = l.u.square + y.square; counts = set l.u.counts x.place (get_or l.u.counts x.place 0 + 1); rows = set l.u.rows x.place (c.row_with.ensures i); marks = marks i }))
     ∙ sym (step_books f b s n ∙ booked f b s x fit y j) in
     next c.before.before.before.before.before.before.before.before.before.before.before.before.before.before.before.before.before.before.before.before.before _ 0 c.add_record.new.room
-    (c.add_record.kept.1.1.0 ∙ l.invariant.room_long) after (sym n)
+    (c.add_record.auto.room ∙ l.invariant.room_long) after (sym n)
 
 pub bounds-out-i-in-Refused-judge : goal.bounds-out-i-in-Refused-judge
 bounds-out-i-in-Refused-judge c = out_room c.before.before.before.before.before.before.before.before.before.before

@@ -13,8 +13,8 @@ pub returns : goal.returns
 returns c =
     let a = c.args in
     let is = arc_is (read_arc a.file.now) _ c.read.ensures in
-    let put = (c.give_arc.ensures.value, (c.give_arc.ensures.heading, c.give_arc.ensures.places)) in record {
-      value = put.0 ∙ ap (λ j. read_number j (length a.heading.now) (length a.out.now)) is;
-      heading = put.1.0 ∙ ap (λ j. heading_left j a.heading.now (length a.out.now)) is;
-      places = put.1.1 ∙ ap (λ j. places_left j (length a.heading.now) a.out.now) is;
+    record {
+      value = c.give_arc.ensures.value ∙ ap (λ j. read_number j (length a.heading.now) (length a.out.now)) is;
+      heading = c.give_arc.ensures.heading ∙ ap (λ j. heading_left j a.heading.now (length a.out.now)) is;
+      places = c.give_arc.ensures.places ∙ ap (λ j. places_left j (length a.heading.now) a.out.now) is;
     }
