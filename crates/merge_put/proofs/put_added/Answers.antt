@@ -94,9 +94,9 @@ put_sides-requires c =
 
 pub returns : goal.returns
 returns c =
-    let c.before : Column = record { base = c.args.x.rights; rows = c.args.x.stored } in
+    let e : Column = record { base = c.args.x.rights; rows = c.args.x.stored } in
     let d : Column = record { base = c.args.y.rights; rows = c.args.y.stored } in
     middle_put _ _ (kx c.before.before.before.before.before.before.before.before.before.before.before.before.before.before.before.before.before.before.before.before.before.before.before.before.before.before.before) _ _ (ky c.before.before.before.before.before.before.before.before.before.before.before.before.before.before.before.before.before.before.before.before.before.before.before.before.before.before.before) _ _ _ c.requires.b_value.1 _ _ _ _ _ _ _ _ c.triangle-sums.ensures.0 refl
     c.write_u32.ensures c.put_columns.ensures c.write_u32-2.ensures
     (c.put_sides.ensures
-    ∙ ap (λ m. lay c.write_u32-2.new.s (c.args.at + 4 + 8 * c.triangle-sums.result + 4) (encoded (signed_bytes w64) (rows_of (both_sides c.args.a.now c.before c.args.ta.now c.args.b.now d c.args.tb.now) 0 m))) (front_long c.before.before.before.before.before.before.before.before.before.before.before.before.before.before))
+    ∙ ap (λ m. lay c.write_u32-2.new.s (c.args.at + 4 + 8 * c.triangle-sums.result + 4) (encoded (signed_bytes w64) (rows_of (both_sides c.args.a.now e c.args.ta.now c.args.b.now d c.args.tb.now) 0 m))) (front_long c.before.before.before.before.before.before.before.before.before.before.before.before.before.before))

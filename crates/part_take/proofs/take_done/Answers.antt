@@ -63,10 +63,10 @@ pub overflow_add-upto : goal.overflow_add-upto
 overflow_add-upto c = omega (arith, (numbers c.before).few, (numbers c.before).start, (numbers c.before).rest)
 
 pub slice_bounds-take_records-end : goal.slice_bounds-take_records-end
-slice_bounds-take_records-end c = let m = numbers c.before.before.before.before in omega (arith, m.few, m.start, room c.before.before.before.before)
+slice_bounds-take_records-end c = let m = numbers c.before.before.before in omega (arith, m.few, m.start, room c.before.before.before)
 
 pub slice_bounds-take_records-end-2 : goal.slice_bounds-take_records-end-2
-slice_bounds-take_records-end-2 c = omega (arith, (numbers c.before.before.before.before.before).rest, c.requires.ready.near)
+slice_bounds-take_records-end-2 c = omega (arith, (numbers c.before.before.before.before).rest, c.requires.ready.near)
 
 pub returns : goal.returns
 returns c =

@@ -47,18 +47,18 @@ pub triangle-k-requires : goal.triangle-k-requires
 triangle-k-requires c = let a = c.args in omega (arith, few_parameters a.h (state_of a.matrix.now a.rights.now a.t) c.requires)
 
 pub slice_bounds-numbers-end : goal.slice_bounds-numbers-end
-slice_bounds-numbers-end c = omega (arith, stations_few _ _ (handed c.before.before.before), numbers_long c.before.before)
+slice_bounds-numbers-end c = omega (arith, stations_few _ _ (handed c.before.before.before.before), numbers_long c.before.before.before)
 
 pub slice_bounds-take_record-end : goal.slice_bounds-take_record-end
 slice_bounds-take_record-end c =
-    sym (length-take-le _ _ (omega (arith, stations_few _ _ (handed c.before.before.before.before), numbers_long c.before.before.before)))
+    sym (length-take-le _ _ (omega (arith, stations_few _ _ (handed c.before.before.before.before.before), numbers_long c.before.before.before.before)))
 
 pub slice_bounds-corrections-end : goal.slice_bounds-corrections-end
-slice_bounds-corrections-end c = omega (arith, stations_few _ _ (handed c.before.before.before.before), corrections_long c.before.before)
+slice_bounds-corrections-end c = omega (arith, stations_few _ _ (handed c.before.before.before.before.before), corrections_long c.before.before.before)
 
 pub slice_bounds-take_record-end-2 : goal.slice_bounds-take_record-end-2
 slice_bounds-take_record-end-2 c =
-    sym (length-take-le _ _ (omega (arith, stations_few _ _ (handed c.before.before.before.before.before.before), corrections_long c.before.before.before)))
+    sym (length-take-le _ _ (omega (arith, stations_few _ _ (handed c.before.before.before.before.before.before), corrections_long c.before.before.before.before)))
 
 pub slice_bounds-take_record-end-3 : goal.slice_bounds-take_record-end-3
 slice_bounds-take_record-end-3 c = rw c.triangle-k.ensures.0 (matrix_room _ _ (handed c.before.before.before.before.before.before))
