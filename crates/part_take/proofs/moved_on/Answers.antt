@@ -44,38 +44,38 @@ overflow_add-total-2 c =
 
 pub returns-then-end-total : goal.returns-then-end-total
 returns-then-end-total c =
-    let a = c.args in let q = c.requires.parameters_le_parameters_most in let v = goes_surplus a.h a.count a.start a.t4 a.len a.taken a.n a.bytes.now c.requires.ready (room c.before.before.before.before.before) q.0 q.2 (omega arith) in record {
+    let a = c.args in let q = c.requires.parameters_le_parameters_most in let v = goes_surplus a.h a.count a.start a.front a.len a.taken a.n a.bytes.now c.requires.ready (room c.before.before.before.before.before) q.0 q.2 (omega arith) in record {
       answer_value = v.0;
       position = c.ended-position.ensures ∙ v.1;
     }
 
 pub returns-then-n-eq0 : goal.returns-then-n-eq0
 returns-then-n-eq0 c =
-    let a = c.args in let q = c.requires.parameters_le_parameters_most in let got = goes_none a.h a.count a.start a.t4 a.len a.taken a.n a.bytes.now c.requires.ready (room c.before.before.before.before.before) q.0 q.2 (omega arith) (omega arith) in record {
+    let a = c.args in let q = c.requires.parameters_le_parameters_most in let got = goes_none a.h a.count a.start a.front a.len a.taken a.n a.bytes.now c.requires.ready (room c.before.before.before.before.before) q.0 q.2 (omega arith) (omega arith) in record {
       answer_value = got.0;
       position = got.1;
     }
 
 pub overflow_sub-upto : goal.overflow_sub-upto
 overflow_sub-upto c =
-    let a = c.args in let q = c.requires.parameters_le_parameters_most in omega (arith, more a.h a.count a.start a.t4 a.len a.taken a.n a.bytes.now c.requires.ready (room c.before.before.before.before.before) q.0 q.2 (omega arith) (omega arith), c.requires.ready.near)
+    let a = c.args in let q = c.requires.parameters_le_parameters_most in omega (arith, more a.h a.count a.start a.front a.len a.taken a.n a.bytes.now c.requires.ready (room c.before.before.before.before.before) q.0 q.2 (omega arith) (omega arith), c.requires.ready.near)
 
 pub slice_bounds-keep-end : goal.slice_bounds-keep-end
 slice_bounds-keep-end c =
-    let a = c.args in let q = c.requires.parameters_le_parameters_most in sym (length-take-le a.start a.t4 (omega (arith, room c.before.before.before.before.before.before, q.3)))
+    let a = c.args in let q = c.requires.parameters_le_parameters_most in sym (length-take-le a.start a.front (omega (arith, room c.before.before.before.before.before.before, q.3)))
 
 pub keep-kept-requires : goal.keep-kept-requires
 keep-kept-requires c =
-    let a = c.args in let q = c.requires.parameters_le_parameters_most in let upto = a.start + a.n * record_size a.h.parameters - a.len in omega (arith, rest_fits a.h a.count a.start a.t4 a.len a.taken a.n a.bytes.now c.requires.ready (room c.before.before.before.before.before.before.before) q.0 q.2 (omega arith) (omega arith), ap length (rest_all a.bytes.now upto), slice_bounds-keep-end c.before.before)
+    let a = c.args in let q = c.requires.parameters_le_parameters_most in let upto = a.start + a.n * record_size a.h.parameters - a.len in omega (arith, rest_fits a.h a.count a.start a.front a.len a.taken a.n a.bytes.now c.requires.ready (room c.before.before.before.before.before.before.before) q.0 q.2 (omega arith) (omega arith), ap length (rest_all a.bytes.now upto), slice_bounds-keep-end c.before.before)
 
 pub returns : goal.returns
 returns c =
     let a = c.args in
     let q = c.requires.parameters_le_parameters_most in
     let upto = a.start + a.n * record_size a.h.parameters - a.len in
-    let v = goes_some a.h a.count a.start a.t4 a.len a.taken a.n a.bytes.now c.requires.ready (room c.before.before.before.before.before.before.before.before) q.0 q.2 (omega arith) (omega arith) in record {
+    let v = goes_some a.h a.count a.start a.front a.len a.taken a.n a.bytes.now c.requires.ready (room c.before.before.before.before.before.before.before.before) q.0 q.2 (omega arith) (omega arith) in record {
       answer_value = v.0;
       position = ap₂ (λ k z. record { kept = z; length = a.start + k; taken = a.taken + a.n; over = false })
-          (sym (length-drop upto a.bytes.now)) (c.keep-kept.ensures ∙ ap (λ z. padded position_most 0 (take a.start a.t4 ++ z)) (rest_all a.bytes.now upto))
+          (sym (length-drop upto a.bytes.now)) (c.keep-kept.ensures ∙ ap (λ z. padded position_most 0 (take a.start a.front ++ z)) (rest_all a.bytes.now upto))
           ∙ v.1;
     }
