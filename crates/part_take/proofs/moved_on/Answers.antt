@@ -66,7 +66,7 @@ slice_bounds-keep-end c =
 
 pub keep-kept-requires : goal.keep-kept-requires
 keep-kept-requires c =
-    let a = c.args in let q = c.requires.parameters_le_parameters_most in let upto = a.start + a.n * record_size a.h.parameters - a.len in omega (arith, rest_fits a.h a.count a.start a.front a.len a.taken a.n a.bytes.now c.requires.ready (room c.before.before.before.before.before.before.before) q.0 q.2 (omega arith) (omega arith), ap length (rest_all a.bytes.now upto), slice_bounds-keep-end c.before.before)
+    let a = c.args in let q = c.requires.parameters_le_parameters_most in let upto = a.start + a.n * record_size a.h.parameters - a.len in omega (arith, rest_fits a.h a.count a.start a.front a.len a.taken a.n a.bytes.now c.requires.ready (room c.before.before.before.before.before.before.before) q.0 q.2 (omega arith) (omega arith), ap length (rest_all a.bytes.now upto), length-take-le a.start a.front (omega (arith, room c.before.before.before.before.before.before.before, q.3)))
 
 pub returns : goal.returns
 returns c =
