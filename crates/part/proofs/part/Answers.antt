@@ -85,7 +85,9 @@ slice_bounds-room-end c =
     omega (arith, front_room a.p a.bytes.now _ w, front_fits a.p a.bytes.now _ w)
 
 pub slice_bounds-open-end : goal.slice_bounds-open-end
-slice_bounds-open-end c = sym (length-take-le _ _ (slice_bounds-room-end c.before.before))
+slice_bounds-open-end c =
+    let a = c.args in let w = c.front_of-f.ensures in
+    sym (length-take-le _ _ (omega (arith, front_room a.p a.bytes.now _ w, front_fits a.p a.bytes.now _ w)))
 
 pub overflow_add-f : goal.overflow_add-f
 overflow_add-f c =
