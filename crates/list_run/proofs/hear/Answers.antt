@@ -12,7 +12,7 @@ use Rattle.list_run.proofs.hear.Goals as goal
 
 -- the facts known at one place of the code
 abbrev At-After-part-x : Type 0
-At-After-part-x = Lts.After-part Tie.the-claims Reads.Pre Reads.Post
+At-After-part-x = Lts.After-part Tie.the-claims Reads.Pre Reads.Post Tie.handed_clauses
 
 room_long : (c : At-After-part-x) → length c.told_room-told.result ≡ 2048
 room_long c = sym c.told_room-told.ensures
