@@ -15,7 +15,7 @@ pub returns-then-is_lent : goal.returns-then-is_lent
 returns-then-is_lent c =
     let finish = c.finish-f in
     let p = c.position_in-p.ensures in let got = finish_done _ _ (sym c.is_lent.ensures ∙ c.if-is_lent.true) _ _
-    (c.with_all-answer.ensures ∙ ap (with_all c.position_in-p.result.true) finish.ensures.answer_value ∙ ap (λ p. with_all p.taken (finish_told p)) p)
+    (c.with_all-answer.ensures ∙ ap (with_all c.position_in-p.result.taken) finish.ensures.answer_value ∙ ap (λ p. with_all p.taken (finish_told p)) p)
     (finish.ensures.position ∙ ap finish_position p)
     c.give_told.ensures.value c.put_back.ensures c.give_told.ensures.left in record {
       value = got.0;
