@@ -1,12 +1,18 @@
 // What the programs share: room for whole files, reading one whole, and writing one that is not there yet. What the system refuses is told on
-// standard error, and only while no file is open for writing: it could have the number of standard error, where that was closed.
+// standard error. A name is bytes, as the command line gives them; the system is asked for one that is UTF-8 text, and another is told as refused.
 #![tactic(auto)]
 
 ghost use Rattle.std.specs.Prelude.{◌≡◌, ◌+◌, ◌≤◌, length};
-ghost use Rattle.io.specs.Counts.{IsPrefixLen};
-ghost use Rattle.libc.specs.Io.{Ended};
+ghost use Rattle.desk_files.specs.Counts.{IsPrefixLen};
+ghost use Rattle.desk_files.specs.Names.{IsEnded};
 
-use libc::{PATH_MAX, STDERR_FILENO};
+use std::fmt::Write as _;
+use std::fs::{File, Files, OpenFile};
+use std::io::{Error, ErrorKind, Print, Read, Write};
+use std::{fmt, fs, io};
+
+// The longest path, with the zero that the system puts behind it.
+pub const PATH_MOST: usize = 4096;
 
 // 1,018,101 zeros: the longest normal file, and one byte more.
 pub fn normal_room() -> [u8; 1018101]
@@ -24,45 +30,53 @@ pub fn within(k: usize, buf: &[u8]) -> usize
 
 // ---- reading
 
-// What was read: whether no read has failed, and how many bytes came, which is all where the buffer is longer.
+// What was read: whether no read has failed, how many bytes came, which is all where the buffer is longer, and why the last read failed.
 #[derive(Clone, Copy)]
 pub struct Loaded {
     pub is_whole: bool,
     pub length: usize,
+    pub why: Option<Error>,
 }
 
-// What one read came to: how many bytes, 0 at the end and where it failed.
+// What one read came to: how many bytes, 0 at the end and where it failed, and why it failed.
 #[derive(Clone, Copy)]
 struct Brought {
     is_failed: bool,
     count: usize,
+    why: Option<Error>,
 }
 
 // One read behind the first n bytes of a buffer.
-fn read_on(fd: i32, buf: &mut [u8], n: usize) -> Brought
+fn read_on<S: Read>(from: &mut S, buf: &mut [u8], n: usize) -> Brought
     requires { n ≤ length buf.old }
     ensures { n + result.count ≤ length buf.new }
 {
-    let rest = &mut buf[n..];
-    let got = libc::read(fd, rest);
-    let count = io::count(got, rest);
-    Brought {
-        is_failed: got < 0,
-        count,
+    match from.read(&mut buf[n..]) {
+        Ok(count) => Brought {
+            is_failed: false,
+            count,
+            why: None,
+        },
+        Err(e) => Brought {
+            is_failed: true,
+            count: 0,
+            why: Some(e),
+        },
     }
 }
 
-// Reads what stands behind a descriptor, to its end, to a read that fails, or until the buffer is full.
-pub fn load(fd: i32, buf: &mut [u8]) -> Loaded
+// Reads what a reader gives, to its end, to a read that fails, or until the buffer is full.
+pub fn load<S: Read>(from: &mut S, buf: &mut [u8]) -> Loaded
     ensures { IsPrefixLen result.length buf.new }
 {
     let mut n: usize = 0;
     while n < buf.len() {
-        let got = read_on(fd, buf, n);
+        let got = read_on(from, buf, n);
         if got.count == 0 {
             return Loaded {
                 is_whole: !got.is_failed,
                 length: within(n, buf),
+                why: got.why,
             };
         }
         n += got.count;
@@ -70,35 +84,123 @@ pub fn load(fd: i32, buf: &mut [u8]) -> Loaded
     Loaded {
         is_whole: true,
         length: within(n, buf),
+        why: None,
+    }
+}
+
+// Opens what a path names for reading.
+pub fn open<R: Files>(rt: &R, path: &[u8]) -> io::Result<R::File> {
+    match text_of(path) {
+        Ok(name) => fs::open(rt, name),
+        Err(e) => Err(e),
     }
 }
 
 // Opens what a path names, and reads it whole; it says why it cannot.
-pub fn load_path(path: &[u8], buf: &mut [u8]) -> Loaded
+pub fn load_path<R: Files + Tell>(rt: &R, path: &[u8], buf: &mut [u8]) -> Loaded
     ensures { IsPrefixLen result.length buf.new }
 {
-    let fd = os::open_read(path);
-    if fd < 0 {
-        os::fail(path);
-        return Loaded {
-            is_whole: false,
-            length: within(0, buf),
-        };
+    match open(rt, path) {
+        Ok(mut file) => {
+            let r = load(&mut file, buf);
+            if let Some(e) = r.why {
+                fail(rt, path, e);
+            }
+            r
+        }
+        Err(e) => {
+            fail(rt, path, e);
+            Loaded {
+                is_whole: false,
+                length: within(0, buf),
+                why: Some(e),
+            }
+        }
     }
-    let r = load(fd, buf);
-    if !r.is_whole {
-        os::fail(path);
+}
+
+// ---- standard error
+
+// What can write bytes on standard error. `std::io::Eprint` takes text, and a name need be none.
+pub trait Tell {
+    fn tell(&self, bytes: &[u8]) -> io::Result<()>;
+}
+
+impl Tell for HostRuntime {
+    fn tell(&self, bytes: &[u8]) -> io::Result<()> {
+        self.stderr().write_all(bytes)
     }
-    libc::close(fd);
-    r
+}
+
+// Says on standard error what is wrong with a file; that it could not be said can be told nowhere.
+fn complain<R: Tell>(rt: &R, path: &[u8], text: &[u8]) {
+    let _ = rt.tell(path);
+    let _ = rt.tell(text);
+}
+
+// The words of an error.
+#[derive(Drop)]
+struct Words {
+    bytes: [u8; 256],
+    length: usize,
+}
+
+impl Words {
+    fn push(&mut self, byte: u8) {
+        let n = self.length;
+        if n < 256 {
+            self.bytes[n] = byte;
+            self.length = n + 1;
+        }
+    }
+}
+
+impl fmt::Write for Words {
+    fn write_str(&mut self, s: &str) -> fmt::Result {
+        for b in s.as_bytes() {
+            self.push(*b);
+        }
+        Ok(())
+    }
+}
+
+// Where the words of a system's error end: before the last bracket, in which std gives its number.
+fn words_end(words: &Words, is_system: bool) -> usize
+    ensures { result ≤ 256 }
+{
+    let n = words.length.min(256);
+    if is_system {
+        let mut k = n;
+        while k > 1 {
+            k -= 1;
+            if words.bytes[k] == b'(' {
+                return k - 1;
+            }
+        }
+    }
+    n
+}
+
+// Writes a line on standard error: what failed, as the caller names it, a colon and the error's words.
+pub fn fail<R: Tell>(rt: &R, what: &[u8], why: Error) {
+    let mut words = Words {
+        bytes: [0; 256],
+        length: 0,
+    };
+    let _ = write!(words, "{why}");
+    let n = words_end(&words, why.raw_os_error().is_some());
+    complain(rt, what, b": ");
+    complain(rt, &words.bytes[..n], b"\n");
 }
 
 // ---- names
 
-// Says on standard error what is wrong with a file; that it could not be said can be told nowhere.
-fn complain(path: &[u8], text: &[u8]) {
-    io::write_all(STDERR_FILENO, path);
-    io::write_all(STDERR_FILENO, text);
+// A path as text.
+fn text_of(path: &[u8]) -> io::Result<&str> {
+    match str::from_utf8(path) {
+        Ok(text) => Ok(text),
+        Err(_) => Err(Error::new(ErrorKind::InvalidInput, "The name is not UTF-8 text")),
+    }
 }
 
 // Copies bytes to the start of others, as far as both go.
@@ -130,114 +232,167 @@ fn beside(path: &[u8], to: &mut [u8]) -> usize {
 }
 
 // A path as C reads it, with zeros behind it; of one that is too long the beginning.
-fn ended(path: &[u8]) -> [u8; PATH_MAX]
-    ensures { Ended result }
+fn ended(path: &[u8]) -> [u8; PATH_MOST]
+    ensures { IsEnded result }
 {
-    let mut text = io::buffer();
+    let mut text = [0u8; PATH_MOST];
     copy(path, &mut text);
     text[4095] = 0;
     text
 }
 
+// The bytes of a path before its first zero.
+fn before_end(text: &[u8]) -> &[u8] {
+    for (i, b) in text.iter().enumerate() {
+        if *b == 0 {
+            return &text[..i];
+        }
+    }
+    text
+}
+
 // Says of a name that is asked for and can't be had why: something has it, or the system refuses.
-fn tell_taken(path: &[u8]) {
-    if os::errno() == libc::EINVAL {
-        complain(path, b": there is one already, and it stays as it is\n");
-    } else {
-        os::fail(path);
+fn tell_taken<R: Tell>(rt: &R, path: &[u8], refused: Option<Error>) {
+    match refused {
+        None => complain(rt, path, b": there is one already, and it stays as it is\n"),
+        Some(e) => fail(rt, path, e),
     }
 }
 
-// Whether nothing has this name, not even a link that leads nowhere; where something has it, or that can't be told, it says so. Reading a link
-// opens nothing, and refuses what is no link as invalid.
-fn is_free(path: &[u8]) -> bool {
+// What has a name, a link itself and not what it leads to.
+fn look_up<R: Files>(rt: &R, path: &[u8]) -> io::Result<fs::Metadata> {
+    match text_of(path) {
+        Ok(name) => fs::symlink_metadata(rt, name),
+        Err(e) => Err(e),
+    }
+}
+
+// Whether nothing has this name, not even a link that leads nowhere; where something has it, or that can't be told, it says so.
+fn is_free<R: Files + Tell>(rt: &R, path: &[u8]) -> bool {
     let text = ended(path);
-    let mut one = [0u8; 1];
-    if libc::readlink(&text, &mut one) >= 0 {
-        complain(path, b": there is a link already, and it stays as it is\n");
-        return false;
+    match look_up(rt, before_end(&text)) {
+        Ok(found) => {
+            if found.is_symlink() {
+                complain(
+                    rt,
+                    path,
+                    b": there is a link already, and it stays as it is\n",
+                );
+            } else {
+                tell_taken(rt, path, None);
+            }
+            false
+        }
+        Err(e) => {
+            if e.kind() == ErrorKind::NotFound {
+                return true;
+            }
+            tell_taken(rt, path, Some(e));
+            false
+        }
     }
-    if os::errno() == libc::ENOENT {
-        return true;
-    }
-    tell_taken(path);
-    false
 }
 
 // ---- writing
 
-// Writes bytes and waits until they are on their device. errno tells why they are not.
-fn is_down(fd: i32, bytes: &[u8]) -> bool {
-    if io::write_all(fd, bytes) {
-        libc::fsync(fd) >= 0
-    } else {
-        false
-    }
+// Writes bytes and waits until they are on their device, or says why they are not.
+fn is_down<F: Write + OpenFile>(file: &mut F, bytes: &[u8]) -> io::Result<()> {
+    file.write_all(bytes)?;
+    file.sync_all()
 }
 
 // Removes a file that this program made.
-fn discard(part: &[u8]) {
-    if os::unlink(part) < 0 {
-        os::fail(part);
+fn discard<R: Files + Tell>(rt: &R, part: &[u8]) {
+    match text_of(part) {
+        Ok(name) => {
+            if let Err(e) = fs::remove_file(rt, name) {
+                fail(rt, part, e);
+            }
+        }
+        Err(e) => fail(rt, part, e),
     }
 }
 
 // Says why the file beside another could not be made.
-fn tell_part(part: &[u8]) {
-    if os::errno() == libc::EEXIST {
+fn tell_part<R: Tell>(rt: &R, part: &[u8], why: Error) {
+    if why.kind() == ErrorKind::AlreadyExists {
         complain(
+            rt,
             part,
             b": another run is writing it, or a run that was stopped left it; where none is running, remove it and run again\n",
         );
     } else {
-        os::fail(part);
+        fail(rt, part, why);
+    }
+}
+
+// Makes a file of a name that nothing has.
+fn make<R: Files>(rt: &R, path: &[u8]) -> io::Result<R::File> {
+    match text_of(path) {
+        Ok(name) => File::create_new(rt, name),
+        Err(e) => Err(e),
     }
 }
 
 // Makes a file of this name with these bytes, on its device and closed; or leaves none, and says why.
-fn save_part(part: &[u8], bytes: &[u8]) -> bool {
-    let fd = os::create(part);
-    if fd < 0 {
-        tell_part(part);
-        return false;
-    }
-    let is_written = is_down(fd, bytes);
-    let closed = libc::close(fd);
-    if is_written {
-        if closed >= 0 {
-            return true;
+fn save_part<R: Files + Tell>(rt: &R, part: &[u8], bytes: &[u8]) -> bool {
+    match make(rt, part) {
+        Ok(file) => {
+            let mut file = file;
+            let written = is_down(&mut file, bytes);
+            drop(file);
+            match written {
+                Ok(()) => true,
+                Err(e) => {
+                    fail(rt, part, e);
+                    discard(rt, part);
+                    false
+                }
+            }
+        }
+        Err(e) => {
+            tell_part(rt, part, e);
+            false
         }
     }
-    os::fail(part);
-    discard(part);
-    false
+}
+
+// Gives a file another name in one step.
+fn rename<R: Files>(rt: &R, from: &[u8], to: &[u8]) -> io::Result<()> {
+    match text_of(from) {
+        Ok(old) => match text_of(to) {
+            Ok(new) => fs::rename(rt, old, new),
+            Err(e) => Err(e),
+        },
+        Err(e) => Err(e),
+    }
 }
 
 // Gives a finished file its own name in one step, where nothing has it; else the finished file is removed.
-fn give(part: &[u8], path: &[u8]) -> bool {
-    if is_free(path) {
-        if os::rename(part, path) >= 0 {
-            return true;
+fn give<R: Files + Tell>(rt: &R, part: &[u8], path: &[u8]) -> bool {
+    if is_free(rt, path) {
+        match rename(rt, part, path) {
+            Ok(()) => return true,
+            Err(e) => fail(rt, path, e),
         }
-        os::fail(path);
     }
-    discard(part);
+    discard(rt, part);
     false
 }
 
 // Writes a file whole or not at all, by way of a file NAME.part beside it. That name is held from before the look whether NAME is free until NAME
 // is given, so that no two runs can both find NAME free. NAME is never empty and never has a part of the bytes, whenever the program is stopped.
-pub fn save(path: &[u8], bytes: &[u8]) -> bool {
-    let mut part = io::buffer();
+pub fn save<R: Files + Tell>(rt: &R, path: &[u8], bytes: &[u8]) -> bool {
+    let mut part = [0u8; PATH_MOST];
     let n = beside(path, &mut part);
     if n == 0 {
-        complain(path, b": the name is too long\n");
+        complain(rt, path, b": the name is too long\n");
         return false;
     }
     let k = within(n, &part);
-    if is_free(path) {
-        if save_part(&part[..k], bytes) {
-            return give(&part[..k], path);
+    if is_free(rt, path) {
+        if save_part(rt, &part[..k], bytes) {
+            return give(rt, &part[..k], path);
         }
     }
     false
