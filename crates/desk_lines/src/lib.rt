@@ -4,8 +4,11 @@
 
 ghost use Rattle.std.specs.Prelude.{◌+◌, ◌<◌, ◌≤◌, min, length};
 
-use libc::{STDIN_FILENO, STDOUT_FILENO};
+use desk_files::Tell;
 use refusal::Refusal;
+use std::cell::Cell;
+use std::io;
+use std::io::{Error, Print};
 
 // The place after the next mark at a place or after it, or the text's end.
 pub fn after(text: &[u8], at: usize, mark: u8) -> usize
@@ -224,59 +227,88 @@ pub fn small(line: &[u8], count: usize) -> u32 {
     as_u32(decimal_at(line, word(line, count)))
 }
 
-// Says once that standard output takes no more. What would still be written there goes to a device that keeps nothing, under the number of standard
-// output: no program here can end early, and each later write would fail and be told again.
-fn lose() {
-    os::fail(b"standard output");
-    libc::close(STDOUT_FILENO);
-    if os::open_append(b"/dev/null") == STDIN_FILENO {
-        os::open_append(b"/dev/null");
+// Standard output, and whether it takes no more.
+#[derive(Drop)]
+pub struct Output<'a, R> {
+    rt: &'a R,
+    is_lost: Cell<bool>,
+}
+
+impl<'a, R> Output<'a, R> {
+    pub fn new(rt: &'a R) -> Output<'a, R> {
+        Output {
+            rt,
+            is_lost: Cell::new(false),
+        }
+    }
+
+    // What the output goes through, for files and standard error.
+    pub fn runtime(&self) -> &'a R {
+        self.rt
     }
 }
 
+// Says once that standard output takes no more. What would still be written there is dropped: no program here ends early for it, and each later
+// write would fail and be told again.
+fn lose<R: Tell>(out: &Output<'_, R>, why: Error) {
+    desk_files::fail(out.rt, b"standard output", why);
+    out.is_lost.set(true);
+}
+
 // What a write to standard output answered: a failure is told.
-fn look(is_written: bool) {
-    if !is_written {
-        lose();
+fn look<R: Tell>(out: &Output<'_, R>, written: io::Result<()>) {
+    if let Err(e) = written {
+        lose(out, e);
     }
 }
 
 // Writes bytes to standard output.
-pub fn put(bytes: &[u8]) {
-    look(io::write_all(STDOUT_FILENO, bytes));
+pub fn put<R: Print + Tell>(out: &Output<'_, R>, bytes: &[u8]) {
+    if !out.is_lost.get() {
+        look(out, out.rt.write_all(bytes));
+    }
 }
 
 // Writes a number in decimal, and what stands after it.
-pub fn put_number(value: u64, after: &[u8]) {
-    look(io::print_decimal(STDOUT_FILENO, value));
-    put(after);
+pub fn put_number<R: Print + Tell>(out: &Output<'_, R>, value: u64, after: &[u8]) {
+    if !out.is_lost.get() {
+        look(out, out.rt.print(value));
+    }
+    put(out, after);
 }
 
 // Writes a signed number in decimal, and what stands after it.
-pub fn put_signed(value: i64, after: &[u8]) {
+pub fn put_signed<R: Print + Tell>(out: &Output<'_, R>, value: i64, after: &[u8]) {
     if value < 0 {
-        put(b"-");
+        put(out, b"-");
     }
-    put_number(num_signs::magnitude(value), after);
+    put_number(out, num_signs::magnitude(value), after);
 }
 
 // Writes a number as 16 hexadecimal digits, and what stands after it.
-pub fn put_hex(value: u64, after: &[u8]) {
-    look(io::print_hex(STDOUT_FILENO, value, 16));
-    put(after);
+pub fn put_hex<R: Print + Tell>(out: &Output<'_, R>, value: u64, after: &[u8]) {
+    if !out.is_lost.get() {
+        look(out, print!(out.rt; "{value:016x}"));
+    }
+    put(out, after);
+}
+
+// Writes a byte as two hexadecimal digits.
+fn put_byte<R: Print + Tell>(out: &Output<'_, R>, byte: u8) {
+    if !out.is_lost.get() {
+        look(out, print!(out.rt; "{byte:02x}"));
+    }
 }
 
 // Writes bytes as two hexadecimal digits each.
-pub fn put_bytes(bytes: &[u8]) {
-    let mut i: usize = 0;
-    while i < bytes.len() {
-        look(io::print_hex(STDOUT_FILENO, byte_at(bytes, i) as u64, 2));
-        i += 1;
+pub fn put_bytes<R: Print + Tell>(out: &Output<'_, R>, bytes: &[u8]) {
+    for b in bytes {
+        put_byte(out, *b);
     }
 }
 
 // Writes a refusal by its number, and what stands after it.
-pub fn put_refusal(why: Refusal, after: &[u8]) {
-    put(b"refused ");
-    put_number(refusal::number(why) as u64, after);
+pub fn put_refusal<R: Print + Tell>(out: &Output<'_, R>, why: Refusal, after: &[u8]) {
+    put(out, b"refused ");
+    put_number(out, refusal::number(why) as u64, after);
 }
