@@ -6,9 +6,10 @@ ghost use Rattle.std.specs.Prelude.{◌≡◌, ◌+◌, ◌≤◌, length};
 ghost use Rattle.desk_files.specs.Counts.{IsPrefixLen};
 ghost use Rattle.desk_files.specs.Names.{IsEnded};
 
+use std::env::{Env, FillError};
 use std::fmt::Write as _;
 use std::fs::{File, Files, OpenFile};
-use std::io::{Error, ErrorKind, Print, Read, Write};
+use std::io::{Error, ErrorKind, Read, Write};
 use std::{fmt, fs, io};
 
 // The longest path, with the zero that the system puts behind it.
@@ -116,6 +117,48 @@ pub fn load_path<R: Files + Tell>(rt: &R, path: &[u8], buf: &mut [u8]) -> Loaded
                 why: Some(e),
             }
         }
+    }
+}
+
+// ---- the command line
+
+// How many words the command line has, the program's name among them.
+pub fn argument_count<R: Env>(rt: &R) -> usize {
+    for i in 0..usize::MAX {
+        if let Err(FillError::NotPresent) = rt.arg(i, &mut []) {
+            return i;
+        }
+    }
+    usize::MAX
+}
+
+// A word of the command line that was put at the start of a buffer: its length, or 0 where there is none or the buffer is too short, and which.
+#[derive(Clone, Copy)]
+pub struct Filled {
+    pub length: usize,
+    pub is_cut: bool,
+}
+
+// Puts word i of the command line at the start of a buffer.
+pub fn argument<R: Env>(rt: &R, i: usize, buf: &mut [u8]) -> Filled
+    ensures { IsPrefixLen result.length buf.new }
+{
+    match rt.arg(i, buf) {
+        Ok(n) => Filled {
+            length: n,
+            is_cut: false,
+        },
+        Err(e) => Filled {
+            length: within(0, buf),
+            is_cut: is_too_long(e),
+        },
+    }
+}
+
+fn is_too_long(e: FillError) -> bool {
+    match e {
+        FillError::TooLong => true,
+        FillError::NotPresent => false,
     }
 }
 

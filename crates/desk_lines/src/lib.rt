@@ -2,13 +2,13 @@
 // that is written. Nothing here refuses: past the end a byte is 0, and where no digit stands the number is 0.
 #![tactic(auto)]
 
-ghost use Rattle.std.specs.Prelude.{◌+◌, ◌<◌, ◌≤◌, min, length};
+ghost use Rattle.std.specs.Prelude.{◌≡◌, ◌+◌, ◌<◌, ◌≤◌, ◌↔◌, IsTrue, min, length};
 
-use desk_files::Tell;
+pub use desk_files::Tell;
 use refusal::Refusal;
 use std::cell::Cell;
 use std::io;
-use std::io::{Error, Print};
+use std::io::Error;
 
 // The place after the next mark at a place or after it, or the text's end.
 pub fn after(text: &[u8], at: usize, mark: u8) -> usize
@@ -88,6 +88,13 @@ pub fn part(text: &[u8], from: usize, to: usize) -> &[u8] {
 pub fn value(line: &[u8], count: usize) -> &[u8] {
     let from = after(line, word(line, count), b'=');
     part(line, from, word_end(line, from))
+}
+
+// Whether two texts have the same bytes.
+pub fn same(a: &[u8], b: &[u8]) -> bool
+    ensures { IsTrue result ↔ (a.now ≡ b.now) }
+{
+    a == b
 }
 
 // The byte at a place, or 0 past the end.

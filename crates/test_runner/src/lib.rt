@@ -3,9 +3,12 @@
 #![tactic(auto)]
 
 ghost use Rattle.std.specs.Prelude.{◌≡◌, length};
-ghost use Rattle.io.specs.Counts.{IsPrefixLen};
+ghost use Rattle.desk_files.specs.Counts.{IsPrefixLen};
 
-use libc::{STDERR_FILENO, STDIN_FILENO};
+use desk_files::Loaded;
+use desk_lines::{Output, Tell};
+use std::env::Env;
+use std::fs::Files;
 
 // 524,289 zeros: the longest input, and one byte more, by which a longer one is found out.
 pub fn room() -> [u8; 524289]
@@ -15,25 +18,26 @@ pub fn room() -> [u8; 524289]
 }
 
 // Says on standard error why standard input is not run.
-fn complain(is_whole: bool) {
-    if is_whole {
-        io::write_all(STDERR_FILENO, b"standard input is too long\n");
-    } else {
-        os::fail(b"standard input");
+fn complain<R: Tell>(rt: &R, got: Loaded) {
+    match got.why {
+        None => {
+            let _ = rt.tell(b"standard input is too long\n");
+        }
+        Some(e) => desk_files::fail(rt, b"standard input", e),
     }
 }
 
 // Standard input, read whole: its length, or 0 where it can't be read or fills the room.
-pub fn input(buf: &mut [u8]) -> usize
+pub fn input<R: Input + Tell>(rt: &R, buf: &mut [u8]) -> usize
     ensures { IsPrefixLen result buf.new }
 {
-    let got = desk_files::load(STDIN_FILENO, buf);
+    let got = desk_files::load(&mut rt.reader(), buf);
     if got.is_whole {
         if got.length < buf.len() {
             return got.length;
         }
     }
-    complain(got.is_whole);
+    complain(rt, got);
     desk_files::within(0, buf)
 }
 
@@ -50,16 +54,17 @@ pub struct Named {
 }
 
 // The file that argument i names, read whole. Its name is written, and whether it can't be read.
-pub fn file(i: usize, buf: &mut [u8]) -> Named
+pub fn file<R: Env + Files + Print + Tell>(out: &Output<'_, R>, i: usize, buf: &mut [u8]) -> Named
     ensures { IsPrefixLen result.length buf.new }
 {
-    let mut path = io::buffer();
-    let n = os::arg(i, &mut path);
-    desk_lines::put(&path[..n]);
-    desk_lines::put(b" ");
-    let got = desk_files::load_path(&path[..n], buf);
+    let rt = out.runtime();
+    let mut path = [0u8; desk_files::PATH_MOST];
+    let n = desk_files::argument(rt, i, &mut path).length;
+    desk_lines::put(out, &path[..n]);
+    desk_lines::put(out, b" ");
+    let got = desk_files::load_path(rt, &path[..n], buf);
     if !got.is_whole {
-        desk_lines::put(b"unread ");
+        desk_lines::put(out, b"unread ");
     }
     Named {
         last: last_of(&path[..n]),
