@@ -257,65 +257,65 @@ impl<'a, R> Output<'a, R> {
 
 // Says once that standard output takes no more. What would still be written there is dropped: no program here ends early for it, and each later
 // write would fail and be told again.
-fn lose<R: Tell>(out: &Output<'_, R>, why: Error) {
-    desk_files::fail(out.rt, b"standard output", why);
-    out.is_lost.set(true);
+fn lose<R: Tell>(stdout: &Output<'_, R>, why: Error) {
+    desk_files::fail(stdout.rt, b"standard output", why);
+    stdout.is_lost.set(true);
 }
 
 // What a write to standard output answered: a failure is told.
-fn look<R: Tell>(out: &Output<'_, R>, written: io::Result<()>) {
+fn look<R: Tell>(stdout: &Output<'_, R>, written: io::Result<()>) {
     if let Err(e) = written {
-        lose(out, e);
+        lose(stdout, e);
     }
 }
 
 // Writes bytes to standard output.
-pub fn put<R: Print + Tell>(out: &Output<'_, R>, bytes: &[u8]) {
-    if !out.is_lost.get() {
-        look(out, out.rt.write_all(bytes));
+pub fn put<R: Print + Tell>(stdout: &Output<'_, R>, bytes: &[u8]) {
+    if !stdout.is_lost.get() {
+        look(stdout, stdout.rt.write_all(bytes));
     }
 }
 
 // Writes a number in decimal, and what stands after it.
-pub fn put_number<R: Print + Tell>(out: &Output<'_, R>, value: u64, after: &[u8]) {
-    if !out.is_lost.get() {
-        look(out, out.rt.print(value));
+pub fn put_number<R: Print + Tell>(stdout: &Output<'_, R>, value: u64, after: &[u8]) {
+    if !stdout.is_lost.get() {
+        look(stdout, stdout.rt.print(value));
     }
-    put(out, after);
+    put(stdout, after);
 }
 
 // Writes a signed number in decimal, and what stands after it.
-pub fn put_signed<R: Print + Tell>(out: &Output<'_, R>, value: i64, after: &[u8]) {
+pub fn put_signed<R: Print + Tell>(stdout: &Output<'_, R>, value: i64, after: &[u8]) {
     if value < 0 {
-        put(out, b"-");
+        put(stdout, b"-");
     }
-    put_number(out, num_signs::magnitude(value), after);
+    put_number(stdout, num_signs::magnitude(value), after);
 }
 
 // Writes a number as 16 hexadecimal digits, and what stands after it.
-pub fn put_hex<R: Print + Tell>(out: &Output<'_, R>, value: u64, after: &[u8]) {
-    if !out.is_lost.get() {
-        look(out, print!(out.rt; "{value:016x}"));
+pub fn put_hex<R: Print + Tell>(stdout: &Output<'_, R>, value: u64, after: &[u8]) {
+    if !stdout.is_lost.get() {
+        look(stdout, print!(stdout.rt; "{value:016x}"));
     }
-    put(out, after);
+    put(stdout, after);
 }
 
 // Writes a byte as two hexadecimal digits.
-fn put_byte<R: Print + Tell>(out: &Output<'_, R>, byte: u8) {
-    if !out.is_lost.get() {
-        look(out, print!(out.rt; "{byte:02x}"));
+fn put_byte<R: Print + Tell>(stdout: &Output<'_, R>, byte: u8) {
+    if !stdout.is_lost.get() {
+        look(stdout, print!(stdout.rt; "{byte:02x}"));
     }
 }
 
 // Writes bytes as two hexadecimal digits each.
-pub fn put_bytes<R: Print + Tell>(out: &Output<'_, R>, bytes: &[u8]) {
+pub fn put_bytes<R: Print + Tell>(stdout: &Output<'_, R>, bytes: &[u8]) {
     for b in bytes {
-        put_byte(out, *b);
+        put_byte(stdout, *b);
     }
 }
 
 // Writes a refusal by its number, and what stands after it.
-pub fn put_refusal<R: Print + Tell>(out: &Output<'_, R>, why: Refusal, after: &[u8]) {
-    put(out, b"refused ");
-    put_number(out, refusal::number(why) as u64, after);
+pub fn put_refusal<R: Print + Tell>(stdout: &Output<'_, R>, why: Refusal, after: &[u8]) {
+    put(stdout, b"refused ");
+    put_number(stdout, refusal::number(why) as u64, after);
 }

@@ -1,26 +1,30 @@
 // Runs several commands of the desk program, parted by the word `then`, each with the line `then` after it.
 #![tactic(auto)]
 
+use desk_lines::{Output, Tell};
+use std::env::Env;
+use std::fs::Files;
+
 // Whether word i of the command line parts two commands.
 fn parts(i: usize) -> bool {
-    let mut buf = io::buffer();
+    let mut buf = [0u8; 4096];
     let n = os::arg(i, &mut buf);
     let k = desk_files::within(n, &buf);
-    check::same(&buf[..k], b"then")
+    desk_lines::same(&buf[..k], b"then")
 }
 
 // One command.
-fn run_one(at: usize, count: usize) {
-    desk_commands::run(at, count);
-    desk_lines::put(b"then\n");
+fn run_one<R: Env + Files + Print + Tell>(stdout: &Output<'_, R>, at: usize, count: usize) {
+    desk_commands::run(stdout, at, count);
+    desk_lines::put(stdout, b"then\n");
 }
 
 // The command before word i where that word parts two commands: where the next one begins.
-fn run_part(at: usize, i: usize) -> usize {
+fn run_part<R: Env + Files + Print + Tell>(stdout: &Output<'_, R>, at: usize, i: usize) -> usize {
     if i < 1000000 {
         if at <= i {
             if parts(i) {
-                run_one(at, i - at);
+                run_one(stdout, at, i - at);
                 return i + 1;
             }
         }
@@ -29,18 +33,19 @@ fn run_part(at: usize, i: usize) -> usize {
 }
 
 // Every command.
-fn run_all(words: usize) {
+fn run_all<R: Env + Files + Print + Tell>(stdout: &Output<'_, R>, words: usize) {
     let mut at: usize = 1;
     let mut i: usize = 1;
     while i < words {
-        at = run_part(at, i);
+        at = run_part(stdout, at, i);
         i += 1;
     }
     if at < words {
-        run_one(at, words - at);
+        run_one(stdout, at, words - at);
     }
 }
 
-fn main() {
-    run_all(os::arg_count());
+fn main(rt: HostRuntime) {
+    let stdout = Output::new(&rt);
+    run_all(&stdout, desk_files::argument_count(&rt));
 }

@@ -10,6 +10,7 @@ ghost use Rattle.std.specs.Prelude.{◌≡◌, ◌≤◌, ◌<◌, length};
 ghost use Rattle.num_limits.specs.Capacities.{arcs_most, labels_most, sums_most};
 
 use byte_section::ReadAnswer;
+use desk_lines::{Output, Tell};
 use merge::MergeAnswer;
 use norm_system::NormalLabel;
 use refusal::Refusal;
@@ -268,59 +269,74 @@ fn checksum(bytes: &[u8]) -> u64 {
     sum
 }
 
-fn tell_refusal(why: Refusal, place: usize) {
-    desk_lines::put_refusal(why, b" at ");
-    desk_lines::put_number(place as u64, b"");
+fn tell_refusal<R: Print + Tell>(stdout: &Output<'_, R>, why: Refusal, place: usize) {
+    desk_lines::put_refusal(stdout, why, b" at ");
+    desk_lines::put_number(stdout, place as u64, b"");
 }
 
 // What reading a file answers, its length and its checksum.
-fn tell(name: &[u8], file: &[u8]) {
-    desk_lines::put(name);
+fn tell<R: Print + Tell>(stdout: &Output<'_, R>, name: &[u8], file: &[u8]) {
+    desk_lines::put(stdout, name);
     let r = norm_read::read(file);
     let answer = r.answer;
     match answer {
         ReadAnswer::Read => {
-            desk_lines::put_number(r.arcs as u64, b" arcs, ");
-            desk_lines::put_number(r.parameters as u64, b" parameters");
+            desk_lines::put_number(stdout, r.arcs as u64, b" arcs, ");
+            desk_lines::put_number(stdout, r.parameters as u64, b" parameters");
         }
         ReadAnswer::Refused(why, place) => {
-            tell_refusal(why, place);
+            tell_refusal(stdout, why, place);
         }
     }
-    desk_lines::put(b", ");
-    desk_lines::put_number(file.len() as u64, b" bytes, checksum ");
-    desk_lines::put_number(checksum(file), b"\n");
+    desk_lines::put(stdout, b", ");
+    desk_lines::put_number(stdout, file.len() as u64, b" bytes, checksum ");
+    desk_lines::put_number(stdout, checksum(file), b"\n");
 }
 
 // Two files merged into the room: the length of the merged one, 0 with a refusal told.
-fn merge(first: &[u8], second: &[u8], out: &mut [u8]) -> usize {
+fn merge<R: Print + Tell>(
+    stdout: &Output<'_, R>,
+    first: &[u8],
+    second: &[u8],
+    out: &mut [u8],
+) -> usize {
     let answer = merge::merge(first, second, out);
     match answer {
         MergeAnswer::Is(n) => n,
         MergeAnswer::First(why, place) => {
-            tell_refusal(why, place);
+            tell_refusal(stdout, why, place);
             0
         }
         MergeAnswer::Second(why, place) => {
-            tell_refusal(why, place);
+            tell_refusal(stdout, why, place);
             0
         }
         MergeAnswer::Refused(why) => {
-            tell_refusal(why, 0);
+            tell_refusal(stdout, why, 0);
             0
         }
     }
 }
 
 // Two files merged in both orders; before the second merge the room gets other bytes.
-fn merge_both(first: &[u8], second: &[u8], out: &mut [u8], other: Plan) {
-    tell(b"first: ", first);
-    tell(b"second: ", second);
-    let n = merge(first, second, out);
-    tell(b"merged: ", desk_lines::part(out, 0, n));
+fn merge_both<R: Print + Tell>(
+    stdout: &Output<'_, R>,
+    first: &[u8],
+    second: &[u8],
+    out: &mut [u8],
+    other: Plan,
+) {
+    tell(stdout, b"first: ", first);
+    tell(stdout, b"second: ", second);
+    let n = merge(stdout, first, second, out);
+    tell(stdout, b"merged: ", desk_lines::part(out, 0, n));
     make(out, other);
-    let m = merge(second, first, out);
-    tell(b"merged in the other order: ", desk_lines::part(out, 0, m));
+    let m = merge(stdout, second, first, out);
+    tell(
+        stdout,
+        b"merged in the other order: ",
+        desk_lines::part(out, 0, m),
+    );
 }
 
 // A file of eight arcs, the common labels and, where told, the arcs' own.
@@ -335,12 +351,20 @@ fn of_eight(first: u32, common: usize, own: bool, seed: u64) -> Plan {
 }
 
 // Two such files with no arc in common.
-fn pair(a: &mut [u8], b: &mut [u8], out: &mut [u8], common: usize, own: bool) {
+fn pair<R: Print + Tell>(
+    stdout: &Output<'_, R>,
+    a: &mut [u8],
+    b: &mut [u8],
+    out: &mut [u8],
+    common: usize,
+    own: bool,
+) {
     let one = of_eight(1, common, own, 101);
     let two = of_eight(9, common, own, 202);
     let n = make(a, one);
     let m = make(b, two);
     merge_both(
+        stdout,
         desk_lines::part(a, 0, n),
         desk_lines::part(b, 0, m),
         out,
@@ -349,7 +373,7 @@ fn pair(a: &mut [u8], b: &mut [u8], out: &mut [u8], common: usize, own: bool) {
 }
 
 // All of them.
-pub fn run() {
+pub fn run<R: Print + Tell>(stdout: &Output<'_, R>) {
     let mut a = room();
     let mut b = room();
     let mut out = room();
@@ -361,9 +385,9 @@ pub fn run() {
         seed: 303,
     };
     let n = make(&mut a, whole);
-    tell(b"sixteen arcs: ", desk_lines::part(&a, 0, n));
-    desk_lines::put(b"the same 500 parameters\n");
-    pair(&mut a, &mut b, &mut out, 500, false);
-    desk_lines::put(b"372 of 436 parameters in common\n");
-    pair(&mut a, &mut b, &mut out, 372, true);
+    tell(stdout, b"sixteen arcs: ", desk_lines::part(&a, 0, n));
+    desk_lines::put(stdout, b"the same 500 parameters\n");
+    pair(stdout, &mut a, &mut b, &mut out, 500, false);
+    desk_lines::put(stdout, b"372 of 436 parameters in common\n");
+    pair(stdout, &mut a, &mut b, &mut out, 372, true);
 }

@@ -2,6 +2,7 @@
 // own answer to each part, to finish and to one part after it; then the answers of the records that were taken.
 #![tactic(auto)]
 
+use desk_lines::{Output, Tell};
 use num_limits::{ARC_SUMS_MOST, PARAMETERS_MOST};
 use part::{Begun, Parted};
 use part_laws::{PartAnswer, Position};
@@ -17,17 +18,17 @@ fn file_room() -> [u8; 150000] {
     [0; 150000]
 }
 
-fn put_answer(answer: PartAnswer) {
+fn put_answer<R: Print + Tell>(stdout: &Output<'_, R>, answer: PartAnswer) {
     match answer {
-        PartAnswer::Took(_) => desk_lines::put(b"ok "),
+        PartAnswer::Took(_) => desk_lines::put(stdout, b"ok "),
         PartAnswer::Stopped(r) => {
-            desk_lines::put(b"refused_");
-            desk_lines::put_number(refusal::number(r) as u64, b" ");
+            desk_lines::put(stdout, b"refused_");
+            desk_lines::put_number(stdout, refusal::number(r) as u64, b" ");
         }
         PartAnswer::Broken(r, place, _) => {
-            desk_lines::put(b"refused_");
-            desk_lines::put_number(refusal::number(r) as u64, b"_at_");
-            desk_lines::put_number(place as u64, b" ");
+            desk_lines::put(stdout, b"refused_");
+            desk_lines::put_number(stdout, refusal::number(r) as u64, b"_at_");
+            desk_lines::put_number(stdout, place as u64, b" ");
         }
     }
 }
@@ -42,35 +43,43 @@ fn many_of(cuts: &[u8]) -> usize {
 }
 
 // The answers of the records that were taken, or `-`.
-fn put_taken(told: &[u8], taken: usize) {
-    desk_lines::put(b"taken=");
+fn put_taken<R: Print + Tell>(stdout: &Output<'_, R>, told: &[u8], taken: usize) {
+    desk_lines::put(stdout, b"taken=");
     if taken == 0 {
-        desk_lines::put(b"-");
+        desk_lines::put(stdout, b"-");
     }
     let mut i: usize = 0;
     while i < taken {
         if i > 0 {
-            desk_lines::put(b",");
+            desk_lines::put(stdout, b",");
         }
-        desk_lines::put_number(desk_lines::byte_at(told, i) as u64, b"");
+        desk_lines::put_number(stdout, desk_lines::byte_at(told, i) as u64, b"");
         i += 1;
     }
-    desk_lines::put(b"\n");
+    desk_lines::put(stdout, b"\n");
 }
 
 // The file is over: finish, and a part after it.
-fn close(p: Position, t: Tally, matrix: &mut [i64], rights: &mut [i64], told: &mut [u8]) {
+fn close<R: Print + Tell>(
+    stdout: &Output<'_, R>,
+    p: Position,
+    t: Tally,
+    matrix: &mut [i64],
+    rights: &mut [i64],
+    told: &mut [u8],
+) {
     let last = part::finish(p);
     let said = last.answer;
     let q = last.position;
-    put_answer(said);
+    put_answer(stdout, said);
     let after = part::part(q, t, matrix, rights, b"", told);
     let answer = after.answer;
-    put_answer(answer);
+    put_answer(stdout, answer);
 }
 
 // One part, with the room after the answers that are there; its answer is written.
-fn hand_over(
+fn hand_over<R: Print + Tell>(
+    stdout: &Output<'_, R>,
     p: Position,
     t: Tally,
     matrix: &mut [i64],
@@ -81,7 +90,7 @@ fn hand_over(
     let k = num_whole::least(p.taken, told.len());
     let r = part::part(p, t, matrix, rights, bytes, &mut told[k..]);
     let answer = r.answer;
-    put_answer(answer);
+    put_answer(stdout, answer);
     r
 }
 
@@ -94,7 +103,8 @@ struct Cut {
 }
 
 // The parts before the cuts.
-fn run_cuts(
+fn run_cuts<R: Print + Tell>(
+    stdout: &Output<'_, R>,
     first: Begun,
     file: &[u8],
     cuts: &[u8],
@@ -111,7 +121,15 @@ fn run_cuts(
     let mut at: usize = 0;
     while i < many {
         let e = desk_lines::decimal_at(cuts, desk_lines::item(cuts, b',', i)) as usize;
-        let r = hand_over(p, t, matrix, rights, desk_lines::part(file, at, e), told);
+        let r = hand_over(
+            stdout,
+            p,
+            t,
+            matrix,
+            rights,
+            desk_lines::part(file, at, e),
+            told,
+        );
         let q = r.position;
         let u = r.tally;
         p = q;
@@ -127,10 +145,18 @@ fn run_cuts(
 }
 
 // The part after the last cut, and the end of the file.
-fn run_last(c: Cut, file: &[u8], matrix: &mut [i64], rights: &mut [i64], told: &mut [u8]) {
+fn run_last<R: Print + Tell>(
+    stdout: &Output<'_, R>,
+    c: Cut,
+    file: &[u8],
+    matrix: &mut [i64],
+    rights: &mut [i64],
+    told: &mut [u8],
+) {
     let p = c.position;
     let t = c.tally;
     let last = hand_over(
+        stdout,
         p,
         t,
         matrix,
@@ -140,21 +166,25 @@ fn run_last(c: Cut, file: &[u8], matrix: &mut [i64], rights: &mut [i64], told: &
     );
     let position = last.position;
     let tally = last.tally;
-    close(position, tally, matrix, rights, told);
-    put_taken(told, position.taken);
+    close(stdout, position, tally, matrix, rights, told);
+    put_taken(stdout, told, position.taken);
 }
 
 // The parts of a line's file one after another: one before each cut, and one after the last.
-fn run_line(line: &[u8]) {
+fn run_line<R: Print + Tell>(stdout: &Output<'_, R>, line: &[u8]) {
     let mut file = file_room();
     let n = desk_lines::hex_bytes(line, &mut file);
     let mut matrix = [0i64; ARC_SUMS_MOST];
     let mut rights = [0i64; PARAMETERS_MOST];
     let mut told = [0u8; 5000];
-    desk_lines::put(desk_lines::part(line, desk_lines::word(line, 1), desk_lines::word(line, 3)));
+    desk_lines::put(
+        stdout,
+        desk_lines::part(line, desk_lines::word(line, 1), desk_lines::word(line, 3)),
+    );
     let first = part::begin(&mut matrix, &mut rights);
     let bytes = desk_lines::part(&file, 0, n);
     let c = run_cuts(
+        stdout,
         first,
         bytes,
         desk_lines::value(line, 1),
@@ -162,19 +192,20 @@ fn run_line(line: &[u8]) {
         &mut rights,
         &mut told,
     );
-    run_last(c, bytes, &mut matrix, &mut rights, &mut told);
+    run_last(stdout, c, bytes, &mut matrix, &mut rights, &mut told);
 }
 
-fn run(text: &[u8]) {
+fn run<R: Print + Tell>(stdout: &Output<'_, R>, text: &[u8]) {
     let mut at: usize = 0;
     while at < text.len() {
-        run_line(test_runner::line(text, at));
+        run_line(stdout, test_runner::line(text, at));
         at = desk_lines::next_line(text, at);
     }
 }
 
-fn main() {
+fn main(rt: HostRuntime) {
+    let stdout = Output::new(&rt);
     let mut buffer = room();
-    let n = test_runner::input(&mut buffer);
-    run(&buffer[..n]);
+    let n = test_runner::input(&rt, &mut buffer);
+    run(&stdout, &buffer[..n]);
 }

@@ -54,17 +54,17 @@ pub struct Named {
 }
 
 // The file that argument i names, read whole. Its name is written, and whether it can't be read.
-pub fn file<R: Env + Files + Print + Tell>(out: &Output<'_, R>, i: usize, buf: &mut [u8]) -> Named
+pub fn file<R: Env + Files + Print + Tell>(stdout: &Output<'_, R>, i: usize, buf: &mut [u8]) -> Named
     ensures { IsPrefixLen result.length buf.new }
 {
-    let rt = out.runtime();
+    let rt = stdout.runtime();
     let mut path = [0u8; desk_files::PATH_MOST];
     let n = desk_files::argument(rt, i, &mut path).length;
-    desk_lines::put(out, &path[..n]);
-    desk_lines::put(out, b" ");
+    desk_lines::put(stdout, &path[..n]);
+    desk_lines::put(stdout, b" ");
     let got = desk_files::load_path(rt, &path[..n], buf);
     if !got.is_whole {
-        desk_lines::put(out, b"unread ");
+        desk_lines::put(stdout, b"unread ");
     }
     Named {
         last: last_of(&path[..n]),

@@ -7,6 +7,7 @@
 
 use arc_heading::Heading;
 use arc_limits::{Label, Settings, Station};
+use desk_lines::{Output, Tell};
 use num_limits::{ARC_SUMS_MOST, PARAMETERS_MOST, STATIONS_MOST, TYPES};
 use refusal::Refusal;
 use take_one::TakeAnswer;
@@ -186,80 +187,86 @@ fn tally_of(line: &[u8]) -> Tally {
 // ---- writing
 
 // Writes a comma before each item of a list but the first.
-fn put_comma(i: usize) {
+fn put_comma<R: Print + Tell>(stdout: &Output<'_, R>, i: usize) {
     if i > 0 {
-        desk_lines::put(b",");
+        desk_lines::put(stdout, b",");
     }
 }
 
-fn put_sums(sums: &[i64]) {
+fn put_sums<R: Print + Tell>(stdout: &Output<'_, R>, sums: &[i64]) {
     let mut i: usize = 0;
     while i < sums.len() {
-        put_comma(i);
-        desk_lines::put_signed(sums[i], b"");
+        put_comma(stdout, i);
+        desk_lines::put_signed(stdout, sums[i], b"");
         i += 1;
     }
 }
 
-fn put_counts(counts: [u32; STATIONS_MOST]) {
+fn put_counts<R: Print + Tell>(stdout: &Output<'_, R>, counts: [u32; STATIONS_MOST]) {
     let mut i: usize = 0;
     while i < STATIONS_MOST {
-        put_comma(i);
-        desk_lines::put_number(counts[i] as u64, b"");
+        put_comma(stdout, i);
+        desk_lines::put_number(stdout, counts[i] as u64, b"");
         i += 1;
     }
 }
 
-fn put_row(w: Row) {
+fn put_row<R: Print + Tell>(stdout: &Output<'_, R>, w: Row) {
     let mut i: usize = 0;
     while i < 10 {
-        put_comma(i);
-        desk_lines::put_number(w.times[i], b"");
+        put_comma(stdout, i);
+        desk_lines::put_number(stdout, w.times[i], b"");
         i += 1;
     }
 }
 
-fn put_rows(t: Tally) {
+fn put_rows<R: Print + Tell>(stdout: &Output<'_, R>, t: Tally) {
     let mut i: usize = 0;
     while i < STATIONS_MOST {
         let w = t.rows[i];
-        put_comma(i);
-        put_row(w);
+        put_comma(stdout, i);
+        put_row(stdout, w);
         i += 1;
     }
 }
 
-fn put_marks(marks: [u16; PARAMETERS_MOST]) {
+fn put_marks<R: Print + Tell>(stdout: &Output<'_, R>, marks: [u16; PARAMETERS_MOST]) {
     let mut i: usize = 0;
     while i < PARAMETERS_MOST {
-        put_comma(i);
-        desk_lines::put_number(marks[i] as u64, b"");
+        put_comma(stdout, i);
+        desk_lines::put_number(stdout, marks[i] as u64, b"");
         i += 1;
     }
 }
 
 // Writes a state, each of its parts by a name that begins as told, and ends the line.
-fn put_state(name: &[u8], t: Tally, matrix: &[i64], rights: &[i64]) {
+fn put_state<R: Print + Tell>(
+    stdout: &Output<'_, R>,
+    name: &[u8],
+    t: Tally,
+    matrix: &[i64],
+    rights: &[i64],
+) {
     let counts = t.counts;
     let marks = t.marks;
-    desk_lines::put(name);
-    desk_lines::put(b"matrix=");
-    put_sums(matrix);
-    desk_lines::put(name);
-    desk_lines::put(b"rights=");
-    put_sums(rights);
-    desk_lines::put(name);
-    desk_lines::put(b"square=");
-    desk_lines::put_number(t.square, name);
-    desk_lines::put(b"counts=");
-    put_counts(counts);
-    desk_lines::put(name);
-    desk_lines::put(b"last=");
-    put_rows(t);
-    desk_lines::put(name);
-    desk_lines::put(b"marks=");
-    put_marks(marks);
-    desk_lines::put(b"\n");
+    desk_lines::put(stdout, name);
+    desk_lines::put(stdout, b"matrix=");
+    put_sums(stdout, matrix);
+    desk_lines::put(stdout, name);
+    desk_lines::put(stdout, b"rights=");
+    put_sums(stdout, rights);
+    desk_lines::put(stdout, name);
+    desk_lines::put(stdout, b"square=");
+    desk_lines::put_number(stdout, t.square, name);
+    desk_lines::put(stdout, b"counts=");
+    put_counts(stdout, counts);
+    desk_lines::put(stdout, name);
+    desk_lines::put(stdout, b"last=");
+    put_rows(stdout, t);
+    desk_lines::put(stdout, name);
+    desk_lines::put(stdout, b"marks=");
+    put_marks(stdout, marks);
+    desk_lines::put(stdout, b"\n");
 }
 
 // ---- lines
@@ -274,36 +281,60 @@ fn before(line: &[u8]) -> &[u8] {
 }
 
 // The state after a record that was accepted, and the one before it as it was read.
-fn put_accepted(line: &[u8], t: Tally, matrix: &[i64], rights: &[i64]) {
-    desk_lines::put(b"0 ");
-    desk_lines::put(before(line));
-    put_state(b" after.", t, matrix, rights);
+fn put_accepted<R: Print + Tell>(
+    stdout: &Output<'_, R>,
+    line: &[u8],
+    t: Tally,
+    matrix: &[i64],
+    rights: &[i64],
+) {
+    desk_lines::put(stdout, b"0 ");
+    desk_lines::put(stdout, before(line));
+    put_state(stdout, b" after.", t, matrix, rights);
 }
 
 // The number of a refusal, and the state as it is after it.
-fn put_refused(why: Refusal, t: Tally, matrix: &[i64], rights: &[i64]) {
-    desk_lines::put_number(refusal::number(why) as u64, b"");
-    put_state(b" before.", t, matrix, rights);
+fn put_refused<R: Print + Tell>(
+    stdout: &Output<'_, R>,
+    why: Refusal,
+    t: Tally,
+    matrix: &[i64],
+    rights: &[i64],
+) {
+    desk_lines::put_number(stdout, refusal::number(why) as u64, b"");
+    put_state(stdout, b" before.", t, matrix, rights);
 }
 
 // Takes a line's record into its state, and writes the line from the answer on.
-fn answer_line(line: &[u8], matrix: &mut [i64], rights: &mut [i64], bytes: &[u8]) {
+fn answer_line<R: Print + Tell>(
+    stdout: &Output<'_, R>,
+    line: &[u8],
+    matrix: &mut [i64],
+    rights: &mut [i64],
+    bytes: &[u8],
+) {
     let r = take::take(heading_of(line), tally_of(line), matrix, rights, bytes);
     let answer = r.answer;
     let t = r.tally;
-    desk_lines::put(b"answer=");
+    desk_lines::put(stdout, b"answer=");
     match answer {
-        TakeAnswer::Accepted => put_accepted(line, t, matrix, rights),
-        TakeAnswer::Refused(why) => put_refused(why, t, matrix, rights),
+        TakeAnswer::Accepted => put_accepted(stdout, line, t, matrix, rights),
+        TakeAnswer::Refused(why) => put_refused(stdout, why, t, matrix, rights),
     }
 }
 
 // A line that takes one record, written anew.
-fn run_one(line: &[u8], matrix: &mut [i64], rights: &mut [i64], bytes: &[u8]) {
+fn run_one<R: Print + Tell>(
+    stdout: &Output<'_, R>,
+    line: &[u8],
+    matrix: &mut [i64],
+    rights: &mut [i64],
+    bytes: &[u8],
+) {
     fill(desk_lines::value(line, 5), matrix);
     fill(desk_lines::value(line, 6), rights);
-    desk_lines::put(desk_lines::part(line, 0, desk_lines::word(line, 4)));
-    answer_line(line, matrix, rights, bytes);
+    desk_lines::put(stdout, desk_lines::part(line, 0, desk_lines::word(line, 4)));
+    answer_line(stdout, line, matrix, rights, bytes);
 }
 
 // ---- mixes
@@ -316,7 +347,8 @@ fn number(a: TakeAnswer) -> u64 {
 }
 
 // Takes record i of some bytes, and writes what it was told: the tally after it.
-fn take_next(
+fn take_next<R: Print + Tell>(
+    stdout: &Output<'_, R>,
     h: Heading,
     t: Tally,
     matrix: &mut [i64],
@@ -332,13 +364,14 @@ fn take_next(
         arc_record::record_at(bytes, 0, h.parameters, i),
     );
     let answer = r.answer;
-    put_comma(i);
-    desk_lines::put_number(number(answer), b"");
+    put_comma(stdout, i);
+    desk_lines::put_number(stdout, number(answer), b"");
     r.tally
 }
 
 // Takes so many records, one by one, from the empty state: the tally after them.
-fn take_each(
+fn take_each<R: Print + Tell>(
+    stdout: &Output<'_, R>,
     h: Heading,
     matrix: &mut [i64],
     rights: &mut [i64],
@@ -349,49 +382,56 @@ fn take_each(
     let mut tally = begun.tally;
     let mut i: usize = 0;
     while i < count {
-        tally = take_next(h, tally, matrix, rights, bytes, i);
+        tally = take_next(stdout, h, tally, matrix, rights, bytes, i);
         i += 1;
     }
     tally
 }
 
 // A line that takes several records, written anew: `.. records=BYTES answers=.. after.matrix=..`, with as many records as answers.
-fn run_mix(line: &[u8], matrix: &mut [i64], rights: &mut [i64], bytes: &[u8]) {
+fn run_mix<R: Print + Tell>(
+    stdout: &Output<'_, R>,
+    line: &[u8],
+    matrix: &mut [i64],
+    rights: &mut [i64],
+    bytes: &[u8],
+) {
     let count = desk_lines::items(desk_lines::value(line, 4), b',');
-    desk_lines::put(desk_lines::part(line, 0, desk_lines::word(line, 4)));
-    desk_lines::put(b"answers=");
-    let t = take_each(heading_of(line), matrix, rights, bytes, count);
-    put_state(b" after.", t, matrix, rights);
+    desk_lines::put(stdout, desk_lines::part(line, 0, desk_lines::word(line, 4)));
+    desk_lines::put(stdout, b"answers=");
+    let t = take_each(stdout, heading_of(line), matrix, rights, bytes, count);
+    put_state(stdout, b" after.", t, matrix, rights);
 }
 
 // ---- all
 
 // A line of keys and values, written anew: the fourth key is `record` or `records`.
-fn run_line(line: &[u8]) {
+fn run_line<R: Print + Tell>(stdout: &Output<'_, R>, line: &[u8]) {
     let mut matrix = [0i64; ARC_SUMS_MOST];
     let mut rights = [0i64; PARAMETERS_MOST];
-    let mut buffer = io::buffer();
+    let mut buffer = [0u8; 4096];
     let n = desk_lines::hex_bytes(desk_lines::value(line, 3), &mut buffer);
     let bytes = desk_lines::part(&buffer, 0, n);
     let key = desk_lines::part(line, desk_lines::word(line, 3), line.len());
     if desk_lines::byte_at(key, 6) == b's' {
-        run_mix(line, &mut matrix, &mut rights, bytes);
+        run_mix(stdout, line, &mut matrix, &mut rights, bytes);
     } else {
-        run_one(line, &mut matrix, &mut rights, bytes);
+        run_one(stdout, line, &mut matrix, &mut rights, bytes);
     }
 }
 
 // Every line of a text.
-fn run(text: &[u8]) {
+fn run<R: Print + Tell>(stdout: &Output<'_, R>, text: &[u8]) {
     let mut at: usize = 0;
     while at < text.len() {
-        run_line(test_runner::line(text, at));
+        run_line(stdout, test_runner::line(text, at));
         at = desk_lines::next_line(text, at);
     }
 }
 
-fn main() {
+fn main(rt: HostRuntime) {
+    let stdout = Output::new(&rt);
     let mut buffer = test_runner::room();
-    let n = test_runner::input(&mut buffer);
-    run(&buffer[..n]);
+    let n = test_runner::input(&rt, &mut buffer);
+    run(&stdout, &buffer[..n]);
 }
