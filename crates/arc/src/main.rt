@@ -5,30 +5,32 @@
 ghost use Rattle.std.specs.Prelude.{◌≡◌, length};
 ghost use Rattle.list_run.specs.Rooms.{part_most};
 
-use libc::STDIN_FILENO;
+use desk_lines::{Output, Tell};
 use list_tallies::ANSWERS;
 use num_limits::PARAMETERS_MOST;
 
-fn run(buf: &mut [u8], out: &mut [u8])
+fn run<R: Input + Print + Tell>(stdout: &Output<'_, R>, buf: &mut [u8], out: &mut [u8])
     requires { length buf.old ≡ part_most }
 {
     let mut matrix = list_run::sums_room();
     let mut rights: [i64; PARAMETERS_MOST] = [0; PARAMETERS_MOST];
     let mut table: [u64; ANSWERS] = [0; ANSWERS];
-    let f = desk_arc::follow(STDIN_FILENO, buf, &mut matrix, &mut rights, &mut table);
+    let mut stdin = stdout.runtime().reader();
+    let f = desk_arc::follow(&mut stdin, buf, &mut matrix, &mut rights, &mut table);
     let answer = f.answer;
     let course = f.course;
     if f.is_read {
         let n = list_run::put_end(answer, course, &matrix, &rights, &table, out);
         let k = desk_files::within(n, out);
-        desk_lines::put(&out[..k]);
-    } else {
-        os::fail(b"standard input");
+        desk_lines::put(stdout, &out[..k]);
+    } else if let Some(e) = f.why {
+        desk_files::fail(stdout.runtime(), b"standard input", e);
     }
 }
 
-fn main() {
+fn main(rt: HostRuntime) {
+    let stdout = Output::new(&rt);
     let mut buf = desk_arc::part_room();
     let mut out = list_run::text_room();
-    run(&mut buf, &mut out);
+    run(&stdout, &mut buf, &mut out);
 }

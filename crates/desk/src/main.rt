@@ -1,9 +1,11 @@
 // desk: daily work with arc files and normal files, by words on the command line; `desk help` names the commands.
 #![tactic(auto)]
 
-fn main() {
-    let n = os::arg_count();
+use desk_lines::Output;
+
+fn main(rt: HostRuntime) {
+    let n = desk_files::argument_count(&rt);
     if n > 0 {
-        desk_commands::run(1, n - 1);
+        desk_commands::run(&Output::new(&rt), 1, n - 1);
     }
 }

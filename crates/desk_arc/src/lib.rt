@@ -1,4 +1,4 @@
-// What the programs share of arc files: one is read from a descriptor in parts of 64 KiB, and its records are taken as they complete.
+// What the programs share of arc files: one is read in parts of 64 KiB, and its records are taken as they complete.
 #![tactic(auto)]
 
 ghost use Rattle.std.specs.Prelude.{◌≡◌, [], length};
@@ -11,6 +11,7 @@ use byte_section::ReadAnswer;
 use list_run::{Course, PART_MOST};
 use num_limits::RECORDS_MOST;
 use part_laws::{OPENED_MOST, RECORD_SIZE_MOST};
+use std::io::{Error, Read};
 
 // The bytes of the longest arc file, 8,651,576: its heading with the counts, and its records. A longer one is refused before more are read.
 const ARC_BYTES_MOST: usize = OPENED_MOST + RECORDS_MOST * RECORD_SIZE_MOST;
@@ -22,17 +23,18 @@ pub fn part_room() -> [u8; PART_MOST]
     [0; PART_MOST]
 }
 
-// What came of a file: whether no read has failed, what its parts said of its form, and where they led.
+// What came of a file: whether no read has failed, what its parts said of its form, where they led, and why a read failed.
 #[derive(Clone, Copy)]
 pub struct Followed {
     pub is_read: bool,
     pub answer: ReadAnswer,
     pub course: Course,
+    pub why: Option<Error>,
 }
 
-// Reads what stands behind a descriptor to its end, to a read that fails, or to a refusal in the file's form. The end of the file is not told yet.
-pub fn follow(
-    fd: i32,
+// Reads what a reader gives to its end, to a read that fails, or to a refusal in the file's form. The end of the file is not told yet.
+pub fn follow<S: Read>(
+    from: &mut S,
     buf: &mut [u8],
     matrix: &mut [i64],
     rights: &mut [i64],
@@ -44,7 +46,7 @@ pub fn follow(
     let mut c = list_run::begin(matrix, rights, table);
     let mut total: usize = 0;
     while total <= ARC_BYTES_MOST {
-        let got = desk_files::load(fd, buf);
+        let got = desk_files::load(from, buf);
         let n = got.length;
         let x = list_run::hear(c, matrix, rights, table, &buf[..n]);
         let answer = x.answer;
@@ -56,6 +58,7 @@ pub fn follow(
                         is_read: got.is_whole,
                         answer,
                         course,
+                        why: got.why,
                     };
                 }
                 c = course;
@@ -66,6 +69,7 @@ pub fn follow(
                     is_read: true,
                     answer,
                     course,
+                    why: None,
                 };
             }
         }
@@ -74,5 +78,6 @@ pub fn follow(
         is_read: true,
         answer: ReadAnswer::Read,
         course: c,
+        why: None,
     }
 }

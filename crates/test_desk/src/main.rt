@@ -1,14 +1,15 @@
 // Runs several commands of the desk program, parted by the word `then`, each with the line `then` after it.
 #![tactic(auto)]
 
+use desk_files::PATH_MOST;
 use desk_lines::{Output, Tell};
 use std::env::Env;
 use std::fs::Files;
 
 // Whether word i of the command line parts two commands.
-fn parts(i: usize) -> bool {
-    let mut buf = [0u8; 4096];
-    let n = os::arg(i, &mut buf);
+fn parts<R: Env>(rt: &R, i: usize) -> bool {
+    let mut buf = [0u8; PATH_MOST];
+    let n = desk_files::argument(rt, i, &mut buf).length;
     let k = desk_files::within(n, &buf);
     desk_lines::same(&buf[..k], b"then")
 }
@@ -23,7 +24,7 @@ fn run_one<R: Env + Files + Print + Tell>(stdout: &Output<'_, R>, at: usize, cou
 fn run_part<R: Env + Files + Print + Tell>(stdout: &Output<'_, R>, at: usize, i: usize) -> usize {
     if i < 1000000 {
         if at <= i {
-            if parts(i) {
+            if parts(stdout.runtime(), i) {
                 run_one(stdout, at, i - at);
                 return i + 1;
             }
