@@ -54,7 +54,11 @@ pub struct Named {
 }
 
 // The file that argument i names, read whole. Its name is written, and whether it can't be read.
-pub fn file<R: Env + Files + Print + Tell>(stdout: &Output<'_, R>, i: usize, buf: &mut [u8]) -> Named
+pub fn file<R: Env + Files + Print + Tell>(
+    stdout: &Output<'_, R>,
+    i: usize,
+    buf: &mut [u8],
+) -> Named
     ensures { IsPrefixLen result.length buf.new }
 {
     let rt = stdout.runtime();
