@@ -1,5 +1,6 @@
-// What the programs share: room for whole files, reading one whole, and writing one that is not there yet. What the system refuses is told on
-// standard error. A name is bytes, as the command line gives them; the system is asked for one that is UTF-8 text, and another is told as refused.
+// What the programs share: the words of the command line, room for whole files, reading one whole, and writing one that is not there yet. What the
+// system refuses is told on standard error, and only while no file is open for writing: it could have the number of standard error, where that was
+// closed. A name is bytes, as the command line gives them; std takes names that are UTF-8 text, and another is told as refused.
 #![tactic(auto)]
 
 ghost use Rattle.std.specs.Prelude.{◌≡◌, ◌+◌, ◌≤◌, length};
@@ -380,9 +381,9 @@ fn make<R: Files>(rt: &R, path: &[u8]) -> io::Result<R::File> {
 // Makes a file of this name with these bytes, on its device and closed; or leaves none, and says why.
 fn save_part<R: Files + Tell>(rt: &R, part: &[u8], bytes: &[u8]) -> bool {
     match make(rt, part) {
-        Ok(file) => {
-            let mut file = file;
+        Ok(mut file) => {
             let written = is_down(&mut file, bytes);
+            // closed before anything is told
             drop(file);
             match written {
                 Ok(()) => true,
