@@ -1,7 +1,7 @@
 // The commands of the desk program: which words name them, which files they read and write, and what they tell. What is told of a file comes
 // from the proved libraries; here bytes are only moved. Results and refusals go to standard output, what the system refuses to standard error.
-// An arc file is read in parts, so that its length does not matter. The rooms for normal files are locals of one function that is called from
-// several places: a function that is called from one place only becomes a part of its caller.
+// An arc file is read in parts, so that its length does not matter. The rooms for normal files are locals of one function, which is never made a part
+// of its callers: the commands that read no normal file do without them.
 #![tactic(auto)]
 
 ghost use Rattle.std.specs.Prelude.{◌≡◌, length};
@@ -225,6 +225,7 @@ fn read_arc<R: Files + Print + Tell, S: Read>(
 }
 
 // An arc file of any length is read in parts and judged, and what is asked is done with it, with OUT where that is a file.
+#[inline(never)]
 fn with_arc<R: Files + Print + Tell>(stdout: &Output<'_, R>, path: &[u8], to: &[u8], asked: Asked) {
     let mut buf = desk_arc::part_room();
     match desk_files::open(stdout.runtime(), path) {
@@ -385,6 +386,7 @@ fn fetch_first<R: Files + Print + Tell>(
 }
 
 // A normal file is read and judged, and told with its counts, moved to a form as OUT, or merged with a second one into OUT.
+#[inline(never)]
 fn with_normals<R: Files + Print + Tell>(
     stdout: &Output<'_, R>,
     first: &[u8],
