@@ -22,8 +22,9 @@
      read by every later call.
    - Nothing is kept between calls, and nothing is allocated: calls in different threads on different rooms do not meet. Stack: whl_list 45 KB,
      whl_merge and whl_part 25 KB, whl_position_heading 15 KB, every other call below 14 KB.
-   - No call depends on the floating-point environment or changes it: in every rounding mode, with exceptions unmasked and with subnormals taken for
-     zero the answers are the same, and no exception is raised. */
+   - No answer depends on the floating-point environment: in every rounding mode and with subnormals taken for zero it is the same. A subnormal
+     double raises the flag of a denormal operand, a signalling not-a-number that of an invalid one: where these two traps are unmasked, mask them
+     around a call. */
 #ifndef WHELORUKA_H
 #define WHELORUKA_H
 #include <stddef.h>
