@@ -6,6 +6,7 @@ ghost use Rattle.std.specs.Prelude.{◌≡◌, length};
 ghost use Rattle.list_run.specs.Rooms.{part_most};
 
 use desk_lines::{Output, Tell};
+use list_run::PART_MOST;
 use list_tallies::ANSWERS;
 use num_limits::PARAMETERS_MOST;
 
@@ -17,20 +18,19 @@ fn run<R: Input + Print + Tell>(stdout: &Output<'_, R>, buf: &mut [u8], out: &mu
     let mut table: [u64; ANSWERS] = [0; ANSWERS];
     let mut stdin = stdout.runtime().reader();
     let f = desk_arc::follow(&mut stdin, buf, &mut matrix, &mut rights, &mut table);
-    let answer = f.answer;
-    let course = f.course;
-    if f.is_read {
-        let n = list_run::put_end(answer, course, &matrix, &rights, &table, out);
-        let k = desk_files::within(n, out);
-        desk_lines::put(stdout, &out[..k]);
-    } else if let Some(e) = f.why {
-        desk_files::fail(stdout.runtime(), b"standard input", e);
+    match f.failed {
+        None => {
+            let n = list_run::put_end(f.answer, f.course, &matrix, &rights, &table, out);
+            let k = desk_files::within(n, out);
+            desk_lines::put(stdout, &out[..k]);
+        }
+        Some(e) => desk_files::fail(stdout.runtime(), b"standard input", e),
     }
 }
 
 fn main(rt: HostRuntime) {
     let stdout = Output::new(&rt);
-    let mut buf = desk_arc::part_room();
+    let mut buf = desk_files::zeros::<PART_MOST>();
     let mut out = list_run::text_room();
     run(&stdout, &mut buf, &mut out);
 }

@@ -1,23 +1,20 @@
 // Inner to the readers of arc files: the heading, read from a file's beginning.
 #![tactic(auto)]
 
-ghost use Rattle.std.specs.Prelude.{◌≡◌, ◌≤◌};
+ghost use Rattle.std.specs.Prelude.{◌≡◌, ◌≤◌, IfOk};
+ghost use Rattle.refusal.specs.Told.{told_placed};
 ghost use Rattle.num_limits.specs.Capacities.{parameters_most};
-ghost use Rattle.num_whole.specs.Answer.{bad};
-ghost use Rattle.refusal.specs.Number.{number_of};
 ghost use Rattle.arc_front.specs.Front.{blank_heading};
-ghost use Rattle.arc_front.specs.Parts.{heading_part, told_heading};
+ghost use Rattle.arc_front.specs.Parts.{heading_part};
 
 use arc_heading::Heading;
-use arc_kinds::SettingsAnswer;
 use arc_limits::Settings;
-use byte_section::{ReadAnswer, SectionAnswer};
-use refusal::Refusal;
+use arc_sections::{Labels, Stations};
+use refusal::Fault;
 
-// The answer, the heading, and the place after it.
+// A heading, and the place after it.
 #[derive(Clone, Copy)]
 pub struct HeadingRead {
-    pub answer: ReadAnswer,
     pub heading: Heading,
     pub next: usize,
 }
@@ -39,48 +36,28 @@ pub fn blank() -> Heading
     }
 }
 
-fn heading_refused(r: Refusal, place: usize) -> HeadingRead
-    ensures { (told_heading result ≡ bad (number_of r) place) × (result.heading.parameters ≤ parameters_most) }
-{
-    HeadingRead {
-        answer: ReadAnswer::Refused(r, place),
-        heading: blank(),
-        next: 0,
-    }
-}
-
 // The settings, the parameters and the stations, one after the other.
-pub fn read_heading(s: &[u8]) -> HeadingRead
-    ensures { (told_heading result ≡ heading_part s.now) × (result.heading.parameters ≤ parameters_most) }
+pub fn read_heading(s: &[u8]) -> Result<HeadingRead, Fault>
+    ensures read { told_placed result ≡ heading_part s.now }
+    ensures few { IfOk result (λ r. r.heading.parameters ≤ parameters_most) }
 {
-    match arc_kinds::read_settings(s) {
-        SettingsAnswer::Got(settings) => {
-            let second = arc_sections::read_labels(s, 16);
-            let answer = second.answer;
-            let labels = second.labels;
-            match answer {
-                SectionAnswer::Read(parameters, place) => {
-                    let third = arc_sections::read_stations(s, place);
-                    let last = third.answer;
-                    let listed = third.listed;
-                    match last {
-                        SectionAnswer::Read(stations, next) => HeadingRead {
-                            answer: ReadAnswer::Read,
-                            heading: Heading {
-                                settings,
-                                parameters,
-                                stations,
-                                labels,
-                                listed,
-                            },
-                            next,
-                        },
-                        SectionAnswer::Refused(r, place) => heading_refused(r, place),
-                    }
-                }
-                SectionAnswer::Refused(r, place) => heading_refused(r, place),
-            }
-        }
-        SettingsAnswer::Refused(r, place) => heading_refused(r, place),
-    }
+    let settings = arc_kinds::read_settings(s)?;
+    let Labels {
+        count: parameters,
+        labels,
+        next: place,
+    } = arc_sections::read_labels(s, 16)?;
+    let Stations {
+        count: stations,
+        listed,
+        next,
+    } = arc_sections::read_stations(s, place)?;
+    let heading = Heading {
+        settings,
+        parameters,
+        stations,
+        labels,
+        listed,
+    };
+    Ok(HeadingRead { heading, next })
 }

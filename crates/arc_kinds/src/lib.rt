@@ -1,33 +1,57 @@
 // One record of the settings, the parameters and the stations of an arc file, read and judged.
 #![tactic(auto)]
 
-ghost use Rattle.std.specs.Prelude.{◌≡◌, ◌+◌, ◌<◌, ◌^◌};
-ghost use Rattle.byte_section.specs.Section.{judged_at};
-ghost use Rattle.arc_limits.specs.Limits.{label_key, station_key};
+ghost use Rattle.std.specs.Prelude.{◌≡◌, ◌+◌, ◌<◌, ◌^◌, ℕ, refl};
+ghost use Rattle.std.specs.Bool.{then_some};
+ghost use Rattle.refusal.specs.Told.{told_placed};
+ghost use Rattle.byte_section.specs.Section.{Kind, judged_at};
 ghost use Rattle.arc_kinds.specs.Kinds.{settings_at, settings_kind, label_at, label_kind, station_at, station_kind};
-ghost use Rattle.arc_kinds.specs.Told.{settings_part, told_settings, told_label, told_station};
+ghost use Rattle.arc_kinds.specs.Told.{settings_part};
 
 use arc_limits::{Label, Settings, Station};
-use byte_section::CountAnswer;
-use refusal::Refusal;
+use refusal::{Fault, Refusal};
 
-// What reading one record finds: it, or a refusal and its place.
-#[derive(Clone, Copy)]
-pub enum SettingsAnswer {
-    Got(Settings),
-    Refused(Refusal, usize),
+// ---- what a kind of record gives
+
+pub trait Record: Copy {
+    ghost kind: { Kind Self };
+
+    ghost SIZE: { ℕ };
+
+    // Its bytes.
+    const SIZE: usize;
+
+    // What stands at a place, where its fields are within their limits.
+    fn load(s: &[u8], at: usize) -> Option<Self>
+        requires { at + kind.size < 2 ^ 64 }
+        ensures { result ≡ then_some (kind.fields_ok s.now at) (kind.decode s.now at) };
+
+    fn key(self) -> u64
+        ensures { result ≡ kind.key self };
+
+    // The least key that may follow it.
+    fn floor_after(self) -> u64
+        ensures { result ≡ kind.after self };
+
+    ghost sized: { kind.size ≡ SIZE };
 }
 
-#[derive(Clone, Copy)]
-pub enum LabelAnswer {
-    Got(Label),
-    Refused(Refusal, usize),
-}
-
-#[derive(Clone, Copy)]
-pub enum StationAnswer {
-    Got(Station),
-    Refused(Refusal, usize),
+// One record, judged 1, 4, 5; `floor` is the least key that it may have.
+pub fn read_record<R: Record>(s: &[u8], at: usize, floor: u64) -> Result<R, Fault>
+    ensures { told_placed result ≡ judged_at R.kind s.now at floor }
+{
+    if byte_words::left(s.len(), at) < R::SIZE {
+        return Err(Fault {
+            why: Refusal::Short,
+            place: s.len(),
+        });
+    }
+    let why = match R::load(s, at) {
+        None => Refusal::Limits,
+        Some(r) if r.key() < floor => Refusal::Order,
+        Some(r) => return Ok(r),
+    };
+    Err(Fault { why, place: at })
 }
 
 // ---- settings
@@ -45,29 +69,35 @@ pub fn load_settings(s: &[u8], at: usize) -> Settings
     }
 }
 
-// The one record of the settings, after its count, judged 1, 4.
-fn judge_settings(s: &[u8]) -> SettingsAnswer
-    ensures { told_settings result ≡ judged_at settings_kind s.now 4 0 }
-{
-    if byte_words::left(s.len(), 4) < 12 {
-        return SettingsAnswer::Refused(Refusal::Short, s.len());
+impl Record for Settings {
+    ghost kind = { settings_kind };
+
+    ghost SIZE = { 12 };
+
+    const SIZE: usize = 12;
+
+    fn load(s: &[u8], at: usize) -> Option<Settings> {
+        let a = load_settings(s, at);
+        arc_limits::settings_ok(a).then_some(a)
     }
-    let a = load_settings(s, 4);
-    if arc_limits::settings_ok(a) {
-        SettingsAnswer::Got(a)
-    } else {
-        SettingsAnswer::Refused(Refusal::Limits, 4)
+
+    fn key(self) -> u64 {
+        0
     }
+
+    fn floor_after(self) -> u64 {
+        0
+    }
+
+    ghost sized = { refl };
 }
 
 // The settings section, the first of the file: its count is 1.
-pub fn read_settings(s: &[u8]) -> SettingsAnswer
-    ensures { told_settings result ≡ settings_part s.now }
+pub fn read_settings(s: &[u8]) -> Result<Settings, Fault>
+    ensures { told_placed result ≡ settings_part s.now }
 {
-    match byte_section::read_count(s, 0, 1, 1) {
-        CountAnswer::Is(_) => judge_settings(s),
-        CountAnswer::Refused(r, place) => SettingsAnswer::Refused(r, place),
-    }
+    byte_section::read_count(s, 0, 1, 1)?;
+    read_record(s, 4, 0)
 }
 
 // ---- labels
@@ -84,30 +114,27 @@ pub fn load_label(s: &[u8], at: usize) -> Label
     }
 }
 
-// One record of the parameters section, judged 1, 4, 5; `floor` is the least key that it may have.
-pub fn read_label(s: &[u8], at: usize, floor: u64) -> LabelAnswer
-    ensures { told_label result ≡ judged_at label_kind s.now at floor }
-{
-    if byte_words::left(s.len(), at) < 16 {
-        return LabelAnswer::Refused(Refusal::Short, s.len());
-    }
-    let l = load_label(s, at);
-    if arc_limits::label_ok(l) {
-        if floor <= arc_limits::label_key(l) {
-            LabelAnswer::Got(l)
-        } else {
-            LabelAnswer::Refused(Refusal::Order, at)
-        }
-    } else {
-        LabelAnswer::Refused(Refusal::Limits, at)
-    }
-}
+impl Record for Label {
+    ghost kind = { label_kind };
 
-// The least key that may follow a label.
-pub fn after_label(l: Label) -> u64
-    ensures { result ≡ label_key l + 1 }
-{
-    arc_limits::label_key(l) + 1
+    ghost SIZE = { 16 };
+
+    const SIZE: usize = 16;
+
+    fn load(s: &[u8], at: usize) -> Option<Label> {
+        let l = load_label(s, at);
+        arc_limits::label_ok(l).then_some(l)
+    }
+
+    fn key(self) -> u64 {
+        arc_limits::label_key(self)
+    }
+
+    fn floor_after(self) -> u64 {
+        arc_limits::label_key(self) + 1
+    }
+
+    ghost sized = { refl };
 }
 
 // ---- stations
@@ -122,31 +149,27 @@ pub fn load_station(s: &[u8], at: usize) -> Station
     }
 }
 
-// One record of the stations section, judged 1, 4, 5; `floor` is the least number that it may have.
-pub fn read_station(s: &[u8], at: usize, floor: u64) -> StationAnswer
-    ensures { told_station result ≡ judged_at station_kind s.now at floor }
-{
-    if byte_words::left(s.len(), at) < 8 {
-        return StationAnswer::Refused(Refusal::Short, s.len());
-    }
-    if byte_read::read_u16(s, at + 2) != 0 {
-        return StationAnswer::Refused(Refusal::Limits, at);
-    }
-    let t = load_station(s, at);
-    if arc_limits::station_ok(t) {
-        if floor <= arc_limits::station_key(t) {
-            StationAnswer::Got(t)
-        } else {
-            StationAnswer::Refused(Refusal::Order, at)
-        }
-    } else {
-        StationAnswer::Refused(Refusal::Limits, at)
-    }
-}
+impl Record for Station {
+    ghost kind = { station_kind };
 
-// The least number that may follow a station.
-pub fn after_station(t: Station) -> u64
-    ensures { result ≡ station_key t + 1 }
-{
-    arc_limits::station_key(t) + 1
+    ghost SIZE = { 8 };
+
+    const SIZE: usize = 8;
+
+    // The two bytes between the number and the correction are 0.
+    fn load(s: &[u8], at: usize) -> Option<Station> {
+        let zero = byte_read::read_u16(s, at + 2);
+        let t = load_station(s, at);
+        (zero == 0 && arc_limits::station_ok(t)).then_some(t)
+    }
+
+    fn key(self) -> u64 {
+        arc_limits::station_key(self)
+    }
+
+    fn floor_after(self) -> u64 {
+        arc_limits::station_key(self) + 1
+    }
+
+    ghost sized = { refl };
 }

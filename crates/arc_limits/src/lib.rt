@@ -39,49 +39,38 @@ pub struct Station {
     pub correction: i32,
 }
 
+#[tactic(auto, unfolding(crate::specs::Limits::window_ok, num_whole::specs::Tests::both, num_whole::specs::Tests::up_to, num_whole::specs::Tests::between))]
 fn window_ok(first: u32, days: u16) -> bool
     ensures { result ≡ window_ok first days }
 {
-    if num_whole::within(1, days as u64, 30) {
-        if first < 1 {
-            false
-        } else {
-            first as u64 + days as u64 <= DAY_AFTER_LAST
-        }
-    } else {
-        false
-    }
+    num_whole::within(1, u64::from(days), 30)
+        && 1 <= first
+        && u64::from(first) + u64::from(days) <= DAY_AFTER_LAST
 }
 
+#[tactic(auto, unfolding(crate::specs::Limits::settings_ok, num_whole::specs::Tests::both))]
 pub fn settings_ok(s: Settings) -> bool
     ensures { result ≡ settings_ok s }
 {
-    if num_whole::within(1, s.arc as u64, ARC_MOST) {
-        if num_whole::within(10, s.level as u64, 100) {
-            window_ok(s.first, s.days)
-        } else {
-            false
-        }
-    } else {
-        false
-    }
+    num_whole::within(1, u64::from(s.arc), ARC_MOST)
+        && num_whole::within(10, u64::from(s.level), 100)
+        && window_ok(s.first, s.days)
 }
 
 // Whether a parameter of kind 1 may have this index: a cell's, but none of column 33.
+#[tactic(auto, unfolding(cells::specs::Cells::is_parameter, num_whole::specs::Tests::both, num_whole::specs::Tests::less, num_whole::specs::Tests::same))]
 pub fn is_parameter(index: u32) -> bool
     ensures { result ≡ is_parameter index }
 {
-    if index >= 990 {
-        return false;
-    }
-    index % 33 + 1 != 33
+    index < 990 && index % 33 + 1 != 33
 }
 
+#[tactic(auto, unfolding(crate::specs::Limits::index_ok, num_whole::specs::Tests::pick, num_whole::specs::Tests::same, num_whole::specs::Tests::less))]
 pub fn index_ok(kind: u16, index: u16) -> bool
     ensures { result ≡ index_ok kind index }
 {
     match kind {
-        1 => is_parameter(index as u32),
+        1 => is_parameter(u32::from(index)),
         2 => index < 3000,
         3 => index < 6,
         4 => index < 2,
@@ -92,51 +81,47 @@ pub fn index_ok(kind: u16, index: u16) -> bool
 // The greatest prior weight: 2^30.
 pub const WEIGHT_MOST: u32 = 1073741824;
 
+#[tactic(auto, unfolding(crate::specs::Limits::label_ok, num_whole::specs::Tests::both, num_whole::specs::Tests::up_to))]
 pub fn label_ok(l: Label) -> bool
     ensures { result ≡ label_ok l }
 {
-    if l.weight > WEIGHT_MOST {
-        return false;
-    }
-    index_ok(l.kind, l.index)
+    l.weight <= WEIGHT_MOST && index_ok(l.kind, l.index)
 }
 
+#[tactic(auto, unfolding(crate::specs::Limits::correction_ok, num_whole::specs::Tests::both))]
 fn correction_ok(c: i32) -> bool
     ensures { result ≡ correction_ok c }
 {
-    if -60000 <= c { c <= 60000 } else { false }
+    -60000 <= c && c <= 60000
 }
 
+#[tactic(auto, unfolding(crate::specs::Limits::station_ok, num_whole::specs::Tests::both, num_whole::specs::Tests::up_to))]
 pub fn station_ok(t: Station) -> bool
     ensures { result ≡ station_ok t }
 {
-    if t.number > 999 {
-        return false;
-    }
-    correction_ok(t.correction)
+    t.number <= 999 && correction_ok(t.correction)
 }
 
 // The kind and the index of a label as one number.
+#[tactic(auto, unfolding(crate::specs::Limits::label_key))]
 pub fn label_key(l: Label) -> u64
     ensures { (result ≡ label_key l) × (result < 4294967296) }
 {
-    l.kind as u64 * 65536 + l.index as u64
+    u64::from(l.kind) * 65536 + u64::from(l.index)
 }
 
 // A station's number, by which stations ascend.
+#[tactic(auto, unfolding(crate::specs::Limits::station_key))]
 pub fn station_key(t: Station) -> u64
     ensures { (result ≡ station_key t) × (result < 65536) }
 {
-    t.number as u64
+    u64::from(t.number)
 }
 
 // Whether a heading may have so many parameters and stations.
+#[tactic(auto, unfolding(num_whole::specs::Tests::both, num_whole::specs::Tests::up_to, num_whole::specs::Tests::between))]
 pub fn numbers_ok(parameters: usize, stations: usize) -> bool
     ensures { result ≡ numbers_ok parameters stations }
 {
-    if num_whole::within(1, parameters as u64, PARAMETERS_U64) {
-        stations <= STATIONS_MOST
-    } else {
-        false
-    }
+    num_whole::within(1, parameters as u64, PARAMETERS_U64) && stations <= STATIONS_MOST
 }

@@ -1,5 +1,5 @@
 -- Document 01: the bytes of an arc file as it is written, and what holds where it is put.
-use Rattle.std.specs.Prelude.{ℕ, ◌+◌, ◌/◌, ◌≤◌, List, ◌++◌, Bool, length}
+use Rattle.std.specs.Prelude.{ℕ, ◌/◌, ◌≤◌, List, ◌++◌, Bool, length}
 use Rattle.num_limits.specs.Capacities.{parameters_most, records_most, stations_most}
 use Rattle.num_whole.specs.Tests.{up_to, both}
 use Rattle.byte_words.specs.Words.{bytes_of}

@@ -5,7 +5,6 @@ use mathlib.Core.Path.{◌≡◌, refl, sym, ap, ◌∙◌}
 use mathlib.Core.List.{List, [], ◌∷◌}
 use native.Mathlib.Omega.{arith}
 use lib.ListN.{length}
-use Rattle.arc_limits.specs.Limits.{no_label, no_station}
 use Rattle.num_whole.specs.Answer.{Judged, good, bad}
 use Rattle.num_whole.proofs.Cases.{yes, no, is_less, not_less}
 use Rattle.byte_section.specs.Section.{Kind, Run, and_then, count_at, judged_at, records, section_at, closed}
@@ -16,10 +15,11 @@ use Rattle.arc_heading.specs.declared.Heading.{Heading}
 use Rattle.arc_kinds.specs.Kinds.{settings_kind, label_kind, station_kind}
 use Rattle.arc_kinds.specs.Told.{settings_part}
 use Rattle.arc_read.specs.Arc.{heading_of, read_arc}
-use Rattle.arc_sections.specs.Sections.{Slots, slotted, labels_from, labels_part, stations_from, stations_part, records_part}
+use Rattle.arc_sections.specs.Sections.{labels_in, labels_from, labels_part, stations_in, stations_from, stations_part, records_part}
 use Rattle.arc_front.specs.Parts.{heading_part}
 use Rattle.arc_read.specs.Parts.{arc_from}
-use Rattle.byte_section.specs.Told.{Span, span_of}
+use Rattle.byte_section.specs.Told.{span_of}
+use Rattle.byte_section.specs.declared.Span.{Span}
 
 -- ---- the settings are one record, and end at 16
 one_record : (s : List ℕ) {B : Type 0} (f : Run Settings → Judged B)
@@ -35,12 +35,12 @@ settings_first s f =
     ∙ then_same _ _ _ (λ n e. let c = counted s 0 1 1 n e in let one : n ≡ suc zero = omega arith in rw one (one_record s f))
     ∙ sym (then_then _ _ _)
 
--- ---- a section in an array
-pub slots_first : {A B : Type 0} (K : Kind A) (s : List ℕ) (low room at : ℕ) (d : A) (g : Slots A → Judged B)
-    → and_then (section_at K s low room at) (λ r. g (slotted room d r))
-    ≡ and_then (and_then (count_at s at low room) (λ n. and_then (records K s n (at + 4) 0) (λ r. good (slotted room d r)))) g
+-- ---- a section, put as f puts it
+pub slots_first : {A C B : Type 0} (K : Kind A) (s : List ℕ) (low most at : ℕ) (f : Run A → C) (g : C → Judged B)
+    → and_then (section_at K s low most at) (λ r. g (f r))
+    ≡ and_then (and_then (count_at s at low most) (λ n. and_then (records K s n (at + 4) 0) (λ r. good (f r)))) g
 unfolding section_at
-slots_first K s low room at d g =
+slots_first K s low most at f g =
     then_then _ _ _
     ∙ then_same _ _ _ (λ n e. sym (then_made _ _ _))
     ∙ sym (then_then _ _ _)
@@ -57,8 +57,8 @@ pub read_parts : (s : List ℕ) → read_arc s ≡ and_then (heading_part s) (λ
 unfolding read_arc heading_part heading_of arc_from labels_part labels_from stations_part stations_from records_part span_of
 read_parts s =
     settings_first s _
-    ∙ then_same _ _ _ (λ a e. slots_first label_kind s 1 50 16 no_label _
-    ∙ then_same _ _ _ (λ b e. slots_first station_kind s 0 16 b.next no_station _
+    ∙ then_same _ _ _ (λ a e. slots_first label_kind s 1 50 16 labels_in _
+    ∙ then_same _ _ _ (λ b e. slots_first station_kind s 0 16 b.next stations_in _
     ∙ then_same _ _ _ (λ c e. sym (then_made _ _ _))))
     ∙ after_three _ _ _ _ _
 

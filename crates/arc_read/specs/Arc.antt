@@ -2,15 +2,13 @@
 use Rattle.std.specs.Prelude.{ℕ, ◌+◌, List, length, get_or}
 use Rattle.num_limits.specs.Capacities.{parameters_most, records_most, stations_most}
 use Rattle.arc_limits.specs.Limits.{no_settings, no_label, no_station}
-use Rattle.num_whole.specs.Answer.{Judged, good, bad}
+use Rattle.num_whole.specs.Answer.{Judged}
 use Rattle.byte_section.specs.Section.{and_then, section_at, closed}
 use Rattle.arc_limits.specs.declared.Settings.{Settings}
 use Rattle.arc_limits.specs.declared.Label.{Label}
 use Rattle.arc_limits.specs.declared.Station.{Station}
 use Rattle.arc_heading.specs.declared.Heading.{Heading}
 use Rattle.arc_kinds.specs.Kinds.{settings_kind, label_kind, station_kind, record_kind}
-use Rattle.arc_front.specs.Front.{blank_heading}
-use Rattle.byte_section.specs.Told.{told_answer}
 use Rattle.num_whole.specs.Lists.{padded}
 use Rattle.arc_read.specs.declared.ArcRead.{ArcRead}
 
@@ -20,10 +18,8 @@ heading_of a ls ts =
     record { settings = a; parameters = length ls; stations = length ts; labels = padded parameters_most no_label ls; listed = padded stations_most no_station ts }
 
 -- what an arc file holds: its heading, how many records, and where the first of them stands
-pub record Arc : Type 0 where
-  pub heading : Heading
-  pub count : ℕ
-  pub start : ℕ
+abbrev pub Arc : Type 0
+Arc = ArcRead
 
 -- "Settings, count 1; Parameters, 1 to 50; Stations, 0 to 16; Records, 0 to 65,535"; then 3
 unfoldable pub read_arc : List ℕ → Judged Arc
@@ -38,16 +34,3 @@ read_arc s =
       count = length d.items;
       start = c.next + 4;
     })
-
--- ---- what the answer says: with a refusal the heading is blank and the numbers are 0
-pub record ShownArc : Type 0 where
-  pub verdict : Judged (Unit {0})
-  pub arc : Arc
-
-abbrev pub shown_arc : Judged Arc → ShownArc
-shown_arc (good a) = record { verdict = good tt; arc = a }
-shown_arc (bad number place) = record { verdict = bad number place; arc = record { heading = blank_heading; count = 0; start = 0 } }
-
-abbrev pub told_arc_read : ArcRead → ShownArc
-told_arc_read r =
-    record { verdict = told_answer r.answer; arc = record { heading = r.heading; count = r.count; start = r.start } }

@@ -2,67 +2,47 @@
 #![tactic(auto)]
 
 ghost use Rattle.std.specs.Prelude.{◌≡◌, ◌≤◌};
+ghost use Rattle.refusal.specs.Told.{told_placed};
 ghost use Rattle.num_limits.specs.Capacities.{parameters_most};
-ghost use Rattle.refusal.specs.Number.{number_of};
-ghost use Rattle.num_whole.specs.Answer.{bad};
-ghost use Rattle.arc_read.specs.Arc.{read_arc, shown_arc, told_arc_read};
+ghost use Rattle.arc_read.specs.Arc.{read_arc};
 ghost use Rattle.arc_read.specs.Parts.{arc_from};
 
 use arc_heading::Heading;
-use byte_section::{ReadAnswer, SectionAnswer};
-use refusal::Refusal;
+use byte_section::Span;
+use refusal::{Fault, Refusal};
 
-// The answer, and what was read: with a refusal a blank heading and 0.
+// What an arc file holds: its heading, how many records, and where the first of them stands.
 #[derive(Clone, Copy)]
 pub struct ArcRead {
-    pub answer: ReadAnswer,
     pub heading: Heading,
     pub count: usize,
     pub start: usize,
 }
 
-fn refused(r: Refusal, place: usize) -> ArcRead
-    ensures { told_arc_read result ≡ shown_arc (bad (number_of r) place) }
-{
-    ArcRead {
-        answer: ReadAnswer::Refused(r, place),
-        heading: arc_front::blank(),
-        count: 0,
-        start: 0,
-    }
-}
-
 // What follows a heading: its records, and then no byte more.
-fn read_rest(s: &[u8], at: usize, heading: Heading) -> ArcRead
+fn read_rest(s: &[u8], at: usize, heading: Heading) -> Result<ArcRead, Fault>
     requires { heading.parameters ≤ parameters_most }
-    ensures { told_arc_read result ≡ shown_arc (arc_from s.now at heading) }
+    ensures { told_placed result ≡ arc_from s.now at heading }
 {
-    match arc_sections::read_records(s, at, heading.parameters) {
-        SectionAnswer::Read(count, end) => {
-            if end < s.len() {
-                refused(Refusal::Surplus, end)
-            } else {
-                ArcRead {
-                    answer: ReadAnswer::Read,
-                    heading,
-                    count,
-                    start: at + 4,
-                }
-            }
-        }
-        SectionAnswer::Refused(r, place) => refused(r, place),
+    let Span { count, next: end } = arc_sections::read_records(s, at, heading.parameters)?;
+    if end < s.len() {
+        Err(Fault {
+            why: Refusal::Surplus,
+            place: end,
+        })
+    } else {
+        Ok(ArcRead {
+            heading,
+            count,
+            start: at + 4,
+        })
     }
 }
 
 // The four sections in their order, and then no byte more.
-pub fn read(file: &[u8]) -> ArcRead
-    ensures { told_arc_read result ≡ shown_arc (read_arc file.now) }
+pub fn read(file: &[u8]) -> Result<ArcRead, Fault>
+    ensures { told_placed result ≡ read_arc file.now }
 {
-    let first = arc_front::read_heading(file);
-    let answer = first.answer;
-    let heading = first.heading;
-    match answer {
-        ReadAnswer::Read => read_rest(file, first.next, heading),
-        ReadAnswer::Refused(r, place) => refused(r, place),
-    }
+    let front = arc_front::read_heading(file)?;
+    read_rest(file, front.next, front.heading)
 }

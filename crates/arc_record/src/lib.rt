@@ -67,12 +67,10 @@ fn copy_partials(bytes: &[u8], out: &mut [i16])
     ensures { out.new ≡ partials_in (length out.old) bytes.now }
 {
     let n = out.len();
-    let mut i: usize = 0;
     let mut at: usize = 32;
-    while i < n {
+    for i in 0..n {
         out[i] = partial_at(bytes, at);
         at += 2;
-        i += 1;
     }
 }
 
@@ -81,12 +79,10 @@ fn read_partials(bytes: &[u8], out: &mut [i16])
     ensures { out.new ≡ partials_in (length out.old) bytes.now }
 {
     let n = out.len();
-    let mut i: usize = 0;
     let mut at: usize = 32;
-    while i < n {
+    for i in 0..n {
         out[i] = byte_signed::read_i16(bytes, at);
         at += 2;
-        i += 1;
     }
 }
 

@@ -1,3 +1,2 @@
-pub mod Slots
-pub mod Fill
+pub mod Filling
 pub mod Places

@@ -6,46 +6,36 @@ use Rattle.arc_limits.specs.Limits.{no_label, no_station}
 use Rattle.num_whole.specs.Answer.{Judged, good}
 use Rattle.num_whole.specs.Lists.{padded}
 use Rattle.byte_section.specs.Section.{Run, and_then, count_at, records, section_at}
-use Rattle.byte_section.specs.Told.{Span, span_of, told_section}
-use Rattle.byte_section.specs.declared.SectionAnswer.{SectionAnswer}
+use Rattle.byte_section.specs.Told.{span_of}
+use Rattle.byte_section.specs.declared.Span.{Span}
 use Rattle.arc_limits.specs.declared.Label.{Label}
 use Rattle.arc_limits.specs.declared.Station.{Station}
 use Rattle.arc_kinds.specs.Kinds.{label_kind, station_kind, record_kind}
 use Rattle.arc_sections.specs.declared.Labels.{Labels}
 use Rattle.arc_sections.specs.declared.Stations.{Stations}
 
--- records in an array: how many count, the array, and the place after the section
-pub record Slots (A : Type 0) : Type 0 where
-  pub count : ℕ
-  pub items : List A
-  pub next : ℕ
+-- the place after records that were put into slots, with the slots
+unfoldable pub run_left : {A : Type 0} → Judged ℕ → List A → Judged (Run A)
+run_left j slots = and_then j (λ next. good (record { items = slots; next = next }))
 
--- what was read, in an array of n with a filling d
-abbrev pub slotted : {A : Type 0} → ℕ → A → Run A → Slots A
-slotted n d r = record { count = length r.items; items = padded n d r.items; next = r.next }
+-- what was read, in an array of which the other slots are 0
+abbrev pub labels_in : Run Label → Labels
+labels_in r = record { count = length r.items; labels = padded parameters_most no_label r.items; next = r.next }
 
-unfoldable pub labels_from : List ℕ → ℕ → ℕ → Judged (Slots Label)
-labels_from s start n = and_then (records label_kind s n start 0) (λ r. good (slotted parameters_most no_label r))
+abbrev pub stations_in : Run Station → Stations
+stations_in r = record { count = length r.items; listed = padded stations_most no_station r.items; next = r.next }
 
-unfoldable pub labels_part : List ℕ → ℕ → Judged (Slots Label)
+unfoldable pub labels_from : List ℕ → ℕ → ℕ → Judged Labels
+labels_from s start n = and_then (records label_kind s n start 0) (λ r. good (labels_in r))
+
+unfoldable pub labels_part : List ℕ → ℕ → Judged Labels
 labels_part s at = and_then (count_at s at 1 parameters_most) (λ n. labels_from s (at + 4) n)
 
-unfoldable pub stations_from : List ℕ → ℕ → ℕ → Judged (Slots Station)
-stations_from s start n = and_then (records station_kind s n start 0) (λ r. good (slotted stations_most no_station r))
+unfoldable pub stations_from : List ℕ → ℕ → ℕ → Judged Stations
+stations_from s start n = and_then (records station_kind s n start 0) (λ r. good (stations_in r))
 
-unfoldable pub stations_part : List ℕ → ℕ → Judged (Slots Station)
+unfoldable pub stations_part : List ℕ → ℕ → Judged Stations
 stations_part s at = and_then (count_at s at 0 stations_most) (λ n. stations_from s (at + 4) n)
 
 unfoldable pub records_part : List ℕ → ℕ → ℕ → Judged Span
 records_part s at p = span_of (section_at (record_kind p) s 0 records_most at)
-
--- ---- what the answers say
--- a section with its array
-unfoldable pub told_slots : {A : Type 0} → SectionAnswer → List A → Judged (Slots A)
-told_slots a l = and_then (told_section a) (λ p. good (record { count = p.count; items = l; next = p.next }))
-
-abbrev pub told_labels : Labels → Judged (Slots Label)
-told_labels r = told_slots r.answer r.labels
-
-abbrev pub told_stations : Stations → Judged (Slots Station)
-told_stations r = told_slots r.answer r.listed

@@ -2,57 +2,49 @@
 #![tactic(auto)]
 
 ghost use Rattle.std.specs.Prelude.{◌≡◌, ◌/◌, ◌≤◌, length};
+ghost use Rattle.refusal.specs.Told.{told};
 ghost use Rattle.num_limits.specs.Capacities.{parameters_most, records_most, stations_most};
 ghost use Rattle.arc_kinds.specs.Kinds.{record_size};
 ghost use Rattle.arc_write.specs.Write.{write_arc, arc_left_in};
-ghost use Rattle.byte_section.specs.Told.{told_write};
 ghost use Rattle.arc_write.specs.Room.{room_answer};
 
 use arc_heading::Heading;
-use byte_section::WriteAnswer;
-use refusal::{Refusal, Verdict};
+use refusal::Refusal;
 
 // The tests after the heading's: 1 for a run that ends inside a record, 20 for too little room.
-fn judge_room(parameters: usize, stations: usize, bytes: usize, room: usize) -> WriteAnswer
+fn judge_room(
+    parameters: usize,
+    stations: usize,
+    bytes: usize,
+    room: usize,
+) -> Result<usize, Refusal>
     requires { (parameters ≤ parameters_most) × (stations ≤ stations_most) × (bytes / record_size parameters ≤ records_most) }
-    ensures { told_write result ≡ room_answer parameters stations bytes room }
+    ensures { told result ≡ room_answer parameters stations bytes room }
 {
-    if bytes % arc_fields::record_size(parameters) == 0 {
-        let n = arc_fields::needed(parameters, stations, bytes);
-        if room < n {
-            WriteAnswer::Refused(Refusal::Room)
-        } else {
-            WriteAnswer::Is(n)
-        }
-    } else {
-        WriteAnswer::Refused(Refusal::Short)
+    if bytes % arc_fields::record_size(parameters) != 0 {
+        return Err(Refusal::Short);
     }
+    let n = arc_fields::needed(parameters, stations, bytes);
+    if room < n { Err(Refusal::Room) } else { Ok(n) }
 }
 
 // What is to be answered.
-fn judge(h: Heading, run: &[u8], room: usize) -> WriteAnswer
-    ensures { told_write result ≡ write_arc h run.now room }
+fn judge(h: Heading, run: &[u8], room: usize) -> Result<usize, Refusal>
+    ensures { told result ≡ write_arc h run.now room }
 {
-    if arc_put::is_allowed(h, run) {
-        match arc_heading::judge(h) {
-            Verdict::Refused(refusal) => WriteAnswer::Refused(refusal),
-            Verdict::Sound => judge_room(h.parameters, h.stations, run.len(), room),
-        }
-    } else {
-        WriteAnswer::Refused(Refusal::Count)
+    if !arc_put::is_allowed(h, run) {
+        return Err(Refusal::Count);
     }
+    arc_heading::judge(h)?;
+    judge_room(h.parameters, h.stations, run.len(), room)
 }
 
 // The whole file at the start of a lent buffer, which keeps its rest; a refusal changes nothing.
-pub fn write(h: Heading, run: &[u8], out: &mut [u8]) -> WriteAnswer
-    ensures answer { told_write result ≡ write_arc h run.now (length out.old) }
+pub fn write(h: Heading, run: &[u8], out: &mut [u8]) -> Result<usize, Refusal>
+    ensures answer { told result ≡ write_arc h run.now (length out.old) }
     ensures left { out.new ≡ arc_left_in h run.now out.old }
 {
-    match judge(h, run, out.len()) {
-        WriteAnswer::Refused(refusal) => WriteAnswer::Refused(refusal),
-        WriteAnswer::Is(n) => {
-            arc_put::put_arc(h, run, out);
-            WriteAnswer::Is(n)
-        }
-    }
+    let n = judge(h, run, out.len())?;
+    arc_put::put_arc(h, run, out);
+    Ok(n)
 }

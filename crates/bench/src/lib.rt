@@ -2,88 +2,70 @@
 // functions promise only that they are safe and end; what the entries promise stands in `take`, `part`, `norm_read` and `merge`.
 #![tactic(auto)]
 
-ghost use Rattle.std.specs.Prelude.{◌≤◌, length};
+ghost use Rattle.std.specs.Prelude.{◌<◌};
 
 use arc_heading::Heading;
-use byte_section::ReadAnswer;
-use merge::MergeAnswer;
-use num_limits::{PARAMETERS_MOST, STATIONS_MOST};
-use part_laws::Position;
-use refusal::Refusal;
-use take_one::TakeAnswer;
+use merge::MergeRefusal;
+use part::Begun;
+use refusal::{Fault, Refusal};
 use take_tally::Tally;
 
 // ---- taking
 
-// Lays out the square sum of a tally.
-fn put_square(square: u64, out: &mut [u64])
-    requires { 1 ≤ length out.old }
-{
-    out[0] = square;
-}
-
-// Lays out the counts of a tally after the square sum's place.
-fn put_counts(counts: [u32; STATIONS_MOST], out: &mut [u64])
-    requires { 17 ≤ length out.old }
-{
-    let mut i: usize = 0;
-    while i < STATIONS_MOST {
-        out[i + 1] = counts[i] as u64;
-        i += 1;
-    }
-}
-
-// Lays out the last times after the counts, ten a station.
-fn put_times(t: Tally, out: &mut [u64])
-    requires { 177 ≤ length out.old }
-{
-    let mut i: usize = 0;
-    while i < 160 {
-        let w = t.rows[i / 10];
-        out[i + 17] = w.times[i % 10];
-        i += 1;
-    }
-}
-
-// Lays out the marks after the last times.
-fn put_marks(marks: [u16; PARAMETERS_MOST], out: &mut [u64])
-    requires { 227 ≤ length out.old }
-{
-    let mut i: usize = 0;
-    while i < PARAMETERS_MOST {
-        out[i + 177] = marks[i] as u64;
-        i += 1;
-    }
-}
-
-// Lays out a tally in room for its 227 numbers: the square sum, the counts, the last times, the marks.
+// Lays out a tally in room for its 227 numbers: the square sum, the counts, the last times, ten a station, and the marks.
 fn put_tally(t: Tally, out: &mut [u64]) {
     if out.len() < 227 {
         return;
     }
-    let counts = t.counts;
-    let marks = t.marks;
-    put_square(t.square, out);
-    put_counts(counts, out);
-    put_times(t, out);
-    put_marks(marks, out);
+    let counts = t.counts.iter().map(|count| u64::from(*count));
+    let times = t.rows.iter().flat_map(|row| row.times.iter().copied());
+    let marks = t.marks.iter().map(|mark| u64::from(*mark));
+    let numbers = std::iter::once(t.square)
+        .chain(counts)
+        .chain(times)
+        .chain(marks);
+    for (place, number) in out.iter_mut().zip(numbers) {
+        *place = number;
+    }
 }
 
-// The number of an answer in a byte, 0 where it accepts.
-fn number_of(a: TakeAnswer) -> u8 {
-    match a {
-        TakeAnswer::Accepted => 0,
-        TakeAnswer::Refused(why) => (refusal::number(why) % 256) as u8,
+// The number of a refusal in a byte.
+fn number_of(why: Refusal) -> u8 {
+    (refusal::number(why) % 256) as u8
+}
+
+// Lays out the tally that was come to: 0, or the refusal's number.
+fn tell_taken(taken: Result<Tally, Refusal>, tally: &mut [u64]) -> u8 {
+    match taken {
+        Ok(t) => {
+            put_tally(t, tally);
+            0
+        }
+        Err(why) => number_of(why),
     }
 }
 
 // The records of a file, from their place on.
 fn records_of(file: &[u8], start: usize) -> &[u8] {
-    if start <= file.len() {
-        &file[start..]
-    } else {
-        &file[0..0]
-    }
+    file.get(start..).unwrap_or(&[])
+}
+
+fn run_file(
+    file: &[u8],
+    matrix: &mut [i64],
+    rights: &mut [i64],
+    answers: &mut [u8],
+) -> Result<Tally, Refusal> {
+    let r = arc_read::read(file).map_err(|fault| fault.why)?;
+    let t = take_state::start(r.heading, matrix, rights)?;
+    take::take_run(
+        r.heading,
+        t,
+        matrix,
+        rights,
+        records_of(file, r.start),
+        answers,
+    )
 }
 
 // The records of an arc file as one run.
@@ -95,39 +77,29 @@ pub extern "C" fn bench_run(
     tally: &mut [u64],
     answers: &mut [u8],
 ) -> u8 {
-    let r = arc_read::read(file);
-    let h = r.heading;
-    let s = take_state::start(h, matrix, rights);
-    let t = s.tally;
-    let taken = take::take_run(h, t, matrix, rights, records_of(file, r.start), answers);
-    let answer = taken.answer;
-    let u = taken.tally;
-    put_tally(u, tally);
-    number_of(answer)
+    tell_taken(run_file(file, matrix, rights, answers), tally)
 }
 
 // As many records of a file as there is room for answers, each by itself.
 fn take_each(
-    h: Heading,
-    t: Tally,
+    file: &[u8],
     matrix: &mut [i64],
     rights: &mut [i64],
-    file: &[u8],
-    start: usize,
     answers: &mut [u8],
-) -> Tally {
-    let n = answers.len();
-    let mut u = t;
-    let mut i: usize = 0;
-    while i < n {
-        let bytes = arc_record::record_at(file, start, h.parameters, i);
-        let taken = take::take(h, u, matrix, rights, bytes);
-        let answer = taken.answer;
-        u = taken.tally;
-        answers[i] = number_of(answer);
-        i += 1;
+) -> Result<Tally, Refusal> {
+    let r = arc_read::read(file).map_err(|fault| fault.why)?;
+    let mut t = take_state::start(r.heading, matrix, rights)?;
+    for (i, told) in answers.iter_mut().enumerate() {
+        let bytes = arc_record::record_at(file, r.start, r.heading.parameters, i);
+        match take::take(r.heading, t, matrix, rights, bytes) {
+            Ok(after) => {
+                t = after;
+                *told = 0;
+            }
+            Err(why) => *told = number_of(why),
+        }
     }
-    u
+    Ok(t)
 }
 
 // The records of an arc file one by one.
@@ -139,38 +111,30 @@ pub extern "C" fn bench_take(
     tally: &mut [u64],
     answers: &mut [u8],
 ) -> u8 {
-    let r = arc_read::read(file);
-    let h = r.heading;
-    let s = take_state::start(h, matrix, rights);
-    let t = s.tally;
-    let u = take_each(h, t, matrix, rights, file, r.start, answers);
-    put_tally(u, tally);
-    0
+    tell_taken(take_each(file, matrix, rights, answers), tally)
 }
 
-// A file handed over in parts of so many bytes, one at the least, from a position and a state on.
+// The records of an arc file, handed over in parts of so many bytes.
 fn take_parts(
     file: &[u8],
     size: usize,
-    p: Position,
-    t: Tally,
     matrix: &mut [i64],
     rights: &mut [i64],
     answers: &mut [u8],
-) -> Tally {
-    let mut q = p;
-    let mut u = t;
-    let mut at: usize = 0;
-    while at < file.len() {
-        let rest = file.len() - at;
-        let e = at + num_whole::least(num_whole::least(size, rest - 1) + 1, rest);
-        let k = num_whole::least(q.taken, answers.len());
-        let x = part::part(q, u, matrix, rights, &file[at..e], &mut answers[k..]);
-        q = x.position;
-        u = x.tally;
-        at = e;
+) -> Result<Tally, Refusal>
+    requires { 0 < size }
+{
+    let Begun {
+        position: mut p,
+        tally: mut t,
+    } = part::begin(matrix, rights)?;
+    for bytes in file.chunks(size) {
+        let k = p.taken.min(answers.len());
+        let taken = part::part(p, t, matrix, rights, bytes, &mut answers[k..]);
+        p = taken.position;
+        t = taken.tally;
     }
-    u
+    Ok(t)
 }
 
 // The records of an arc file, handed over in parts of 64 KiB.
@@ -182,12 +146,7 @@ pub extern "C" fn bench_parts(
     tally: &mut [u64],
     answers: &mut [u8],
 ) -> u8 {
-    let b = part::begin(matrix, rights);
-    let p = b.position;
-    let t = b.tally;
-    let u = take_parts(file, 65535, p, t, matrix, rights, answers);
-    put_tally(u, tally);
-    0
+    tell_taken(take_parts(file, 65536, matrix, rights, answers), tally)
 }
 
 // The same in parts of one byte.
@@ -199,80 +158,70 @@ pub extern "C" fn bench_bytes(
     tally: &mut [u64],
     answers: &mut [u8],
 ) -> u8 {
-    let b = part::begin(matrix, rights);
-    let p = b.position;
-    let t = b.tally;
-    let u = take_parts(file, 0, p, t, matrix, rights, answers);
-    put_tally(u, tally);
-    0
+    tell_taken(take_parts(file, 1, matrix, rights, answers), tally)
 }
 
 // ---- normal files
 
 // Lays out a number where there is room for it.
 fn put(told: &mut [u64], i: usize, x: u64) {
-    if i < told.len() {
-        told[i] = x;
+    if let Some(place) = told.get_mut(i) {
+        *place = x;
     }
 }
 
 // Lays out a refusal's number, and gives it.
 fn put_number(why: Refusal, told: &mut [u64]) -> u8 {
     let number = refusal::number(why);
-    put(told, 0, number as u64);
+    put(told, 0, u64::from(number));
     (number % 256) as u8
 }
 
-// The refusal's number and place, both 0 where there is none.
-fn put_answer(a: ReadAnswer, told: &mut [u64]) -> u8 {
-    match a {
-        ReadAnswer::Read => {
-            put(told, 0, 0);
-            put(told, 1, 0);
+// A normal file read: the refusal's number and place, the numbers of arcs and parameters, the three places, how many parameters have their sums
+// stored, and the form; each 0 where there is none.
+#[unsafe(no_mangle)]
+pub extern "C" fn bench_read(file: &[u8], told: &mut [u64]) -> u8 {
+    for i in 0..9 {
+        put(told, i, 0);
+    }
+    match norm_read::read(file) {
+        Ok(r) => {
+            put(told, 2, r.arcs as u64);
+            put(told, 3, r.parameters as u64);
+            put(told, 4, r.matrix as u64);
+            put(told, 5, r.rights as u64);
+            put(told, 6, r.totals as u64);
+            put(told, 7, r.stored as u64);
+            put(told, 8, u64::from(r.is_small));
             0
         }
-        ReadAnswer::Refused(why, place) => {
-            put(told, 1, place as u64);
-            put_number(why, told)
+        Err(fault) => {
+            put(told, 1, fault.place as u64);
+            put_number(fault.why, told)
         }
     }
 }
 
-// A normal file read: the answer, the numbers of arcs and parameters, the three places, how many parameters have their sums stored, and the form.
-#[unsafe(no_mangle)]
-pub extern "C" fn bench_read(file: &[u8], told: &mut [u64]) -> u8 {
-    let r = norm_read::read(file);
-    put(told, 2, r.arcs as u64);
-    put(told, 3, r.parameters as u64);
-    put(told, 4, r.matrix as u64);
-    put(told, 5, r.rights as u64);
-    put(told, 6, r.totals as u64);
-    put(told, 7, r.stored as u64);
-    put(told, 8, if r.is_small { 1 } else { 0 });
-    let answer = r.answer;
-    put_answer(answer, told)
-}
-
 // The refusal's number, the file that it is of, its place or the length of the merged file; each 0 where there is none.
-fn put_merged(a: MergeAnswer, told: &mut [u64]) -> u8 {
+fn put_merged(a: Result<usize, MergeRefusal>, told: &mut [u64]) -> u8 {
     match a {
-        MergeAnswer::Is(long) => {
+        Ok(long) => {
             put(told, 0, 0);
             put(told, 1, 0);
             put(told, 2, long as u64);
             0
         }
-        MergeAnswer::First(why, place) => {
+        Err(MergeRefusal::First(fault)) => {
             put(told, 1, 1);
-            put(told, 2, place as u64);
-            put_number(why, told)
+            put(told, 2, fault.place as u64);
+            put_number(fault.why, told)
         }
-        MergeAnswer::Second(why, place) => {
+        Err(MergeRefusal::Second(fault)) => {
             put(told, 1, 2);
-            put(told, 2, place as u64);
-            put_number(why, told)
+            put(told, 2, fault.place as u64);
+            put_number(fault.why, told)
         }
-        MergeAnswer::Refused(why) => {
+        Err(MergeRefusal::Together(why)) => {
             put(told, 1, 0);
             put(told, 2, 0);
             put_number(why, told)

@@ -4,9 +4,6 @@ use Rattle.std.specs.Prelude.{ℕ, zero, suc, ◌+◌, ◌-◌, List, [], ◌∷
 use Rattle.num_whole.specs.Tests.{less, up_to, pick, between}
 use Rattle.num_whole.specs.Answer.{Judged, good, bad}
 use Rattle.byte_words.specs.Words.{word}
-use Rattle.refusal.specs.Number.{number_of}
-use Rattle.byte_section.specs.declared.CountAnswer.{CountAnswer}
-use Rattle.byte_section.specs.declared.CountAnswer.TheVariants.{Is, Refused}
 
 -- A kind of record: its size in bytes, what stands at a place of the bytes, whether its fields there are within their limits, its key,
 -- and the least key that may follow it. Strictly ascending keys: one more than its own. No order: both are 0.
@@ -61,8 +58,3 @@ closed s at a = pick (less at (length s)) (bad 3 at) (good a)
 unfoldable pub encoded : {A : Type 0} → (A → List ℕ) → List A → List ℕ
 encoded bytes [] = []
 encoded bytes (a ∷ l) = bytes a ++ encoded bytes l
-
--- what the answer says
-abbrev pub told_count : CountAnswer → Judged ℕ
-told_count (Is n) = good n
-told_count (Refused r place) = bad (number_of r) place

@@ -7,5 +7,5 @@ ghost use Rattle.std.specs.Prelude.{◌≡◌, ◌-◌};
 pub fn left(length: usize, at: usize) -> usize
     ensures { result ≡ length - at }
 {
-    if at <= length { length - at } else { 0 }
+    length.saturating_sub(at)
 }

@@ -1,32 +1,21 @@
--- What a call that reads an arc file leaves, and one that takes records.
+-- What a call that reads an arc file leaves.
 -- Assumes nothing.
 use Prim.Native.Nat.{ℕ}
 use mathlib.Core.Path.{◌≡◌, refl, sym, ◌∙◌, ap}
 use mathlib.Core.List.{List, [], ◌∷◌}
 use mathlib.Core.Bool.{true, false}
 use lib.ListN.{length}
-use Rattle.num_whole.specs.Answer.{Answered, given, refused, Judged, good, bad}
+use Rattle.num_whole.specs.Answer.{given, Judged, good, bad}
 use Rattle.num_whole.proofs.Cases.{yes, no, both_second, up_to_true}
 use Rattle.byte_words.specs.Words.{lay}
-use Rattle.refusal.specs.First.{number_in}
 use Rattle.refusal.proofs.Firsts.{unless_true, unless_false}
-use Rattle.byte_section.specs.Section.{and_then}
-use Rattle.arc_read.specs.Arc.{Arc, ShownArc}
+use Rattle.arc_read.specs.Arc.{Arc}
 use Rattle.call_rooms.specs.Result.{result_number, result_left}
 use Rattle.call_rooms.proofs.Rooms.{roomy}
 use Rattle.call_heading.specs.Lent.{heading_bytes}
-use Rattle.call_files.specs.Reading.{arc_of, read_roomy, arc_roomy, read_number, heading_left, places_left}
+use Rattle.call_files.specs.Reading.{read_roomy, arc_roomy, read_number, heading_left, places_left}
 use Rattle.byte_section.specs.Told.{on_done}
 use Rattle.byte_section.proofs.Writing.{done_new, done_old}
-
--- ---- what a reader shows
-pub shown_good : (x : ShownArc) → x.verdict ≡ good tt → arc_of x ≡ good x.arc
-unfolding arc_of and_then
-shown_good x e = rw e
-
-pub shown_bad_lem : (x : ShownArc) {number place : ℕ} → x.verdict ≡ bad number place → arc_of x ≡ bad number place
-unfolding arc_of and_then
-shown_bad_lem x e = rw e
 
 -- ---- what a call leaves
 module _ (j : Judged Arc) (room out : List ℕ) where
@@ -48,13 +37,3 @@ module _ (j : Judged Arc) (room out : List ℕ) where
     read_done t e put =
         let fits = roomy (a.count ∷ a.start ∷ []) out (up_to_true 2 (length out) (both_second _ _ t)) in
         rw is (put.0 ∙ sym fits.0 ∙ sym (unless_true 20 _ t), (yes _ _ _ t e, yes _ _ _ t (put.1 ∙ sym fits.1)))
-
--- ---- an answer w: done, with the new bytes in the room, or kept
-module _ {A : Type 0} (w : Answered A) (new old : List ℕ) where
-  pub is_done : {a : A} {left : List ℕ} → w ≡ given a → left ≡ new → (0 ≡ number_in w) × (left ≡ on_done w new old)
-  unfolding number_in
-  is_done e f = (ap number_in (sym e), f ∙ done_new w new old e)
-
-  pub is_kept : {k n : ℕ} → w ≡ refused k → n ≡ k → (n ≡ number_in w) × (old ≡ on_done w new old)
-  unfolding number_in
-  is_kept e f = (f ∙ ap number_in (sym e), done_old w new old e)

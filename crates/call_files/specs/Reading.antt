@@ -6,13 +6,8 @@ use Rattle.num_whole.specs.Answer.{Judged, good, bad}
 use Rattle.num_whole.specs.Lists.{over}
 use Rattle.byte_words.specs.Words.{lay}
 use Rattle.refusal.specs.First.{unless}
-use Rattle.byte_section.specs.Section.{and_then}
-use Rattle.arc_read.specs.Arc.{Arc, ShownArc}
+use Rattle.arc_read.specs.Arc.{Arc}
 use Rattle.call_heading.specs.Lent.{heading_long, heading_bytes}
-
--- what a reader shows, as the answer that it has of the file
-unfoldable pub arc_of : ShownArc → Judged Arc
-arc_of x = and_then x.verdict (λ u. good x.arc)
 
 -- the refusal of a file that was read or unpacked, 0 where there is none
 unfoldable pub judged_number : {A : Type 0} → Judged A → ℕ

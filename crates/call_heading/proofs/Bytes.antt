@@ -19,14 +19,14 @@ use Rattle.call_heading.specs.Lent.{heading_long, heading_bytes}
 module _ (h : Heading) (few : h.parameters ≤ length h.labels) (seats : h.stations ≤ length h.listed) where
   pub heading_long_lem : length (heading_bytes h) ≡ heading_long h.parameters h.stations
   unfolding heading_bytes
-  heading_long_lem = simp (length-append, length_bytes_of, length_settings, labels_all h few seats, stations_all h few seats) (omega arith)
+  heading_long_lem = simp (length-append, length_bytes_of, length_settings, labels_all h few, stations_all h seats) (omega arith)
 
   pub heading_laid : (out : List ℕ)
       → let a = lay (lay (lay out 0 (settings_bytes h.settings)) 12 (bytes_of 2 h.parameters)) 14 (bytes_of 2 h.stations) in
       lay (lay a 16 (encoded label_bytes (labels_of h))) (16 + 16 * h.parameters) (encoded station_bytes (stations_of h)) ≡ lay out 0 (heading_bytes h)
   unfolding heading_bytes
   heading_laid out =
-      lay_append _ _ _ _ _ (simp (labels_all h few seats))
+      lay_append _ _ _ _ _ (simp (labels_all h few))
       ∙ lay_append _ _ _ _ _ (simp length_bytes_of)
       ∙ lay_append _ _ _ _ _ (simp length_bytes_of)
       ∙ lay_append _ _ _ _ _ (simp length_settings)

@@ -10,6 +10,7 @@ ghost use Rattle.num_whole.specs.Lists.{padded};
 ghost use Rattle.byte_words.specs.Stands.{stands};
 ghost use Rattle.call_heading.specs.Lent.{heading_in, heading_bytes, has_heading, has_both, head_number};
 
+use arc_fields::Put;
 use arc_heading::Heading;
 use arc_limits::{Label, Station};
 use num_limits::{PARAMETERS_MOST, STATIONS_MOST};
@@ -20,7 +21,7 @@ use num_limits::{PARAMETERS_MOST, STATIONS_MOST};
 fn held(b: &[u8], at: usize, most: usize) -> usize
     ensures { result ≡ min (word 2 b.now at) most }
 {
-    num_whole::least(byte_read::read_u16(b, at) as usize, most)
+    usize::from(byte_read::read_u16(b, at)).min(most)
 }
 
 // Whether the bytes are as many as their own numbers want.
@@ -42,11 +43,9 @@ fn labels_in(b: &[u8], n: usize) -> [Label; PARAMETERS_MOST]
         estimate: 0,
     }; PARAMETERS_MOST];
     let mut at: usize = 16;
-    let mut i: usize = 0;
-    while i < n {
+    for i in 0..n {
         labels[i] = arc_kinds::load_label(b, at);
         at += 16;
-        i += 1;
     }
     labels
 }
@@ -61,11 +60,9 @@ fn stations_in(b: &[u8], start: usize, n: usize) -> [Station; STATIONS_MOST]
         correction: 0,
     }; STATIONS_MOST];
     let mut at = start;
-    let mut i: usize = 0;
-    while i < n {
+    for i in 0..n {
         listed[i] = arc_kinds::load_station(b, at);
         at += 8;
-        i += 1;
     }
     listed
 }
@@ -76,14 +73,12 @@ pub fn heading_in(b: &[u8]) -> Heading
 {
     let n = held(b, 12, PARAMETERS_MOST);
     let m = held(b, 14, STATIONS_MOST);
-    let labels = labels_in(b, n);
-    let listed = stations_in(b, 16 + 16 * n, m);
     Heading {
         settings: arc_kinds::load_settings(b, 0),
         parameters: byte_read::read_u16(b, 12) as usize,
         stations: byte_read::read_u16(b, 14) as usize,
-        labels,
-        listed,
+        labels: labels_in(b, n),
+        listed: stations_in(b, 16 + 16 * n, m),
     }
 }
 
@@ -94,25 +89,19 @@ pub fn put_heading(h: Heading, out: &mut [u8])
     requires { (h.parameters ≤ parameters_most) × (h.stations ≤ stations_most) }
     ensures { out.new ≡ lay out.old 0 (heading_bytes h) }
 {
-    let s = h.settings;
-    let p = h.parameters;
-    let t = h.stations;
-    arc_fields::put_settings(out, 0, s);
-    byte_write::write_u16(out, 12, p as u16);
-    byte_write::write_u16(out, 14, t as u16);
-    arc_put::put_labels(h, out, 16);
-    arc_put::put_stations(h, out, 16 + 16 * p);
+    h.settings.put(out, 0);
+    byte_write::write_u16(out, 12, h.parameters as u16);
+    byte_write::write_u16(out, 14, h.stations as u16);
+    arc_put::put_all(&h.labels[..h.parameters], out, 16);
+    arc_put::put_all(&h.listed[..h.stations], out, 16 + 16 * h.parameters);
 }
 
 // Whether a heading and a tally are there whole.
+#[tactic(auto, unfolding(num_whole::specs::Tests::both))]
 pub fn has_both(heading: &[u8], tally: &[u8]) -> bool
     ensures { result ≡ has_both heading.now tally.now }
 {
-    if has_heading(heading) {
-        call_tally::has_tally(tally)
-    } else {
-        false
-    }
+    has_heading(heading) && call_tally::has_tally(tally)
 }
 
 // What is wrong with a heading before its fields are judged, in writing: 20 for its numbers, 2, 20 for the whole; 0 where nothing is.

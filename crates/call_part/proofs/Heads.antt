@@ -1,5 +1,6 @@
 -- The heading of a position: too little room, what is told of it, or it is put into its room.
 -- Assumes nothing.
+use Rattle.std.specs.Prelude.{Result, Ok, Err, IfOk}
 use Prim.Native.Nat.{ℕ, ◌≤◌, zero-le}
 use mathlib.Core.Path.{◌≡◌, refl, sym, ap, ap₂, ◌∙◌, subst}
 use mathlib.Core.List.{List}
@@ -14,9 +15,13 @@ use Rattle.arc_heading.proofs.Sound.{sound}
 use Rattle.arc_front.specs.Front.{blank_heading}
 use Rattle.call_heading.specs.Lent.{heading_bytes}
 use Rattle.part_laws.specs.Beginning.{opened, opened_heading, heading_by}
-use Rattle.part_laws.specs.Entries.{Told, took, stopped, broken, fair, heading_told, heading_given}
+use Rattle.part_laws.specs.Entries.{Told, took, stopped, broken, fair, told_part, heading_told, heading_given}
+use Rattle.part_laws.specs.declared.PartRefusal.{PartRefusal}
+use Rattle.part_laws.specs.declared.PartRefusal.TheVariants.{Stopped, Broken}
 use Rattle.part_laws.specs.declared.Position.{Position}
 use Rattle.part_laws.proofs.OneGo.{opened_sound}
+use Rattle.refusal.specs.Number.{number_of}
+use Rattle.part.specs.Given.{heading_of}
 use Rattle.call_position.specs.Position.{position_in, marked}
 use Rattle.call_told.specs.Told.{told_number, told_out, head_roomy, tells}
 use Rattle.call_part.specs.Calls.{place_lent, head_told, head_given, head_fits, head_call, head_left}
@@ -34,6 +39,10 @@ pub given_fits : (p : Position) → Fits (heading_given p)
 unfolding heading_given opened_heading
 given_fits p =
     by_cases (fair p) (λ e. subst Fits (yes _ _ _ e refl) (opened_fits _ _ refl)) (λ e. subst Fits (no _ _ _ e refl) (zero-le, zero-le))
+
+pub fits_if : (x : Result Heading PartRefusal) → Fits (heading_of x) → IfOk x (λ h. (h.parameters ≤ 50) × (h.stations ≤ 16))
+fits_if (Ok h) f = f
+fits_if (Err r) f = tt
 
 -- ---- the word for whether the file is over
 module _ (b : List ℕ) (h : Heading) (t : Told) where
@@ -68,14 +77,12 @@ module _ (b room out : List ℕ) where
     unfolding head_call
     by_head t e = sym (yes _ _ _ lent refl) ∙ ap (head_fits (head_roomy (head_given b) (length room)) (position_in b).taken) (sym e)
 
-    pub head_stopped : (k : ℕ) {n : ℕ} → stopped k ≡ head_told b → n ≡ k → Gives n room out
-    unfolding tells told_number told_out
-    head_stopped k e i = only_told (stopped k) (by_head (stopped k) e) refl i refl
-
-    pub head_broken : (k place m : ℕ) {n : ℕ} {left : List ℕ} → broken k place m ≡ head_told b → (n ≡ told_number (broken k place m)) × (left ≡ told_out (broken k place m) out)
-        → Gives n room left
+    pub head_refused : (r : PartRefusal) {n : ℕ} {left : List ℕ} → told_part (Err r) ≡ head_told b
+        → (n ≡ told_number (told_part (Err r))) × (left ≡ told_out (told_part (Err r)) out) → Gives n room left
     unfolding tells
-    head_broken k place m e put = only_told (broken k place m) (by_head (broken k place m) e) refl put.0 put.1
+    head_refused (Stopped w) e put = only_told (stopped (number_of w)) (by_head (stopped (number_of w)) e) refl put.0 put.1
+    head_refused (Broken f m) e put =
+        only_told (broken (number_of f.why) f.place m) (by_head (broken (number_of f.why) f.place m) e) refl put.0 put.1
 
     pub head_given_lem : (k : ℕ) (h : Heading) (taken : ℕ) → took k ≡ head_told b → h ≡ head_given b → taken ≡ (position_in b).taken → {n : ℕ} {left told : List ℕ}
         → Puts h taken room out n left told → Gives n left told

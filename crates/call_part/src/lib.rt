@@ -1,12 +1,13 @@
 // Inner to `wheloruka`: the calls for an arc file in parts, on a position and a state in lent room.
 #![tactic(auto)]
 
-ghost use Rattle.std.specs.Prelude.{◌≡◌, ◌≤◌, length};
+ghost use Rattle.std.specs.Prelude.{◌≡◌, ◌≤◌, length, IfOk};
 ghost use Rattle.num_limits.specs.Capacities.{parameters_most, stations_most};
 ghost use Rattle.num_whole.specs.Tests.{up_to, pick, both};
 ghost use Rattle.byte_words.specs.Words.{lay};
 ghost use Rattle.call_tally.specs.Tally.{tally_bytes};
 ghost use Rattle.part_laws.specs.Entries.{told_part};
+ghost use Rattle.part.specs.Given.{told_heading, heading_of};
 ghost use Rattle.call_position.specs.Position.{position_long, position_bytes};
 ghost use Rattle.call_told.specs.Told.{told_number, told_out, changes};
 ghost use Rattle.call_part.specs.Calls.{
@@ -26,9 +27,10 @@ ghost use Rattle.call_part.specs.Calls.{
   head_left,
 };
 
-use part::{Headed, Parted};
-use part_laws::{PartAnswer, Position};
-use refusal::{Refusal, Verdict};
+use arc_heading::Heading;
+use part::Parted;
+use part_laws::{PartRefusal, Position};
+use refusal::Refusal;
 use take_tally::Tally;
 
 // ---- what the calls share
@@ -37,25 +39,17 @@ use take_tally::Tally;
 fn has_state(position: &[u8], tally: &[u8]) -> bool
     ensures { result ≡ has_state position.now tally.now }
 {
-    if call_position::has_position(position) {
-        call_tally::has_tally(tally)
-    } else {
-        false
-    }
+    call_position::has_position(position) && call_tally::has_tally(tally)
 }
 
 // Whether a position is there whole, with room for two numbers.
 fn is_lent(position: &[u8], out: usize) -> bool
     ensures { result ≡ place_lent position.now out }
 {
-    if call_position::has_position(position) {
-        2 <= out
-    } else {
-        false
-    }
+    call_position::has_position(position) && 2 <= out
 }
 
-fn put_back(answer: PartAnswer, p: Position, position: &mut [u8])
+fn put_back(answer: Result<usize, PartRefusal>, p: Position, position: &mut [u8])
     requires { position_long ≤ length position.old }
     ensures { position.new ≡ pick (changes (told_part answer)) (lay position.old 0 (position_bytes p)) position.old }
 {
@@ -64,7 +58,7 @@ fn put_back(answer: PartAnswer, p: Position, position: &mut [u8])
     }
 }
 
-fn put_tally_back(answer: PartAnswer, t: Tally, tally: &mut [u8])
+fn put_tally_back(answer: Result<usize, PartRefusal>, t: Tally, tally: &mut [u8])
     ensures { tally.new ≡ pick (changes (told_part answer)) (lay tally.old 0 (tally_bytes t)) tally.old }
 {
     if call_told::changes(answer) {
@@ -80,17 +74,13 @@ pub fn begin(position: &mut [u8], tally: &mut [u8], matrix: &mut [i64], rights: 
     ensures left { rooms position.new tally.new matrix.new rights.new ≡ begin_left (rooms position.old tally.old matrix.old rights.old) }
 {
     if has_state(position, tally) {
-        let b = part::begin(matrix, rights);
-        let answer = b.answer;
-        let p = b.position;
-        let t = b.tally;
-        match answer {
-            Verdict::Sound => {
-                call_position::put_position(p, position);
-                call_tally::put_tally(t, tally);
+        match part::begin(matrix, rights) {
+            Ok(b) => {
+                call_position::put_position(b.position, position);
+                call_tally::put_tally(b.tally, tally);
                 0
             }
-            Verdict::Refused(e) => refusal::number(e),
+            Err(e) => refusal::number(e),
         }
     } else {
         20
@@ -106,23 +96,16 @@ fn give_parted(x: Parted, position: &mut [u8], tally: &mut [u8], out: &mut [u64]
     ensures tally { tally.new ≡ pick (changes (told_part x.answer)) (lay tally.old 0 (tally_bytes x.tally)) tally.old }
     ensures left { out.new ≡ told_out (told_part x.answer) out.old }
 {
-    let answer = x.answer;
-    let p = x.position;
-    let t = x.tally;
-    put_back(answer, p, position);
-    put_tally_back(answer, t, tally);
-    call_told::give_told(answer, out)
+    put_back(x.answer, x.position, position);
+    put_tally_back(x.answer, x.tally, tally);
+    call_told::give_told(x.answer, out)
 }
 
 // Whether a position and a tally are there whole, with room for two numbers.
 fn has_rooms(position: &[u8], tally: &[u8], out: usize) -> bool
     ensures { result ≡ both (has_state position.now tally.now) (up_to 2 out) }
 {
-    if has_state(position, tally) {
-        2 <= out
-    } else {
-        false
-    }
+    has_state(position, tally) && 2 <= out
 }
 
 // A part handed over: 20, 28, 20, 6, a refusal in the file's form, or the records that it completes are taken.
@@ -162,10 +145,8 @@ pub fn finish(position: &mut [u8], out: &mut [u64]) -> u32
         let p = call_position::position_in(position);
         let n = p.taken;
         let f = part::finish(p);
-        let said = f.answer;
-        let after = f.position;
-        let answer = call_told::with_all(n, said);
-        put_back(answer, after, position);
+        let answer = call_told::with_all(n, f.answer);
+        put_back(answer, f.position, position);
         call_told::give_told(answer, out)
     } else {
         20
@@ -175,18 +156,15 @@ pub fn finish(position: &mut [u8], out: &mut [u64]) -> u32
 // ---- the heading
 
 // The heading of a position, 6 also where the word for whether the file is over is neither 0 nor 1.
-fn head_of(position: &[u8]) -> Headed
-    ensures answer_value { told_part result.answer ≡ head_told position.now }
-    ensures heading { result.heading ≡ head_given position.now }
-    ensures fits { (result.heading.parameters ≤ parameters_most) × (result.heading.stations ≤ stations_most) }
+fn head_of(position: &[u8]) -> Result<Heading, PartRefusal>
+    ensures answer_value { told_heading result ≡ head_told position.now }
+    ensures heading { heading_of result ≡ head_given position.now }
+    ensures fits { IfOk result (λ h. (h.parameters ≤ parameters_most) × (h.stations ≤ stations_most)) }
 {
     if call_position::is_marked(position) {
         part::heading(call_position::position_in(position))
     } else {
-        Headed {
-            answer: PartAnswer::Stopped(Refusal::Unsound),
-            heading: arc_front::blank(),
-        }
+        Err(PartRefusal::Stopped(Refusal::Unsound))
     }
 }
 
@@ -197,18 +175,10 @@ pub fn heading(position: &[u8], heading: &mut [u8], out: &mut [u64]) -> u32
     ensures told { out.new ≡ told_out (head_call position.now (length heading.old) (length out.old)) out.old }
 {
     if is_lent(position, out.len()) {
-        let p = call_position::position_in(position);
-        let n = p.taken;
-        let x = head_of(position);
-        let answer = x.answer;
-        let h = x.heading;
-        match answer {
-            PartAnswer::Took(_) => call_told::give_head(h, n, heading, out),
-            PartAnswer::Stopped(e) => refusal::number(e),
-            PartAnswer::Broken(e, place, m) => call_told::give_told(
-                PartAnswer::Broken(e, place, m),
-                out,
-            ),
+        let n = call_position::position_in(position).taken;
+        match head_of(position) {
+            Ok(h) => call_told::give_head(h, n, heading, out),
+            Err(r) => call_told::give_told(Err(r), out),
         }
     } else {
         20

@@ -3,7 +3,7 @@
 -- Assumes nothing.
 use Prim.Native.Nat.{ℕ, ◌+◌, ◌-◌, ◌*◌, ◌≤◌, ◌<◌}
 use mathlib.Core.Path.{◌≡◌, sym, ap, ◌∙◌}
-use mathlib.Core.List.{List, append-nil, ◌++◌}
+use mathlib.Core.List.{List}
 use native.Mathlib.Omega.{arith}
 use native.Mathlib.Nat.{sub-zero}
 use lib.ListN.{length, length-append, get_or, replicate}
@@ -20,12 +20,6 @@ use Rattle.byte_words.proofs.Stands.{length_stands}
 module _ {A : Type 0} (f : ℕ → A) (size n at : ℕ) (d : A) where
   pub fill_start : (room : ℕ) → n ≤ room → sets (replicate room d) 0 (stands f size (n - 0) at) ≡ padded room d (stands f size n at)
   fill_start room h = rw (sub-zero n) (put_padded room d (stands f size n at) (rw length_stands h))
-
-  -- where the array has no slot more
-  pub fill_whole : sets (replicate n d) 0 (stands f size (n - 0) at) ≡ stands f size n at
-  fill_whole =
-      let none : n - length (stands f size n at) ≡ 0 = rw length_stands (omega arith) in
-      fill_start n (omega arith) ∙ ap (λ k. stands f size n at ++ replicate k d) none ∙ append-nil _
 
 -- a walk over a whole list
 pub rest_whole : {A : Type 0} (l : List A) (n : ℕ) → length l ≡ n → l ≡ rest l n 0

@@ -1,5 +1,6 @@
 -- An answer in numbers: what is put into the room for two of them.
 -- Assumes nothing.
+use Rattle.std.specs.Prelude.{Err}
 use Prim.Native.Nat.{ℕ, ◌≤◌}
 use mathlib.Core.Path.{◌≡◌, refl, sym, ◌∙◌}
 use mathlib.Core.List.{List, [], ◌∷◌}
@@ -13,8 +14,15 @@ use Rattle.call_rooms.proofs.Rooms.{roomy}
 use Rattle.byte_words.specs.Words.{lay}
 use Rattle.arc_heading.specs.declared.Heading.{Heading}
 use Rattle.call_heading.specs.Lent.{heading_bytes}
-use Rattle.part_laws.specs.Entries.{Told, took, stopped, broken}
-use Rattle.call_told.specs.Told.{told_number, told_out, head_roomy}
+use Rattle.part_laws.specs.Entries.{Told, took, stopped, broken, told_part}
+use Rattle.part_laws.specs.declared.PartRefusal.{PartRefusal}
+use Rattle.part_laws.specs.declared.PartRefusal.TheVariants.{Stopped, Broken}
+use Rattle.call_told.specs.Told.{told_number, told_out, with_all, head_roomy}
+
+-- a refusal is told with the number of all records already
+pub stays : (n : ℕ) (r : PartRefusal) → told_part (Err r) ≡ with_all n (told_part (Err r))
+stays n (Stopped w) = refl
+stays n (Broken f m) = refl
 
 module _ (out : List ℕ) (t : Told) where
   abbrev Tells : ℕ → List ℕ → Type 0

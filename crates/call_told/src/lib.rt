@@ -10,44 +10,45 @@ ghost use Rattle.part_laws.specs.Entries.{told_part, took, stopped};
 ghost use Rattle.call_told.specs.Told.{told_number, told_out, changes, with_all, head_roomy};
 
 use arc_heading::Heading;
-use part_laws::PartAnswer;
+use part_laws::PartRefusal;
 
 // 28, 20 and 6 change nothing.
-pub fn changes(answer: PartAnswer) -> bool
+pub fn changes(answer: Result<usize, PartRefusal>) -> bool
     ensures { result ≡ changes (told_part answer) }
 {
     match answer {
-        PartAnswer::Took(_) => true,
-        PartAnswer::Stopped(_) => false,
-        PartAnswer::Broken(_, _, _) => true,
+        Ok(_) => true,
+        Err(r) => match r {
+            PartRefusal::Stopped(_) => false,
+            PartRefusal::Broken(_, _) => true,
+        },
     }
 }
 
 // An answer in numbers: the records and the place in their room, 0 or the refusal.
-pub fn give_told(answer: PartAnswer, out: &mut [u64]) -> u32
+pub fn give_told(answer: Result<usize, PartRefusal>, out: &mut [u64]) -> u32
     requires { 2 ≤ length out.old }
     ensures value { result ≡ told_number (told_part answer) }
     ensures left { out.new ≡ told_out (told_part answer) out.old }
 {
     match answer {
-        PartAnswer::Took(n) => call_rooms::give_two(out, n as u64, 0),
-        PartAnswer::Stopped(e) => refusal::number(e),
-        PartAnswer::Broken(e, place, n) => {
-            call_rooms::give_two(out, n as u64, place as u64);
-            refusal::number(e)
-        }
+        Ok(n) => call_rooms::give(out, &[n as u64, 0]),
+        Err(r) => match r {
+            PartRefusal::Stopped(e) => refusal::number(e),
+            PartRefusal::Broken(fault, n) => {
+                call_rooms::give(out, &[n as u64, fault.place as u64]);
+                refusal::number(fault.why)
+            }
+        },
     }
 }
 
 // The number of all records taken, with 0 too.
-pub fn with_all(n: usize, answer: PartAnswer) -> PartAnswer
-    ensures { told_part result ≡ with_all n (told_part answer) }
+pub fn with_all(all: usize, answer: Result<usize, PartRefusal>) -> Result<usize, PartRefusal>
+    ensures { told_part result ≡ with_all all (told_part answer) }
 {
-    match answer {
-        PartAnswer::Took(_) => PartAnswer::Took(n),
-        PartAnswer::Stopped(e) => PartAnswer::Stopped(e),
-        PartAnswer::Broken(e, place, m) => PartAnswer::Broken(e, place, m),
-    }
+    answer?;
+    Ok(all)
 }
 
 // A heading in its room and the number of records taken, or 20.
@@ -59,7 +60,7 @@ pub fn give_head(h: Heading, n: usize, heading: &mut [u8], out: &mut [u64]) -> u
 {
     if 16 + 16 * h.parameters + 8 * h.stations <= heading.len() {
         call_heading::put_heading(h, heading);
-        call_rooms::give_two(out, n as u64, 0)
+        call_rooms::give(out, &[n as u64, 0])
     } else {
         20
     }

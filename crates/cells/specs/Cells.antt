@@ -4,14 +4,9 @@
 use Rattle.std.specs.Prelude.{ℕ, ◌+◌, ◌-◌, ◌*◌, ◌/◌, ◌%◌, Bool, not}
 use Rattle.num_whole.specs.Tests.{less, up_to, same, pick, both, between}
 use Rattle.num_whole.specs.Answer.{Answered, given, refused}
-use Rattle.refusal.specs.Number.{number_of}
 use Rattle.cells.specs.declared.Letter.{Letter}
 use Rattle.cells.specs.declared.Letter.TheVariants.{C, S}
 use Rattle.cells.specs.declared.Cell.{Cell}
-use Rattle.cells.specs.declared.CellAnswer.{CellAnswer}
-use Rattle.cells.specs.declared.CellAnswer.TheVariants as Cells
-use Rattle.cells.specs.declared.IndexAnswer.{IndexAnswer}
-use Rattle.cells.specs.declared.IndexAnswer.TheVariants as Index
 
 abbrev pub cell : Letter → ℕ → ℕ → Cell
 cell letter degree order = record { letter = letter; degree = degree; order = order }
@@ -48,12 +43,3 @@ cell_at index = pick (less index 990) (given (cell_of index)) (refused 4)
 -- a cell that may be a parameter: any but those of column 33
 unfoldable pub is_parameter : ℕ → Bool
 is_parameter index = both (less index 990) (not (same (index % 33 + 1) 33))
-
--- ---- what the answers say
-abbrev pub told_cell : CellAnswer → Answered Cell
-told_cell (Cells.Is c) = given c
-told_cell (Cells.Refused r) = refused (number_of r)
-
-abbrev pub told_index : IndexAnswer → Answered ℕ
-told_index (Index.Is n) = given n
-told_index (Index.Refused r) = refused (number_of r)

@@ -4,12 +4,7 @@ use Rattle.std.specs.Prelude.{ℕ, zero, suc, ◌+◌, ◌-◌, ◌%◌, Bool, n
 use Rattle.num_limits.specs.Capacities.{last_day}
 use Rattle.num_whole.specs.Tests.{less, same, pick, both, either, between}
 use Rattle.num_whole.specs.Answer.{Answered, given, refused}
-use Rattle.refusal.specs.Number.{number_of}
 use Rattle.days.specs.declared.Date.{Date}
-use Rattle.days.specs.declared.DayAnswer.{DayAnswer}
-use Rattle.days.specs.declared.DayAnswer.TheVariants as Day
-use Rattle.days.specs.declared.DateAnswer.{DateAnswer}
-use Rattle.days.specs.declared.DateAnswer.TheVariants as Dated
 
 -- ---- the Gregorian calendar
 -- every fourth year is a leap year, but of the hundreds only every fourth
@@ -63,12 +58,3 @@ date_after (suc n) = tomorrow (date_after n)
 
 unfoldable pub date_of_day : ℕ → Answered Date
 date_of_day n = pick (between 1 n last_day) (given (date_after (n - 1))) (refused 4)
-
--- ---- what the answers say
-abbrev pub told_day : DayAnswer → Answered ℕ
-told_day (Day.Is n) = given n
-told_day (Day.Refused r) = refused (number_of r)
-
-abbrev pub told_date : DateAnswer → Answered Date
-told_date (Dated.Is t) = given t
-told_date (Dated.Refused r) = refused (number_of r)

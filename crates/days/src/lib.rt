@@ -2,6 +2,7 @@
 #![tactic(auto)]
 
 ghost use Rattle.std.specs.Prelude.{◌≡◌, true, ◌+◌, ◌-◌, ◌≤◌};
+ghost use Rattle.refusal.specs.Told.{told};
 ghost use Rattle.num_limits.specs.Capacities.{last_day};
 ghost use Rattle.days.specs.Calendar.{
   leap,
@@ -12,8 +13,6 @@ ghost use Rattle.days.specs.Calendar.{
   day_number,
   day_of_date,
   date_of_day,
-  told_day,
-  told_date,
 };
 ghost use Rattle.days.specs.Parts.{InYear};
 
@@ -21,38 +20,19 @@ use num_limits::LAST_DAY;
 use refusal::Refusal;
 
 // A day of the calendar; a value may also be no day at all.
-#[derive(Clone, Copy)]
+#[derive(Clone, Copy, PartialEq, Eq, Debug)]
 pub struct Date {
     pub year: u32,
     pub month: u32,
     pub day: u32,
 }
 
-#[derive(Clone, Copy)]
-pub enum DayAnswer {
-    Is(u32),
-    Refused(Refusal),
-}
-
-#[derive(Clone, Copy)]
-pub enum DateAnswer {
-    Is(Date),
-    Refused(Refusal),
-}
-
 // Whether a year is a leap year.
+#[tactic(auto, unfolding(crate::specs::Calendar::leap, num_whole::specs::Tests::both, num_whole::specs::Tests::either, num_whole::specs::Tests::same))]
 fn is_leap(year: u32) -> bool
     ensures { result ≡ leap year }
 {
-    if year % 4 == 0 {
-        if year % 100 == 0 {
-            year % 400 == 0
-        } else {
-            true
-        }
-    } else {
-        false
-    }
+    year % 4 == 0 && (year % 100 != 0 || year % 400 == 0)
 }
 
 // The days of a month.
@@ -72,10 +52,8 @@ fn months_days(year: u32, n: u32) -> u32
     ensures { result ≡ days_of_months year n }
 {
     let mut days = 0;
-    let mut i = 0;
-    while i < n {
-        i += 1;
-        days += month_length(year, i);
+    for i in 0..n {
+        days += month_length(year, i + 1);
     }
     days
 }
@@ -89,21 +67,14 @@ fn years_days(n: u32) -> u32
 }
 
 // Whether a date is a day of the years 1950 to 2099.
+#[tactic(auto, unfolding(crate::specs::Calendar::is_date, num_whole::specs::Tests::both))]
 fn is_date(date: Date) -> bool
     ensures { result ≡ is_date date }
 {
-    let year = date.year;
-    let month = date.month;
-    let day = date.day;
-    if num_whole::within(1950, year as u64, 2099) {
-        if num_whole::within(1, month as u64, 12) {
-            num_whole::within(1, day as u64, month_length(year, month) as u64)
-        } else {
-            false
-        }
-    } else {
-        false
-    }
+    let longest = month_length(date.year, date.month);
+    num_whole::within(1950, u64::from(date.year), 2099)
+        && num_whole::within(1, u64::from(date.month), 12)
+        && num_whole::within(1, u64::from(date.day), u64::from(longest))
 }
 
 // The year in which a day number lies: four years have 1,461 days.
@@ -131,29 +102,27 @@ fn date_in_year(year: u32, number: u32) -> Date
 }
 
 // The number of a date, or 4 where it is no day of the years 1950 to 2099.
-pub fn day_of_date(date: Date) -> DayAnswer
-    ensures { told_day result ≡ day_of_date date }
+pub fn day_of_date(date: Date) -> Result<u32, Refusal>
+    ensures { told result ≡ day_of_date date }
 {
-    let year = date.year;
-    let month = date.month;
-    let day = date.day;
     if is_date(date) {
-        let number = years_days(year - 1950) + months_days(year, month - 1) + day;
-        DayAnswer::Is(number)
+        let years = years_days(date.year - 1950);
+        let months = months_days(date.year, date.month - 1);
+        Ok(years + months + date.day)
     } else {
-        DayAnswer::Refused(Refusal::Limits)
+        Err(Refusal::Limits)
     }
 }
 
 // The date of a day number, or 4 where it is not 1 to 54,787.
-pub fn date_of_day(number: u32) -> DateAnswer
-    ensures { told_date result ≡ date_of_day number }
+pub fn date_of_day(number: u32) -> Result<Date, Refusal>
+    ensures { told result ≡ date_of_day number }
 {
     if num_whole::within(1, number as u64, LAST_DAY) {
         let year = year_of(number);
         let before = years_days(year - 1950);
-        DateAnswer::Is(date_in_year(year, number - before))
+        Ok(date_in_year(year, number - before))
     } else {
-        DateAnswer::Refused(Refusal::Limits)
+        Err(Refusal::Limits)
     }
 }

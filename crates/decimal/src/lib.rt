@@ -20,13 +20,11 @@ fn after(at: usize, k: usize, end: usize) -> usize
 pub fn put_text(room: &mut [u8], at: usize, text: &[u8]) -> usize
     ensures { (room.new, result) ≡ laid room.old at text.now }
 {
-    let n = num_whole::least(text.len(), byte_words::left(room.len(), at));
-    let mut i: usize = 0;
-    while i < n {
-        room[at + i] = text[i];
-        i += 1;
+    let next = after(at, text.len(), room.len());
+    if at < next {
+        room[at..next].copy_from_slice(&text[..next - at]);
     }
-    after(at, text.len(), room.len())
+    next
 }
 
 // The byte of a digit.

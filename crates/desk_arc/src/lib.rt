@@ -7,29 +7,21 @@ ghost use Rattle.list_lines.specs.Lines.{tallies_of};
 ghost use Rattle.list_run.specs.Rooms.{part_most};
 ghost use Rattle.list_run.specs.Course.{Ended};
 
-use byte_section::ReadAnswer;
 use list_run::{Course, PART_MOST};
 use num_limits::RECORDS_MOST;
 use part_laws::{OPENED_MOST, RECORD_SIZE_MOST};
+use refusal::Fault;
 use std::io::{Error, Read};
 
 // The bytes of the longest arc file, 8,651,576: its heading with the counts, and its records. A longer one is refused before more are read.
 const ARC_BYTES_MOST: usize = OPENED_MOST + RECORDS_MOST * RECORD_SIZE_MOST;
 
-// Room for a part.
-pub fn part_room() -> [u8; PART_MOST]
-    ensures { part_most ≡ length result }
-{
-    [0; PART_MOST]
-}
-
-// What came of a file: whether no read has failed, what its parts said of its form, where they led, and why a read failed.
+// What came of a file: what its parts said of its form, where they led, and why a read failed, where one did before they were refused.
 #[derive(Clone, Copy)]
 pub struct Followed {
-    pub is_read: bool,
-    pub answer: ReadAnswer,
+    pub answer: Result<(), Fault>,
     pub course: Course,
-    pub why: Option<Error>,
+    pub failed: Option<Error>,
 }
 
 // Reads what a reader gives to its end, to a read that fails, or to a refusal in the file's form. The end of the file is not told yet.
@@ -48,36 +40,27 @@ pub fn follow<S: Read>(
     while total <= ARC_BYTES_MOST {
         let got = desk_files::load(from, buf);
         let n = got.length;
-        let x = list_run::hear(c, matrix, rights, table, &buf[..n]);
-        let answer = x.answer;
-        let course = x.course;
-        match answer {
-            ReadAnswer::Read => {
-                if n < PART_MOST {
-                    return Followed {
-                        is_read: got.is_whole,
-                        answer,
-                        course,
-                        why: got.why,
-                    };
-                }
-                c = course;
-                total += n;
-            }
-            ReadAnswer::Refused(_, _) => {
-                return Followed {
-                    is_read: true,
-                    answer,
-                    course,
-                    why: None,
-                };
-            }
+        let heard = list_run::hear(c, matrix, rights, table, &buf[..n]);
+        c = heard.course;
+        if heard.answer.is_err() {
+            return Followed {
+                answer: heard.answer,
+                course: c,
+                failed: None,
+            };
         }
+        if n < PART_MOST {
+            return Followed {
+                answer: heard.answer,
+                course: c,
+                failed: got.failed,
+            };
+        }
+        total += n;
     }
     Followed {
-        is_read: true,
-        answer: ReadAnswer::Read,
+        answer: Ok(()),
         course: c,
-        why: None,
+        failed: None,
     }
 }

@@ -3,68 +3,43 @@
 // closed. A name is bytes, as the command line gives them; std takes names that are UTF-8 text, and another is told as refused.
 #![tactic(auto)]
 
-ghost use Rattle.std.specs.Prelude.{◌≡◌, ◌+◌, ◌≤◌, length};
+ghost use Rattle.std.specs.Prelude.{◌≡◌, ◌≤◌, IfOk, length};
 ghost use Rattle.desk_files.specs.Counts.{IsPrefixLen};
-ghost use Rattle.desk_files.specs.Names.{IsEnded};
 
+use arrayvec::ArrayString;
 use std::env::{Env, FillError};
 use std::fmt::Write as _;
 use std::fs::{File, Files, OpenFile};
 use std::io::{Error, ErrorKind, Read, Write};
-use std::{fmt, fs, io};
+use std::{fs, io};
 
 // The longest path, with the zero that the system puts behind it.
 pub const PATH_MOST: usize = 4096;
 
-// 1,018,101 zeros: the longest normal file, and one byte more.
-pub fn normal_room() -> [u8; 1018101]
-    ensures { 1018101 ≡ length result }
+// The longest normal file, and one byte more, by which a longer one is found out.
+pub const NORMAL_ROOM: usize = 1_018_101;
+
+// Room for N bytes, all 0.
+pub fn zeros<const N: usize>() -> [u8; N]
+    ensures { N ≡ length result }
 {
-    [0; 1018101]
+    [0; N]
 }
 
 // k, or the buffer's length where k is more.
 pub fn within(k: usize, buf: &[u8]) -> usize
     ensures { IsPrefixLen result buf.now }
 {
-    if k <= buf.len() { k } else { buf.len() }
+    k.min(buf.len())
 }
 
 // ---- reading
 
-// What was read: whether no read has failed, how many bytes came, which is all where the buffer is longer, and why the last read failed.
+// What was read: how many bytes came, which is all where the buffer is longer, and why the last read failed, where it did.
 #[derive(Clone, Copy)]
 pub struct Loaded {
-    pub is_whole: bool,
     pub length: usize,
-    pub why: Option<Error>,
-}
-
-// What one read came to: how many bytes, 0 at the end and where it failed, and why it failed.
-#[derive(Clone, Copy)]
-struct Brought {
-    is_failed: bool,
-    count: usize,
-    why: Option<Error>,
-}
-
-// One read behind the first n bytes of a buffer.
-fn read_on<S: Read>(from: &mut S, buf: &mut [u8], n: usize) -> Brought
-    requires { n ≤ length buf.old }
-    ensures { n + result.count ≤ length buf.new }
-{
-    match from.read(&mut buf[n..]) {
-        Ok(count) => Brought {
-            is_failed: false,
-            count,
-            why: None,
-        },
-        Err(e) => Brought {
-            is_failed: true,
-            count: 0,
-            why: Some(e),
-        },
-    }
+    pub failed: Option<Error>,
 }
 
 // Reads what a reader gives, to its end, to a read that fails, or until the buffer is full.
@@ -72,53 +47,43 @@ pub fn load<S: Read>(from: &mut S, buf: &mut [u8]) -> Loaded
     ensures { IsPrefixLen result.length buf.new }
 {
     let mut n: usize = 0;
+    let mut failed = None;
     while n < buf.len() {
-        let got = read_on(from, buf, n);
-        if got.count == 0 {
-            return Loaded {
-                is_whole: !got.is_failed,
-                length: within(n, buf),
-                why: got.why,
-            };
+        match from.read(&mut buf[n..]) {
+            Ok(0) => break,
+            Ok(count) => n += count,
+            Err(e) => {
+                failed = Some(e);
+                break;
+            }
         }
-        n += got.count;
     }
     Loaded {
-        is_whole: true,
         length: within(n, buf),
-        why: None,
+        failed,
     }
 }
 
 // Opens what a path names for reading.
 pub fn open<R: Files>(rt: &R, path: &[u8]) -> io::Result<R::File> {
-    match text_of(path) {
-        Ok(name) => fs::open(rt, name),
-        Err(e) => Err(e),
-    }
+    fs::open(rt, text_of(path)?)
 }
 
 // Opens what a path names, and reads it whole; it says why it cannot.
 pub fn load_path<R: Files + Tell>(rt: &R, path: &[u8], buf: &mut [u8]) -> Loaded
     ensures { IsPrefixLen result.length buf.new }
 {
-    match open(rt, path) {
-        Ok(mut file) => {
-            let r = load(&mut file, buf);
-            if let Some(e) = r.why {
-                fail(rt, path, e);
-            }
-            r
-        }
-        Err(e) => {
-            fail(rt, path, e);
-            Loaded {
-                is_whole: false,
-                length: within(0, buf),
-                why: Some(e),
-            }
-        }
+    let loaded = match open(rt, path) {
+        Ok(mut file) => load(&mut file, buf),
+        Err(e) => Loaded {
+            length: within(0, buf),
+            failed: Some(e),
+        },
+    };
+    if let Some(e) = loaded.failed {
+        fail(rt, path, e);
     }
+    loaded
 }
 
 // ---- the command line
@@ -133,34 +98,12 @@ pub fn argument_count<R: Env>(rt: &R) -> usize {
     usize::MAX
 }
 
-// A word of the command line that was put at the start of a buffer: its length, or 0 where there is none or the buffer is too short, and which.
-#[derive(Clone, Copy)]
-pub struct Filled {
-    pub length: usize,
-    pub is_cut: bool,
-}
-
-// Puts word i of the command line at the start of a buffer.
-pub fn argument<R: Env>(rt: &R, i: usize, buf: &mut [u8]) -> Filled
-    ensures { IsPrefixLen result.length buf.new }
+// Word i of the command line, put at the start of a buffer; or whether there is none or the buffer is too short.
+pub fn argument<'a, R: Env>(rt: &R, i: usize, buf: &'a mut [u8]) -> Result<&'a [u8], FillError>
+    ensures { IfOk result (λ word. length word.now ≤ length buf.old) }
 {
-    match rt.arg(i, buf) {
-        Ok(n) => Filled {
-            length: n,
-            is_cut: false,
-        },
-        Err(e) => Filled {
-            length: within(0, buf),
-            is_cut: is_too_long(e),
-        },
-    }
-}
-
-fn is_too_long(e: FillError) -> bool {
-    match e {
-        FillError::TooLong => true,
-        FillError::NotPresent => false,
-    }
+    let n = rt.arg(i, buf)?;
+    Ok(&buf[..n])
 }
 
 // ---- standard error
@@ -182,156 +125,69 @@ fn complain<R: Tell>(rt: &R, path: &[u8], text: &[u8]) {
     let _ = rt.tell(text);
 }
 
-// The words of an error.
-#[derive(Drop)]
-struct Words {
-    bytes: [u8; 256],
-    length: usize,
-}
-
-impl Words {
-    fn push(&mut self, byte: u8) {
-        let n = self.length;
-        if n < 256 {
-            self.bytes[n] = byte;
-            self.length = n + 1;
-        }
-    }
-}
-
-impl fmt::Write for Words {
-    fn write_str(&mut self, s: &str) -> fmt::Result {
-        for b in s.as_bytes() {
-            self.push(*b);
-        }
-        Ok(())
-    }
-}
-
-// Where the words of a system's error end: before the last bracket, in which std gives its number.
-fn words_end(words: &Words, is_system: bool) -> usize
-    ensures { result ≤ 256 }
-{
-    let n = words.length.min(256);
-    if is_system {
-        let mut k = n;
-        while k > 1 {
-            k -= 1;
-            if words.bytes[k] == b'(' {
-                return k - 1;
-            }
-        }
-    }
-    n
-}
-
-// Writes a line on standard error: what failed, as the caller names it, a colon and the error's words.
+// Writes a line on standard error: what failed, as the caller names it, a colon and the error's words, without the number in brackets that std
+// puts behind those of the system.
 pub fn fail<R: Tell>(rt: &R, what: &[u8], why: Error) {
-    let mut words = Words {
-        bytes: [0; 256],
-        length: 0,
-    };
-    let _ = write!(words, "{why}");
-    let n = words_end(&words, why.raw_os_error().is_some());
+    let mut text = ArrayString::<256>::new();
+    let _ = write!(text, "{why}");
+    let mut words = text.as_str();
+    if why.raw_os_error().is_some() {
+        if let Some((front, _)) = words.rsplit_once(" (") {
+            words = front;
+        }
+    }
     complain(rt, what, b": ");
-    complain(rt, &words.bytes[..n], b"\n");
+    complain(rt, words.as_bytes(), b"\n");
 }
 
 // ---- names
 
 // A path as text.
 fn text_of(path: &[u8]) -> io::Result<&str> {
-    match str::from_utf8(path) {
-        Ok(text) => Ok(text),
-        Err(_) => Err(Error::new(ErrorKind::InvalidInput, "The name is not UTF-8 text")),
-    }
+    str::from_utf8(path).map_err(|_| Error::new(
+        ErrorKind::InvalidInput,
+        "The name is not UTF-8 text",
+    ))
 }
 
-// Copies bytes to the start of others, as far as both go.
-fn copy(from: &[u8], to: &mut [u8]) {
-    let mut i: usize = 0;
-    while i < from.len() {
-        if i >= to.len() {
-            return;
-        }
-        to[i] = from[i];
-        i += 1;
-    }
-}
-
-// A path with ".part" after it: its length, or 0 where it would be too long.
-fn beside(path: &[u8], to: &mut [u8]) -> usize {
+// A path with ".part" after it, put at the start of a buffer; none where the buffer is too short.
+fn beside<'a>(path: &[u8], to: &'a mut [u8]) -> Option<&'a [u8]> {
     let n = path.len();
-    let m = to.len();
-    if m < 5 {
-        return 0;
+    let end = n + 5;
+    if to.len() < end {
+        return None;
     }
-    if m - 5 < n {
-        return 0;
-    }
-    let e = n + 5;
-    copy(path, to);
-    copy(b".part", &mut to[n..e]);
-    e
+    to[..n].copy_from_slice(path);
+    to[n..end].copy_from_slice(b".part");
+    Some(&to[..end])
 }
 
-// A path as C reads it, with zeros behind it; of one that is too long the beginning.
-fn ended(path: &[u8]) -> [u8; PATH_MOST]
-    ensures { IsEnded result }
-{
-    let mut text = [0u8; PATH_MOST];
-    copy(path, &mut text);
-    text[4095] = 0;
-    text
-}
-
-// The bytes of a path before its first zero.
-fn before_end(text: &[u8]) -> &[u8] {
-    for (i, b) in text.iter().enumerate() {
-        if *b == 0 {
-            return &text[..i];
-        }
-    }
-    text
-}
-
-// Says of a name that is asked for and can't be had why: something has it, or the system refuses.
-fn tell_taken<R: Tell>(rt: &R, path: &[u8], refused: Option<Error>) {
-    match refused {
-        None => complain(rt, path, b": there is one already, and it stays as it is\n"),
-        Some(e) => fail(rt, path, e),
-    }
+// A path as the system reads it, to its first zero; of one that is too long the beginning.
+fn before_end(path: &[u8]) -> &[u8] {
+    let seen = &path[..path.len().min(PATH_MOST - 1)];
+    seen.split(|b| *b == 0).next().unwrap_or(seen)
 }
 
 // What has a name, a link itself and not what it leads to.
 fn look_up<R: Files>(rt: &R, path: &[u8]) -> io::Result<fs::Metadata> {
-    match text_of(path) {
-        Ok(name) => fs::symlink_metadata(rt, name),
-        Err(e) => Err(e),
-    }
+    fs::symlink_metadata(rt, text_of(path)?)
 }
 
 // Whether nothing has this name, not even a link that leads nowhere; where something has it, or that can't be told, it says so.
 fn is_free<R: Files + Tell>(rt: &R, path: &[u8]) -> bool {
-    let text = ended(path);
-    match look_up(rt, before_end(&text)) {
+    match look_up(rt, before_end(path)) {
         Ok(found) => {
-            if found.is_symlink() {
-                complain(
-                    rt,
-                    path,
-                    b": there is a link already, and it stays as it is\n",
-                );
+            let taken: &[u8] = if found.is_symlink() {
+                b": there is a link already, and it stays as it is\n"
             } else {
-                tell_taken(rt, path, None);
-            }
+                b": there is one already, and it stays as it is\n"
+            };
+            complain(rt, path, taken);
             false
         }
+        Err(e) if e.kind() == ErrorKind::NotFound => true,
         Err(e) => {
-            if e.kind() == ErrorKind::NotFound {
-                return true;
-            }
-            tell_taken(rt, path, Some(e));
+            fail(rt, path, e);
             false
         }
     }
@@ -345,15 +201,15 @@ fn is_down<F: Write + OpenFile>(file: &mut F, bytes: &[u8]) -> io::Result<()> {
     file.sync_all()
 }
 
-// Removes a file that this program made.
+// Removes a file.
+fn remove<R: Files>(rt: &R, path: &[u8]) -> io::Result<()> {
+    fs::remove_file(rt, text_of(path)?)
+}
+
+// Removes a file that this program made, or says why it cannot.
 fn discard<R: Files + Tell>(rt: &R, part: &[u8]) {
-    match text_of(part) {
-        Ok(name) => {
-            if let Err(e) = fs::remove_file(rt, name) {
-                fail(rt, part, e);
-            }
-        }
-        Err(e) => fail(rt, part, e),
+    if let Err(e) = remove(rt, part) {
+        fail(rt, part, e);
     }
 }
 
@@ -372,10 +228,7 @@ fn tell_part<R: Tell>(rt: &R, part: &[u8], why: Error) {
 
 // Makes a file of a name that nothing has.
 fn make<R: Files>(rt: &R, path: &[u8]) -> io::Result<R::File> {
-    match text_of(path) {
-        Ok(name) => File::create_new(rt, name),
-        Err(e) => Err(e),
-    }
+    File::create_new(rt, text_of(path)?)
 }
 
 // Makes a file of this name with these bytes, on its device and closed; or leaves none, and says why.
@@ -385,14 +238,12 @@ fn save_part<R: Files + Tell>(rt: &R, part: &[u8], bytes: &[u8]) -> bool {
             let written = is_down(&mut file, bytes);
             // closed before anything is told
             drop(file);
-            match written {
-                Ok(()) => true,
-                Err(e) => {
-                    fail(rt, part, e);
-                    discard(rt, part);
-                    false
-                }
+            if let Err(e) = written {
+                fail(rt, part, e);
+                discard(rt, part);
+                return false;
             }
+            true
         }
         Err(e) => {
             tell_part(rt, part, e);
@@ -403,13 +254,7 @@ fn save_part<R: Files + Tell>(rt: &R, part: &[u8], bytes: &[u8]) -> bool {
 
 // Gives a file another name in one step.
 fn rename<R: Files>(rt: &R, from: &[u8], to: &[u8]) -> io::Result<()> {
-    match text_of(from) {
-        Ok(old) => match text_of(to) {
-            Ok(new) => fs::rename(rt, old, new),
-            Err(e) => Err(e),
-        },
-        Err(e) => Err(e),
-    }
+    fs::rename(rt, text_of(from)?, text_of(to)?)
 }
 
 // Gives a finished file its own name in one step, where nothing has it; else the finished file is removed.
@@ -427,17 +272,12 @@ fn give<R: Files + Tell>(rt: &R, part: &[u8], path: &[u8]) -> bool {
 // Writes a file whole or not at all, by way of a file NAME.part beside it. That name is held from before the look whether NAME is free until NAME
 // is given, so that no two runs can both find NAME free. NAME is never empty and never has a part of the bytes, whenever the program is stopped.
 pub fn save<R: Files + Tell>(rt: &R, path: &[u8], bytes: &[u8]) -> bool {
-    let mut part = [0u8; PATH_MOST];
-    let n = beside(path, &mut part);
-    if n == 0 {
-        complain(rt, path, b": the name is too long\n");
-        return false;
-    }
-    let k = within(n, &part);
-    if is_free(rt, path) {
-        if save_part(rt, &part[..k], bytes) {
-            return give(rt, &part[..k], path);
+    let mut buf = [0u8; PATH_MOST];
+    match beside(path, &mut buf) {
+        Some(part) => is_free(rt, path) && save_part(rt, part, bytes) && give(rt, part, path),
+        None => {
+            complain(rt, path, b": the name is too long\n");
+            false
         }
     }
-    false
 }

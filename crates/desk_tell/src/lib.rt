@@ -2,66 +2,45 @@
 // arc's records came to, with the stations of each parameter.
 #![tactic(auto)]
 
-ghost use Rattle.std.specs.Prelude.{◌≡◌, ◌+◌, ◌<◌, ◌≤◌, length};
-ghost use Rattle.num_limits.specs.Capacities.{parameters_most, stations_most};
+ghost use Rattle.std.specs.Prelude.{◌<◌};
+ghost use Rattle.num_limits.specs.Capacities.{parameters_most};
 
 use arc_heading::Heading;
 use arc_limits::Label;
 use desk_lines::{Output, Tell};
 use num_limits::{PARAMETERS_MOST, STATIONS_MOST};
-use refusal::Refusal;
+use refusal::{Fault, Refusal};
 use take_tally::Tally;
 
 // The sentence of the paper's table for a refusal.
-fn put_sentence<R: Print + Tell>(stdout: &Output<'_, R>, r: Refusal) {
+pub fn sentence(r: Refusal) -> &'static str {
     match r {
-        Refusal::Short => desk_lines::put(
-            stdout,
-            b"bytes end before a count or section is complete, or a record is short",
-        ),
-        Refusal::Count => desk_lines::put(stdout, b"a count is not one that this paper allows"),
-        Refusal::Surplus => desk_lines::put(
-            stdout,
-            b"bytes follow the last section or a record's end",
-        ),
-        Refusal::Limits => desk_lines::put(
-            stdout,
-            b"a heading, label, calendar or cell field is out of its limits",
-        ),
-        Refusal::Order => desk_lines::put(stdout, b"labels, stations or arcs don't ascend"),
-        Refusal::Unsound => desk_lines::put(stdout, b"sums not sound"),
-        Refusal::NoStation => desk_lines::put(stdout, b"station not listed"),
-        Refusal::NoType => desk_lines::put(stdout, b"type not 1 to 10"),
-        Refusal::Sigma => desk_lines::put(stdout, b"s not 1 to 256"),
-        Refusal::Clock => desk_lines::put(
-            stdout,
-            b"day not 1 to 54,787, or ms not 0 to 86,399,999",
-        ),
-        Refusal::Window => desk_lines::put(stdout, b"t outside the window"),
-        Refusal::NotFinite => desk_lines::put(stdout, b"observed or computed not finite"),
-        Refusal::UnitLimits => desk_lines::put(stdout, b"either one's q out of its limits"),
-        Refusal::NotLater => desk_lines::put(
-            stdout,
-            b"t not later than the last time of this station and type",
-        ),
-        Refusal::Edit => desk_lines::put(stdout, b"edit not passed"),
-        Refusal::Full => desk_lines::put(stdout, b"station already has 256"),
-        Refusal::Room => desk_lines::put(stdout, b"a lent buffer shorter than needed"),
-        Refusal::SharedArc => desk_lines::put(stdout, b"both files list one arc"),
-        Refusal::ManyArcs => desk_lines::put(stdout, b"more than 16 arcs together"),
-        Refusal::ManyParameters => desk_lines::put(stdout, b"more than 500 parameters together"),
-        Refusal::Unlike => desk_lines::put(
-            stdout,
-            b"a common label with unlike prior weight or estimate",
-        ),
-        Refusal::Lacking => desk_lines::put(stdout, b"a label or arc that the system lacks"),
-        Refusal::Early => desk_lines::put(
-            stdout,
-            b"written before every listed arc has been added",
-        ),
-        Refusal::NothingLeft => desk_lines::put(stdout, b"nothing is left"),
-        Refusal::Closed => desk_lines::put(stdout, b"the file is over, or was refused"),
-        Refusal::Falling => desk_lines::put(stdout, b"a time falls within a run"),
+        Refusal::Short => "bytes end before a count or section is complete, or a record is short",
+        Refusal::Count => "a count is not one that this paper allows",
+        Refusal::Surplus => "bytes follow the last section or a record's end",
+        Refusal::Limits => "a heading, label, calendar or cell field is out of its limits",
+        Refusal::Order => "labels, stations or arcs don't ascend",
+        Refusal::Unsound => "sums not sound",
+        Refusal::NoStation => "station not listed",
+        Refusal::NoType => "type not 1 to 10",
+        Refusal::Sigma => "s not 1 to 256",
+        Refusal::Clock => "day not 1 to 54,787, or ms not 0 to 86,399,999",
+        Refusal::Window => "t outside the window",
+        Refusal::NotFinite => "observed or computed not finite",
+        Refusal::UnitLimits => "either one's q out of its limits",
+        Refusal::NotLater => "t not later than the last time of this station and type",
+        Refusal::Edit => "edit not passed",
+        Refusal::Full => "station already has 256",
+        Refusal::Room => "a lent buffer shorter than needed",
+        Refusal::SharedArc => "both files list one arc",
+        Refusal::ManyArcs => "more than 16 arcs together",
+        Refusal::ManyParameters => "more than 500 parameters together",
+        Refusal::Unlike => "a common label with unlike prior weight or estimate",
+        Refusal::Lacking => "a label or arc that the system lacks",
+        Refusal::Early => "written before every listed arc has been added",
+        Refusal::NothingLeft => "nothing is left",
+        Refusal::Closed => "the file is over, or was refused",
+        Refusal::Falling => "a time falls within a run",
     }
 }
 
@@ -73,49 +52,36 @@ pub fn begin<R: Print + Tell>(stdout: &Output<'_, R>, path: &[u8], text: &[u8]) 
 }
 
 // A refusal with its place in a file.
-pub fn tell_place<R: Print + Tell>(
-    stdout: &Output<'_, R>,
-    path: &[u8],
-    why: Refusal,
-    place: usize,
-) {
+pub fn tell_place<R: Print + Tell>(stdout: &Output<'_, R>, path: &[u8], fault: Fault) {
+    let Fault { why, place } = fault;
     begin(stdout, path, b"");
-    desk_lines::put_refusal(stdout, why, b" at byte ");
-    desk_lines::put_number(stdout, place as u64, b": ");
-    put_sentence(stdout, why);
-    desk_lines::put(stdout, b"\n");
+    print!(stdout;
+        "refused {} at byte {place}: {}\n",
+        refusal::number(why),
+        sentence(why)
+    );
 }
 
 // A refusal that has no place.
 pub fn tell_refusal<R: Print + Tell>(stdout: &Output<'_, R>, path: &[u8], why: Refusal) {
     begin(stdout, path, b"");
-    desk_lines::put_refusal(stdout, why, b": ");
-    put_sentence(stdout, why);
-    desk_lines::put(stdout, b"\n");
+    print!(stdout; "refused {}: {}\n", refusal::number(why), sentence(why));
 }
 
 // A file that is longer than the room for it.
 pub fn tell_long<R: Print + Tell>(stdout: &Output<'_, R>, path: &[u8], most: usize) {
-    begin(stdout, path, b"refused 20 at byte ");
-    desk_lines::put_number(
-        stdout,
-        most as u64,
-        b": the file is longer than this program reads\n",
-    );
+    begin(stdout, path, b"");
+    print!(stdout; "refused 20 at byte {most}: the file is longer than this program reads\n");
 }
 
 // ---- the records of an arc
 
-// For the lines of the records: 59 bytes and at most 19 lines of 42.
-fn lines_room() -> [u8; 857]
-    ensures { 857 ≡ length result }
-{
-    [0; 857]
-}
+// The lines of the records have 59 bytes and at most 19 times 42.
+const LINES_MOST: usize = 857;
 
 // The listing's lines of the records: how many, how many accepted, and how many have each refusal.
 pub fn tell_records<R: Print + Tell>(stdout: &Output<'_, R>, records: usize, table: &[u64]) {
-    let mut room = lines_room();
+    let mut room = desk_files::zeros::<LINES_MOST>();
     let a = list_lines::put_two(
         &mut room,
         0,
@@ -133,104 +99,53 @@ pub fn tell_records<R: Print + Tell>(stdout: &Output<'_, R>, records: usize, tab
 fn is_unseen(matrix: &[i64], i: usize) -> bool
     requires { i < parameters_most }
 {
-    let k = num_packed::place(i, i);
-    if k < matrix.len() {
-        matrix[k] == 0
-    } else {
-        false
-    }
-}
-
-// Kind and index of a parameter, with a comma before all but the first.
-fn tell_label<R: Print + Tell>(stdout: &Output<'_, R>, before: usize, kind: u16, index: u16) {
-    if before == 0 {
-        desk_lines::put(stdout, b" ");
-    } else {
-        desk_lines::put(stdout, b", ");
-    }
-    desk_lines::put_number(stdout, kind as u64, b" ");
-    desk_lines::put_number(stdout, index as u64, b"");
-}
-
-// Tells parameter i of an arc with so many, so many told before it, where it is unseen: how many are told then.
-fn tell_silent<R: Print + Tell>(
-    stdout: &Output<'_, R>,
-    parameters: usize,
-    matrix: &[i64],
-    i: usize,
-    before: usize,
-    l: Label,
-) -> usize
-    requires { (i < parameters_most) × (before < parameters_most) }
-    ensures { result ≤ before + 1 }
-{
-    if i < parameters {
-        if is_unseen(matrix, i) {
-            tell_label(stdout, before, l.kind, l.index);
-            return before + 1;
-        }
-    }
-    before
+    matrix.get(num_packed::place(i, i)) == Some(&0)
 }
 
 // One line: the unseen parameters of an arc by kind and index, or that there is none.
 pub fn tell_unseen<R: Print + Tell>(stdout: &Output<'_, R>, h: Heading, matrix: &[i64]) {
-    let p = h.parameters;
-    desk_lines::put(stdout, b"unseen parameters:");
-    let mut n: usize = 0;
-    let mut i: usize = 0;
-    while i < PARAMETERS_MOST {
-        let l = h.labels[i];
-        n = tell_silent(stdout, p, matrix, i, n, l);
-        i += 1;
+    print!(stdout; "unseen parameters:");
+    let mut separator = "";
+    for i in 0..h.parameters.min(PARAMETERS_MOST) {
+        if is_unseen(matrix, i) {
+            let Label { kind, index, .. } = h.labels[i];
+            print!(stdout; "{separator} {kind} {index}");
+            separator = ",";
+        }
     }
-    if n == 0 {
-        desk_lines::put(stdout, b" none");
+    if separator.is_empty() {
+        print!(stdout; " none");
     }
-    desk_lines::put(stdout, b"\n");
+    print!(stdout; "\n");
 }
 
 // ---- the stations of an arc's parameters
 
-// The number of the station of row k, where a word has its mark.
-fn tell_station<R: Print + Tell>(stdout: &Output<'_, R>, word: u16, k: u16, number: u16)
-    requires { k < stations_most }
-{
-    if take_marks::has(word, k) {
-        desk_lines::put(stdout, b" ");
-        desk_lines::put_number(stdout, number as u64, b"");
-    }
-}
-
 // The numbers of the stations that a word has marks of, in the heading's order.
 fn tell_marked<R: Print + Tell>(stdout: &Output<'_, R>, h: Heading, word: u16) {
-    let mut k: usize = 0;
-    while k < STATIONS_MOST {
-        let s = h.listed[k];
-        tell_station(stdout, word, k as u16, s.number);
-        k += 1;
+    for k in 0..STATIONS_MOST {
+        if take_marks::has(word, k as u16) {
+            print!(stdout; " {}", h.listed[k].number);
+        }
     }
 }
 
 // One line: a parameter's kind and index, and the stations of its marks.
 fn tell_carriers<R: Print + Tell>(stdout: &Output<'_, R>, h: Heading, l: Label, word: u16) {
-    desk_lines::put_number(stdout, l.kind as u64, b" ");
+    let Label { kind, index, .. } = l;
+    print!(stdout; "{kind} {index}");
     if word == 0 {
-        desk_lines::put_number(stdout, l.index as u64, b" unseen");
+        print!(stdout; " unseen\n");
     } else {
-        desk_lines::put_number(stdout, l.index as u64, b" seen by");
+        print!(stdout; " seen by");
         tell_marked(stdout, h, word);
+        print!(stdout; "\n");
     }
-    desk_lines::put(stdout, b"\n");
 }
 
 // A line for each parameter of an arc.
 pub fn tell_stations<R: Print + Tell>(stdout: &Output<'_, R>, h: Heading, t: Tally) {
-    let p = num_whole::least(h.parameters, PARAMETERS_MOST);
-    let mut i: usize = 0;
-    while i < p {
-        let l = h.labels[i];
-        tell_carriers(stdout, h, l, t.marks[i]);
-        i += 1;
+    for i in 0..h.parameters.min(PARAMETERS_MOST) {
+        tell_carriers(stdout, h, h.labels[i], t.marks[i]);
     }
 }

@@ -2,15 +2,14 @@
 #![tactic(auto)]
 
 ghost use Rattle.std.specs.Prelude.{◌≡◌, [], length};
+ghost use Rattle.refusal.specs.Told.{told};
 ghost use Rattle.num_limits.specs.Capacities.{arc_sums_most, parameters_most};
-ghost use Rattle.byte_section.specs.Told.{told_write};
 ghost use Rattle.decimal.specs.Laid.{laid};
 ghost use Rattle.list_lines.specs.Lines.{tallies_of};
 ghost use Rattle.list_run.specs.Rooms.{text_most};
 ghost use Rattle.list_run.specs.Runs.{listing};
 ghost use Rattle.list.specs.Listing.{list_answer, list_left};
 
-use byte_section::{ReadAnswer, WriteAnswer};
 use list_run::PART_MOST;
 use list_tallies::ANSWERS;
 use num_limits::PARAMETERS_MOST;
@@ -32,16 +31,12 @@ fn put_parts(
     while at < file.len() {
         let e = at + num_whole::least(PART_MOST, file.len() - at);
         let x = list_run::hear(c, matrix, rights, table, &file[at..e]);
-        let answer = x.answer;
-        let course = x.course;
-        match answer {
-            ReadAnswer::Read => {
-                c = course;
+        match x.answer {
+            Ok(()) => {
+                c = x.course;
                 at = e;
             }
-            ReadAnswer::Refused(r, place) => {
-                return list_lines::put_refused(room, 0, refusal::number(r) as u64, place as u64);
-            }
+            Err(fault) => return list_run::put_fault(fault, room),
         }
     }
     list_run::put_text(c, matrix, rights, table, room)
@@ -60,22 +55,22 @@ fn put_listing(room: &mut [u8], file: &[u8]) -> usize
 // ---- the entry
 
 // The listing by way of room for the longest.
-fn list_by(file: &[u8], room: &mut [u8], out: &mut [u8]) -> WriteAnswer
+fn list_by(file: &[u8], room: &mut [u8], out: &mut [u8]) -> Result<usize, Refusal>
     requires { length room.old ≡ text_most }
-    ensures answer { told_write result ≡ list_answer file.now (length out.old) }
+    ensures answer { told result ≡ list_answer file.now (length out.old) }
     ensures left { out.new ≡ list_left file.now out.old }
 {
     let n = put_listing(room, file);
     if out.len() < n {
-        return WriteAnswer::Refused(Refusal::Room);
+        return Err(Refusal::Room);
     }
     decimal::put_text(out, 0, &room[..n]);
-    WriteAnswer::Is(n)
+    Ok(n)
 }
 
 // The listing of a file at the start of lent room, which keeps its rest; 20 where the room is too short, which then is as it was.
-pub fn list(file: &[u8], out: &mut [u8]) -> WriteAnswer
-    ensures answer { told_write result ≡ list_answer file.now (length out.old) }
+pub fn list(file: &[u8], out: &mut [u8]) -> Result<usize, Refusal>
+    ensures answer { told result ≡ list_answer file.now (length out.old) }
     ensures left { out.new ≡ list_left file.now out.old }
 {
     let mut room = list_run::text_room();

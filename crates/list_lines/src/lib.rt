@@ -55,9 +55,9 @@ fn put_seen(room: &mut [u8], at: usize, seen: bool) -> usize
 fn put_label(room: &mut [u8], at: usize, l: Label) -> usize
     ensures { (room.new, result) ≡ laid room.old at (label_text l) }
 {
-    let a = decimal::put_decimal(room, at, l.kind as u64);
+    let a = decimal::put_decimal(room, at, u64::from(l.kind));
     let b = decimal::put_text(room, a, b" ");
-    decimal::put_decimal(room, b, l.index as u64)
+    decimal::put_decimal(room, b, u64::from(l.index))
 }
 
 fn put_sums(room: &mut [u8], at: usize, diagonal: i64, right: i64, n: u64) -> usize
@@ -99,12 +99,9 @@ pub fn put_parameters(
 {
     let n = h.parameters;
     let mut at = start;
-    let mut i: usize = 0;
-    while i < n {
-        let l = h.labels[i];
+    for i in 0..n {
         let k = num_packed::place(i, i);
-        at = put_parameter(room, at, l, matrix[k], rights[i], t.marks[i]);
-        i += 1;
+        at = put_parameter(room, at, h.labels[i], matrix[k], rights[i], t.marks[i]);
     }
-    num_whole::least(at, room.len())
+    at.min(room.len())
 }

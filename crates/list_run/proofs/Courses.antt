@@ -1,5 +1,6 @@
 -- How the listing of a file goes on with each part, and that its text is the listing of the bytes handed over.
 -- Assumes nothing.
+use Rattle.std.specs.Prelude.{Result, Ok, Err, IsOk}
 use Prim.Native.Nat.{ℕ, ◌+◌, ◌-◌, ◌*◌, ◌/◌, ◌≤◌}
 use mathlib.Core.Path.{◌≡◌, refl, sym, ap, ap₂, ◌∙◌, subst}
 use mathlib.Core.List.{List, [], ◌++◌, append-nil}
@@ -12,7 +13,16 @@ use lib.Seq.{take_at}
 use Rattle.num_whole.specs.Answer.{Judged, good, bad}
 use Rattle.num_whole.proofs.Cases.{yes, holds, is_same, is_up_to}
 use Rattle.num_limits.specs.Capacities.{parameters_most, arc_sums_most, records_most}
-use Rattle.refusal.proofs.Firsts.{first_pass, first_one, when_false, unless_true}
+use Rattle.refusal.specs.First.{answered, verdict_of}
+use Rattle.refusal.specs.Number.{number_of as refusal_number}
+use Rattle.refusal.specs.Told.{told}
+use Rattle.refusal.specs.declared.Refusal.{Refusal}
+use Rattle.arc_heading.specs.declared.Heading.{Heading}
+use Rattle.part_laws.specs.declared.PartRefusal.{PartRefusal}
+use Rattle.part_laws.specs.declared.PartRefusal.TheVariants.{Stopped, Broken}
+use Rattle.part.specs.Given.{told_heading}
+use Rattle.part.specs.declared.Begun.{Begun}
+use Rattle.refusal.proofs.Firsts.{answered_given, first_pass, first_one, when_false, unless_true}
 use Rattle.byte_words.specs.Words.{lay}
 use Rattle.byte_words.proofs.Words.{lay_front}
 use Rattle.byte_section.specs.Section.{and_then}
@@ -30,7 +40,7 @@ use Rattle.part_laws.specs.Beginning.{opened, size_of, done, left, opened_headin
 use Rattle.part_laws.specs.Feeding.{Position, begun, Fed, moved, handed, feed, finish, fed_on}
 use Rattle.part_laws.specs.OneGo.{emptied}
 use Rattle.num_packed.specs.Room.{sums_roomy}
-use Rattle.part_laws.specs.Entries.{position_of, held_of, tidy, fair, Told, took, stopped, broken, part_told, part_position, part_state, part_answers, told_form, told_end, begin_number, begin_state, finish_number, finish_told, heading_given}
+use Rattle.part_laws.specs.Entries.{position_of, held_of, tidy, fair, Told, took, stopped, broken, part_told, part_position, part_state, part_answers, told_form, told_end, begin_number, begin_state, finish_number, finish_told, told_part, heading_told, heading_given}
 use Rattle.part_laws.specs.Sequence.{form_of}
 use Rattle.part_laws.proofs.ByValue.{position_back, held_tidy}
 use Rattle.part_laws.proofs.Cuts.{done_good, done_bad, heading_good, opened_left}
@@ -70,11 +80,21 @@ pub emptied_so : (m r : List ℤ) → length m ≡ arc_sums_most → length r �
 unfolding emptied no_sums no_sides
 emptied_so m r a b = ap₂ (λ x y. state_of x y empty_tally) (cleared_all (tri parameters_most) m (a ∙ sym fifty) ∙ ap (λ n. replicate n (pos 0)) fifty) (cleared_all parameters_most r b)
 
+begins_none : (m r : List ℤ) → length m ≡ arc_sums_most → length r ≡ parameters_most → begin_number m r ≡ 0
+unfolding begin_number sums_roomy
+begins_none m r a b =
+    first_one _ ∙ unless_true 20 _ (sym (holds _ _ (is_up_to _ _ (omega (arith, fifty))) (sym (is_up_to _ _ (omega arith)))))
+
 pub begin_state_lem : (m r : List ℤ) → length m ≡ arc_sums_most → length r ≡ parameters_most → begin_state m r ≡ empty_state
-unfolding begin_state begin_number sums_roomy
-begin_state_lem m r a b =
-    let none : begin_number m r ≡ 0 = first_one _ ∙ unless_true 20 _ (sym (holds _ _ (is_up_to _ _ (omega (arith, fifty))) (sym (is_up_to _ _ (omega arith))))) in
-    sym (yes _ _ _ (is_same _ _ none) refl) ∙ emptied_so m r a b
+unfolding begin_state
+begin_state_lem m r a b = sym (yes _ _ _ (is_same _ _ (begins_none m r a b)) refl) ∙ emptied_so m r a b
+
+-- so begin refuses nothing there
+pub begins_ok : (m r : List ℤ) (x : Result Begun Refusal) → length m ≡ arc_sums_most → length r ≡ parameters_most
+    → verdict_of (told x) ≡ answered (begin_number m r) tt → IsOk x
+unfolding verdict_of
+begins_ok m r (Ok b) h k e = refl
+begins_ok m r (Err w) h k e = absurd (cc (e ∙ sym (answered_given _ tt (begins_none m r h k))))
 
 none_so : emptied no_sums no_sides ≡ empty_state
 none_so = emptied_so no_sums no_sides sums_long sides_long
@@ -308,7 +328,31 @@ module _ (s : List ℕ) (going : (heard s).verdict ≡ good tt) where
         ∙ ap (λ z. opened_heading z.kept) (position_back (heard s).position) ∙ ap opened_heading kept_end
         ∙ heading_good 0 (left 0 s) a (ap opened (sym (append-nil (left 0 s))) ∙ opened_left 0 s [] a (read_open s a e))
 
+    heading_told_end : heading_told (held_of (heard s).position) ≡ took 0
+    unfolding heading_told
+    heading_told_end =
+        sym (yes _ _ _ held_fair refl)
+        ∙ ap (λ j. told_end j (heard s).position.taken)
+        (ap (λ z. opened z.kept) (position_back (heard s).position) ∙ ap opened kept_end
+        ∙ ap opened (sym (append-nil (left 0 s))) ∙ opened_left 0 s [] a (read_open s a e))
+
 -- ---- the text
+-- a heading that is told as no record is given
+pub heading_ok : (x : Result Heading PartRefusal) → told_heading x ≡ took 0 → IsOk x
+heading_ok (Ok h) e = refl
+heading_ok (Err (Stopped r)) e = absurd (cc e)
+heading_ok (Err (Broken f n)) e = absurd (cc e)
+
+-- with a refusal no answer is counted
+pub none_counted : (r : PartRefusal) (table told : List ℕ) → table ≡ counted_by (told_part (Err r)) table told
+none_counted (Stopped w) table told = refl
+none_counted (Broken f n) table told = refl
+
+-- the line of what is said of the form
+abbrev refused_by : Judged (Unit {0}) → List ℕ
+refused_by (good u) = []
+refused_by (bad number place) = refused_line number place
+
 -- what a refusal in form says of the reading
 abbrev judged_as : Told → Judged Arc
 judged_as (took n) = bad 0 0
@@ -326,6 +370,9 @@ module _ (s : List ℕ) (c : Course) (m r : List ℤ) (table : List ℕ) (h : Fo
   module _ (a : Arc) (e : read_arc s ≡ good a) where
     heading_so : heading_given c.position ≡ a.heading
     heading_so = ap heading_given h.position ∙ heading_end s h.going a e
+
+    pub heading_took : heading_told c.position ≡ took 0
+    heading_took = ap heading_told h.position ∙ heading_told_end s h.going a e
 
     pub heading_few : (heading_given c.position).parameters ≤ parameters_most
     heading_few = subst (λ g. g.parameters ≤ parameters_most) (sym heading_so) (sound a.heading (opened_sound s a (read_open s a e))).few
@@ -350,18 +397,23 @@ module _ (s : List ℕ) (c : Course) (m r : List ℤ) (table : List ℕ) (h : Fo
       (λ a g. (a, g))
       (λ number place b. absurd (subst is_took (e ∙ ended_told ∙ ap (λ j. told_end j c.position.taken) b) tt))
 
-  pub end_bad : (number place all : ℕ) → broken number place all ≡ finish_told c.position → refused_line number place ≡ listing s
+  end_bad : (number place all : ℕ) → broken number place all ≡ finish_told c.position → refused_line number place ≡ listing s
   end_bad number place all e =
       by_judged (read_arc s)
       (λ a g. absurd (subst is_broken_one (e ∙ ended_told ∙ ap (λ j. told_end j c.position.taken) g) tt))
       (λ k at b. let same-form = e ∙ ended_told ∙ ap (λ j. told_end j c.position.taken) b in
       text_bad number place (b ∙ sym (ap judged_as same-form)))
 
-  pub end_never : (number : ℕ) → stopped number ≡ finish_told c.position → ⊥
+  end_never : (number : ℕ) → stopped number ≡ finish_told c.position → ⊥
   end_never number e =
       by_judged (read_arc s)
       (λ a g. subst is_stopped (e ∙ ended_told ∙ ap (λ j. told_end j c.position.taken) g) tt)
       (λ k at b. subst is_stopped (e ∙ ended_told ∙ ap (λ j. told_end j c.position.taken) b) tt)
+
+  pub end_refused : (r : PartRefusal) (number place : ℕ) → told_part (Err r) ≡ finish_told c.position
+      → bad number place ≡ form_of (told_part (Err r)) → refused_line number place ≡ listing s
+  end_refused (Stopped w) number place e f = absurd (end_never (refusal_number w) e)
+  end_refused (Broken x n) number place e f = ap refused_by f ∙ end_bad (refusal_number x.why) x.place n e
 
 -- ---- refused in its form: what follows does not matter
 pub refused_so : (s t : List ℕ) (number place : ℕ) → (heard s).verdict ≡ bad number place → refused_line number place ≡ listing (s ++ t)

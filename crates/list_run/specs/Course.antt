@@ -1,9 +1,9 @@
 -- For the proofs of the code alone: no public promise and no law cites this, and an auditor may skip it.
 -- How far the listing of a file has come after some of its bytes, handed over in parts.
-use Rattle.std.specs.Prelude.{ℕ, ◌≤◌, ◌≡◌, List, ◌++◌, ℤ, length, take}
+use Rattle.std.specs.Prelude.{ℕ, ◌≤◌, ◌≡◌, List, ◌++◌, ℤ, length, take, Result}
+use Rattle.refusal.specs.Told.{told_placed}
 use Rattle.num_whole.specs.Answer.{Judged, good, bad}
-use Rattle.byte_section.specs.Told.{told_answer}
-use Rattle.byte_section.specs.declared.ReadAnswer.{ReadAnswer}
+use Rattle.refusal.specs.declared.Fault.{Fault}
 use Rattle.decimal.specs.Laid.{laid}
 use Rattle.take_state.specs.State.{state_of}
 use Rattle.part_laws.specs.Feeding.{begun, Fed, feed}
@@ -48,17 +48,17 @@ Countable (broken number place all) table told = Unit {0}
 -- whatever bytes led here, the part leads on from them
 abbrev pub Leads : Course → List ℤ → List ℤ → List ℕ → List ℕ → Heard → List ℤ → List ℤ → List ℕ → Type 0
 Leads c m r table bytes x m₁ r₁ table₁ =
-    (s : List ℕ) → Follows s c m r table → AfterBy (told_answer x.answer) (s ++ bytes) x.course m₁ r₁ table₁
+    (s : List ℕ) → Follows s c m r table → AfterBy (told_placed x.answer) (s ++ bytes) x.course m₁ r₁ table₁
 
 -- whatever bytes led here, the text is their listing
 abbrev pub Texts : Course → List ℤ → List ℤ → List ℕ → List ℕ → List ℕ → ℕ → Type 0
 Texts c m r table room room₁ n = (s : List ℕ) → Follows s c m r table → (room₁, n) ≡ laid room 0 (listing s)
 
 -- some bytes led to what was answered last, a refusal in the form or none
-abbrev pub Ended : ReadAnswer → Course → List ℤ → List ℤ → List ℕ → Type 0
-Ended answer c m r table = (s : List ℕ) × AfterBy (told_answer answer) s c m r table
+abbrev pub Ended : Result (Unit {0}) Fault → Course → List ℤ → List ℤ → List ℕ → Type 0
+Ended answer c m r table = (s : List ℕ) × AfterBy (told_placed answer) s c m r table
 
 -- whatever bytes did, the text is their listing
-abbrev pub EndTexts : ReadAnswer → Course → List ℤ → List ℤ → List ℕ → List ℕ → List ℕ → ℕ → Type 0
+abbrev pub EndTexts : Result (Unit {0}) Fault → Course → List ℤ → List ℤ → List ℕ → List ℕ → List ℕ → ℕ → Type 0
 EndTexts answer c m r table room room₁ n =
-    (s : List ℕ) → AfterBy (told_answer answer) s c m r table → (room₁, n) ≡ laid room 0 (listing s)
+    (s : List ℕ) → AfterBy (told_placed answer) s c m r table → (room₁, n) ≡ laid room 0 (listing s)

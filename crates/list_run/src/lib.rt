@@ -1,19 +1,22 @@
 // Inner to `list` and the programs: the listing of an arc file as the file arrives, part by part. What is put is a function of the bytes handed over.
 #![tactic(auto)]
 
-ghost use Rattle.std.specs.Prelude.{◌≡◌, [], ◌≤◌, length};
+ghost use Rattle.std.specs.Prelude.{◌≡◌, [], ◌≤◌, length, Err};
+ghost use Rattle.num_whole.specs.Answer.{bad};
+ghost use Rattle.refusal.specs.Number.{number_of};
+ghost use Rattle.refusal.specs.Told.{told_placed};
+ghost use Rattle.decimal.specs.Laid.{laid};
 ghost use Rattle.num_limits.specs.Capacities.{arc_sums_most, parameters_most};
-ghost use Rattle.byte_section.specs.Told.{told_answer};
 ghost use Rattle.part_laws.specs.Entries.{told_part};
 ghost use Rattle.part_laws.specs.Sequence.{form_of};
-ghost use Rattle.list_lines.specs.Lines.{tallies_of};
+ghost use Rattle.list_lines.specs.Lines.{tallies_of, refused_line};
 ghost use Rattle.list_run.specs.Rooms.{part_most, told_most, text_most};
 ghost use Rattle.list_run.specs.Course.{Follows, Open, Leads, Texts, Ended, EndTexts, counted_by, Countable};
 
-use byte_section::ReadAnswer;
 use num_limits::ARC_SUMS_MOST;
-use part_laws::{PartAnswer, Position};
-use refusal::Refusal;
+use part::Parted;
+use part_laws::{PartRefusal, Position};
+use refusal::Fault;
 use take_tally::Tally;
 
 // The bytes that a part may have: 64 KiB.
@@ -35,7 +38,7 @@ pub struct Course {
 // What a part came to: nothing refused so far, or the first refusal in the file's form with its place.
 #[derive(Clone, Copy)]
 pub struct Heard {
-    pub answer: ReadAnswer,
+    pub answer: Result<(), Fault>,
     pub course: Course,
 }
 
@@ -64,40 +67,56 @@ pub fn begin(matrix: &mut [i64], rights: &mut [i64], table: &[u64]) -> Course
     requires { (length matrix.old ≡ arc_sums_most) × (length rights.old ≡ parameters_most) × (table.now ≡ tallies_of []) }
     ensures { Follows [] result matrix.new rights.new table.now }
 {
-    let b = part::begin(matrix, rights);
-    let position = b.position;
-    let tally = b.tally;
-    Course { position, tally }
+    let b = part::begin(matrix, rights).unwrap();
+    Course {
+        position: b.position,
+        tally: b.tally,
+    }
+}
+
+// What a refusal says of a file: 28, 20 and 6 have no place.
+fn fault_of(r: PartRefusal) -> Fault
+    ensures { bad (number_of result.why) result.place ≡ form_of (told_part (Err r)) }
+{
+    match r {
+        PartRefusal::Broken(fault, _) => fault,
+        PartRefusal::Stopped(why) => Fault { why, place: 0 },
+    }
+}
+
+// The line of a file that is refused.
+pub fn put_fault(fault: Fault, room: &mut [u8]) -> usize
+    ensures { (room.new, result) ≡ laid room.old 0 (refused_line (number_of fault.why) fault.place) }
+{
+    list_lines::put_refused(
+        room,
+        0,
+        refusal::number(fault.why) as u64,
+        fault.place as u64,
+    )
 }
 
 // What a part's answer comes to, and the answers of its records counted.
-fn note(
-    position: Position,
-    tally: Tally,
-    answer: PartAnswer,
-    table: &mut [u64],
-    told: &[u8],
-) -> Heard
-    requires { Countable (told_part answer) table.old told.now }
-    ensures answer { told_answer result.answer ≡ form_of (told_part answer) }
-    ensures course { (result.course.position ≡ position) × (result.course.tally ≡ tally) }
-    ensures table { table.new ≡ counted_by (told_part answer) table.old told.now }
+fn note(x: Parted, table: &mut [u64], told: &[u8]) -> Heard
+    requires { Countable (told_part x.answer) table.old told.now }
+    ensures answer { told_placed result.answer ≡ form_of (told_part x.answer) }
+    ensures course { (result.course.position ≡ x.position) × (result.course.tally ≡ x.tally) }
+    ensures table { table.new ≡ counted_by (told_part x.answer) table.old told.now }
 {
-    let course = Course { position, tally };
-    match answer {
-        PartAnswer::Took(n) => {
+    let course = Course {
+        position: x.position,
+        tally: x.tally,
+    };
+    match x.answer {
+        Ok(n) => {
             list_tallies::count(table, &told[..n]);
             Heard {
-                answer: ReadAnswer::Read,
+                answer: Ok(()),
                 course,
             }
         }
-        PartAnswer::Broken(r, place, _) => Heard {
-            answer: ReadAnswer::Refused(r, place),
-            course,
-        },
-        PartAnswer::Stopped(r) => Heard {
-            answer: ReadAnswer::Refused(r, 0),
+        Err(r) => Heard {
+            answer: Err(fault_of(r)),
             course,
         },
     }
@@ -115,13 +134,8 @@ pub fn hear(
     ensures { Leads c matrix.old rights.old table.old bytes.now result matrix.new rights.new table.new }
 {
     let mut told = told_room();
-    let p = c.position;
-    let t = c.tally;
-    let x = part::part(p, t, matrix, rights, bytes, &mut told);
-    let position = x.position;
-    let tally = x.tally;
-    let answer = x.answer;
-    note(position, tally, answer, table, &told)
+    let x = part::part(c.position, c.tally, matrix, rights, bytes, &mut told);
+    note(x, table, &told)
 }
 
 // The listing of the bytes handed over, where the file is over.
@@ -130,28 +144,19 @@ pub fn put_text(c: Course, matrix: &[i64], rights: &[i64], table: &[u64], room: 
     ensures { Texts c matrix.now rights.now table.now room.old room.new result }
 {
     let p = c.position;
-    let t = c.tally;
     let f = part::finish(p);
-    let answer = f.answer;
-    match answer {
-        PartAnswer::Took(_) => {
-            let g = part::heading(p);
-            let h = g.heading;
-            list_arc::put_arc(room, h, p.taken as u64, table, t, matrix, rights)
+    match f.answer {
+        Ok(_) => {
+            let h = part::heading(p).unwrap();
+            list_arc::put_arc(room, h, p.taken as u64, table, c.tally, matrix, rights)
         }
-        PartAnswer::Broken(r, place, _) => list_lines::put_refused(
-            room,
-            0,
-            refusal::number(r) as u64,
-            place as u64,
-        ),
-        PartAnswer::Stopped(r) => list_lines::put_refused(room, 0, refusal::number(r) as u64, 0),
+        Err(r) => put_fault(fault_of(r), room),
     }
 }
 
 // The same where a refusal in the file's form may have come before.
 pub fn put_end(
-    answer: ReadAnswer,
+    answer: Result<(), Fault>,
     c: Course,
     matrix: &[i64],
     rights: &[i64],
@@ -162,12 +167,7 @@ pub fn put_end(
     ensures { EndTexts answer c matrix.now rights.now table.now room.old room.new result }
 {
     match answer {
-        ReadAnswer::Read => put_text(c, matrix, rights, table, room),
-        ReadAnswer::Refused(r, place) => list_lines::put_refused(
-            room,
-            0,
-            refusal::number(r) as u64,
-            place as u64,
-        ),
+        Ok(()) => put_text(c, matrix, rights, table, room),
+        Err(fault) => put_fault(fault, room),
     }
 }

@@ -19,7 +19,7 @@ fn count_one(table: &mut [u64], answer: u8)
 {
     let k = answer as usize;
     if k < table.len() {
-        table[k] = table[k] + 1;
+        table[k] += 1;
     }
 }
 
@@ -28,10 +28,8 @@ pub fn count(table: &mut [u64], told: &[u8])
     requires { CountsFit table.old (length told.now) }
     ensures { table.new ≡ counted table.old told.now }
 {
-    let mut i: usize = 0;
-    while i < told.len() {
-        count_one(table, told[i]);
-        i += 1;
+    for answer in told {
+        count_one(table, *answer);
     }
 }
 
@@ -39,8 +37,7 @@ pub fn count(table: &mut [u64], told: &[u8])
 pub fn tally(table: &[u64], k: u8) -> u64
     ensures { result ≡ get_or table.now k 0 }
 {
-    let i = k as usize;
-    if i < table.len() { table[i] } else { 0 }
+    table.get(usize::from(k)).copied().unwrap_or(0)
 }
 
 fn put_tally(room: &mut [u8], at: usize, table: &[u64], k: u8) -> usize
@@ -48,7 +45,7 @@ fn put_tally(room: &mut [u8], at: usize, table: &[u64], k: u8) -> usize
 {
     let n = tally(table, k);
     if n == 0 {
-        num_whole::least(at, room.len())
+        at.min(room.len())
     } else {
         list_lines::put_two(room, at, b"", k as u64, b" ", n)
     }
@@ -59,10 +56,8 @@ pub fn put_tallies(room: &mut [u8], start: usize, table: &[u64]) -> usize
     ensures { (room.new, result) ≡ laid room.old start (tally_lines table.now 19 1) }
 {
     let mut at = start;
-    let mut k: u8 = 1;
-    while k < ANSWERS_U8 {
+    for k in 1..ANSWERS_U8 {
         at = put_tally(room, at, table, k);
-        k += 1;
     }
-    num_whole::least(at, room.len())
+    at.min(room.len())
 }

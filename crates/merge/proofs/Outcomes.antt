@@ -1,29 +1,24 @@
 -- How the code's answers meet the definition, one step for each test: a file that is refused, 21 to 24, 20, and the file that is written.
 -- Assumes nothing.
+use Rattle.std.specs.Prelude.{Result, Ok, Err, MatchResult}
 use mathlib.Core.Path.{◌≡◌, refl, sym, ap, ◌∙◌}
 use mathlib.Core.List.{List}
 use Prim.Native.Nat.{ℕ, ◌≤◌, ◌<◌}
 use native.Mathlib.Omega.{arith}
 use lib.ListN.{length}
 use Rattle.num_whole.specs.Tests.{less, same}
-use Rattle.num_whole.specs.Answer.{Judged, good, bad}
+use Rattle.num_whole.specs.Answer.{good, bad}
 use Rattle.num_whole.proofs.Cases.{yes, no, is_same, not_same, is_less, not_less}
 use Rattle.byte_words.specs.Words.{lay}
-use Rattle.refusal.specs.Number.{number_of}
 use Rattle.refusal.specs.First.{when}
 use Rattle.refusal.proofs.Firsts.{when_true, when_false, first_pass, first_stop, first_one}
-use Rattle.refusal.specs.declared.Refusal.{Refusal}
-use Rattle.byte_section.proofs.Walk.{not_bad}
 use Rattle.byte_section.proofs.Writing.{left_old, left_new}
 use Rattle.norm_system.specs.System.{System}
-use Rattle.norm_read.specs.Normal.{Normal, read_normal, shown_normal, told_normal_read}
-use Rattle.byte_section.specs.Told.{told_answer}
+use Rattle.norm_read.specs.Normal.{Normal, read_normal}
 use Rattle.norm_read.specs.declared.NormalRead.{NormalRead}
-use Rattle.byte_section.specs.declared.ReadAnswer.TheVariants.{Refused}
 use Rattle.merge_laws.specs.Merge.{merge_number}
 use Rattle.merge.specs.Files.{Merging, wrote, in_file, refusing, merged_bytes, pair_number, pair_answer, pair_left, from_file, merge_answer, merge_left}
 use Rattle.merge_put.specs.Parts.{normal_in, system_in_file, AsRead}
-use Rattle.byte_section.proofs.Walk.{by_judged}
 
 -- ---- two systems
 module _ (x y : System) where
@@ -62,19 +57,16 @@ module _ (x y : System) where
         let z : pair_number x y (length out) ≡ 0 = passes (length out) 0 accepted refl ∙ when_false 20 _ (not_less (length out) (length (merged_bytes x y)) h) in
         (yes _ _ _ (is_same _ 0 z) (ap wrote e), f ∙ left_new (merge_number x y) (merged_bytes x y) out z)
 
--- ---- two files
--- what the reader's refusal says
-pub read_bad : (s : List ℕ) (r : NormalRead) (why : Refusal) (place : ℕ) → told_normal_read r ≡ shown_normal (read_normal s) → r.answer ≡ Refused why place
-    → read_normal s ≡ bad (number_of why) place
-read_bad s r why place t e =
-    let told : bad (number_of why) place ≡ (shown_normal (read_normal s)).verdict = sym (ap told_answer e) ∙ ap (λ d. d.verdict) t in
-    by_judged (read_normal s)
-    (λ x h. absurd (not_bad (sym (told ∙ ap (λ j. (shown_normal j).verdict) h))))
-    (λ number at h. h ∙ sym (same (told ∙ ap (λ j. (shown_normal j).verdict) h)))
-  where
-    same : {n p m q : ℕ} → ◌≡◌ {A = Judged (Unit {0})} (bad n p) (bad m q) → ◌≡◌ {A = Judged Normal} (bad n p) (bad m q)
-    same e = cc
+-- ---- a result whose error was named
+pub kept_ok : {T E : Type 0} (D : Type 0) (r : Result T E) (x : T) → MatchResult r (λ y. ◌≡◌ {A = Result T D} (Ok x) (Ok y)) (λ e. ⊥) → r ≡ Ok x
+kept_ok D (Ok y) x h = cc
+kept_ok D (Err e) x h = absurd h
 
+pub kept_err : {T E D : Type 0} (r : Result T E) (d : D) (Q : E → Type 0) → MatchResult r (λ y. ◌≡◌ {A = Result T D} (Err d) (Ok y)) Q → (e : E) × (r ≡ Err e) × Q e
+kept_err (Ok y) d Q h = cc
+kept_err (Err e) d Q h = (e, refl, h)
+
+-- ---- two files
 module _ (a b : List ℕ) where
   pub first_bad : (number place : ℕ) (out : List ℕ) → read_normal a ≡ bad number place
       → (in_file 1 number place ≡ merge_answer a b (length out)) × (out ≡ merge_left a b out)

@@ -1,7 +1,7 @@
 -- Document 01, 'Normal file' and 'Refusal numbers': "Merging: first file, second file (the answer names which), 21 to 24, 20." Two normal files
 -- as bytes: what merging answers, and what it leaves in the lent room. "A longer buffer keeps its rest. A refusal changes nothing lent." Document
 -- 02, #106: "Merging .. takes either form; what they write is the old one": a file counts by the system that it holds.
-use Rattle.std.specs.Prelude.{List, ℕ, length}
+use Rattle.std.specs.Prelude.{List, ℕ, length, Result, Ok, Err}
 use Rattle.num_whole.specs.Tests.{same, pick}
 use Rattle.num_whole.specs.Answer.{Judged, good, bad}
 use Rattle.refusal.specs.Number.{number_of}
@@ -9,9 +9,9 @@ use Rattle.byte_section.specs.Writing.{writing_number, written_in}
 use Rattle.norm_system.specs.System.{System}
 use Rattle.norm_kinds.specs.Bytes.{normal_bytes}
 use Rattle.norm_read.specs.Normal.{Normal, read_normal}
+use Rattle.merge.specs.declared.MergeRefusal.{MergeRefusal}
+use Rattle.merge.specs.declared.MergeRefusal.TheVariants.{First, Second, Together}
 use Rattle.merge_laws.specs.Merge.{merged_of, merge_number}
-use Rattle.merge.specs.declared.MergeAnswer.{MergeAnswer}
-use Rattle.merge.specs.declared.MergeAnswer.TheVariants as Answers
 
 -- the length of the file that was written; a file that is refused (the first or the second), its number and place; or 20 to 24
 pub data Merging : Type 0 where
@@ -53,8 +53,8 @@ merge_left a b out =
     pair_left x y out
 
 -- ---- what the answer says
-abbrev pub told_merge : MergeAnswer → Merging
-told_merge (Answers.Is n) = wrote n
-told_merge (Answers.First r place) = in_file 1 (number_of r) place
-told_merge (Answers.Second r place) = in_file 2 (number_of r) place
-told_merge (Answers.Refused r) = refusing (number_of r)
+abbrev pub told_merge : Result ℕ MergeRefusal → Merging
+told_merge (Ok n) = wrote n
+told_merge (Err (First f)) = in_file 1 (number_of f.why) f.place
+told_merge (Err (Second f)) = in_file 2 (number_of f.why) f.place
+told_merge (Err (Together r)) = refusing (number_of r)

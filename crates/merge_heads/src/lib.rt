@@ -14,10 +14,7 @@ fn number_in(xs: &[u64], ys: &[u64], p: usize, q: usize) -> u64
     requires { length xs.now ≤ p → q < length ys.now }
     ensures { result ≡ number_of_two xs.now ys.now p q }
 {
-    if p < xs.len() {
-        return xs[p];
-    }
-    ys[q]
+    if p < xs.len() { xs[p] } else { ys[q] }
 }
 
 // An arc as the four bytes of a file.
@@ -43,13 +40,9 @@ pub fn put_arcs(
     requires somewhere { Somewhere (length xs.now) left.now (length ys.now) right.now count }
     ensures { out.new ≡ lay out.old at (encoded arc_number_bytes (rows_of (number_at xs.now left.now ys.now right.now) 0 count)) }
 {
-    let mut k = at;
-    let mut i: usize = 0;
-    while i < count {
+    for i in 0..count {
         let a = number_in(xs, ys, left[i], right[i]);
-        put_arc(out, k, a);
-        k += 4;
-        i += 1;
+        put_arc(out, at + 4 * i, a);
     }
 }
 
@@ -67,31 +60,18 @@ fn label_in(
     ensures { result ≡ label_of_two a.now start n b.now begin p q }
 {
     if p < n {
-        return merge_read::label_at(a, start + 24 * p);
+        merge_read::label_at(a, start + 24 * p)
+    } else {
+        merge_read::label_at(b, begin + 24 * q)
     }
-    merge_read::label_at(b, begin + 24 * q)
 }
 
-// A label's six fields, one after the other.
-fn put_fields(out: &mut [u8], at: usize, l: NormalLabel)
-    requires { at + 24 ≤ length out.old }
-    ensures { out.new ≡ lay out.old at (normal_label_bytes l) }
-{
-    byte_write::write_u16(out, at, l.kind);
-    byte_write::write_u16(out, at + 2, l.index);
-    byte_write::write_u32(out, at + 4, l.arc);
-    byte_write::write_u32(out, at + 8, l.weight);
-    byte_write::write_u32(out, at + 12, 0);
-    byte_signed::write_i64(out, at + 16, l.estimate);
-}
-
-// The same into a part of just the label's bytes, so that nothing is tested.
+// A label of the old form, into a part of just its bytes, so that nothing is tested.
 fn put_label(out: &mut [u8], at: usize, l: NormalLabel)
     requires { at + 24 ≤ length out.old }
     ensures { out.new ≡ lay out.old at (normal_label_bytes l) }
 {
-    let e = at + 24;
-    put_fields(&mut out[at..e], 0, l);
+    norm_kinds::put_label(&mut out[at..at + 24], 0, l, 0);
 }
 
 // The first `count` labels of two files united.
@@ -113,12 +93,8 @@ pub fn put_labels(
     requires somewhere { Somewhere n left.now m right.now count }
     ensures { out.new ≡ lay out.old at (encoded normal_label_bytes (rows_of (label_of_union a.now start n left.now b.now begin right.now) 0 count)) }
 {
-    let mut k = at;
-    let mut i: usize = 0;
-    while i < count {
+    for i in 0..count {
         let l = label_in(a, start, n, b, begin, m, left[i], right[i]);
-        put_label(out, k, l);
-        k += 24;
-        i += 1;
+        put_label(out, at + 24 * i, l);
     }
 }

@@ -32,14 +32,14 @@ fn step(xs: &[u64], ys: &[u64], i: usize, j: usize) -> Turn
                     left: i,
                     right: n,
                     i: i + 1,
-                    j: j,
+                    j,
                 };
             }
             if y < x {
                 return Turn {
                     left: m,
                     right: j,
-                    i: i,
+                    i,
                     j: j + 1,
                 };
             }
@@ -54,13 +54,13 @@ fn step(xs: &[u64], ys: &[u64], i: usize, j: usize) -> Turn
             left: i,
             right: n,
             i: i + 1,
-            j: j,
+            j,
         };
     }
     Turn {
         left: m,
         right: j,
-        i: i,
+        i,
         j: j + 1,
     }
 }
@@ -77,10 +77,8 @@ pub fn join(xs: &[u64], ys: &[u64], left: &mut [usize], right: &mut [usize]) -> 
     let mut n: usize = 0;
     while i + j < xs.len() + ys.len() {
         let t = step(xs, ys, i, j);
-        let p = t.left;
-        let q = t.right;
-        left[n] = p;
-        right[n] = q;
+        left[n] = t.left;
+        right[n] = t.right;
         n += 1;
         i = t.i;
         j = t.j;

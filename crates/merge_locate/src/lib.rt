@@ -10,10 +10,7 @@ fn is_stored(s: &[u8], labels: usize, p: usize, q: usize) -> bool
     requires { labels + 24 * p ≤ length s.now }
     ensures { result ≡ stored_at s.now labels p q }
 {
-    if q < p {
-        return byte_read::read_u32(s, labels + 24 * q + 12) != 2;
-    }
-    false
+    q < p && byte_read::read_u32(s, labels + 24 * q + 12) != 2
 }
 
 // How many of n united labels have their sums stored in a file, where `left` has the place of each among the file's p labels, p or more where
@@ -23,13 +20,11 @@ pub fn locate(s: &[u8], labels: usize, p: usize, left: &[usize], n: usize, t: &m
     ensures { (result ≡ length (numbers_where (stored_for s.now labels p left.now) 0 n)) × (t.new ≡ lay t.old 0 (numbers_where (stored_for s.now labels p left.now) 0 n)) }
 {
     let mut m: usize = 0;
-    let mut i: usize = 0;
-    while i < n {
+    for i in 0..n {
         if is_stored(s, labels, p, left[i]) {
             t[m] = i;
             m += 1;
         }
-        i += 1;
     }
     m
 }

@@ -8,14 +8,12 @@ use native.Mathlib.Omega.{arith}
 use lib.ListN.{length}
 use Rattle.num_whole.specs.Answer.{good}
 use Rattle.byte_words.specs.Words.{word}
-use Rattle.byte_section.proofs.Walk.{not_bad, by_judged}
 use Rattle.num_packed.specs.Triangle.{tri}
-use Rattle.norm_read.specs.Normal.{Normal, read_normal, shown_normal, told_normal_read}
-use Rattle.byte_section.specs.Told.{told_answer}
+use Rattle.norm_read.specs.Normal.{Normal, read_normal, numbers_in, numbers_of}
 use Rattle.norm_heads.specs.Heads.{arcs_at}
 use Rattle.norm_read.specs.declared.NormalRead.{NormalRead}
-use Rattle.byte_section.specs.declared.ReadAnswer.TheVariants.{Read}
 use Rattle.norm_read.proofs.Accepted.{accepted_sound, accepted_standing}
+use Rattle.norm_read.proofs.Told.{told_good}
 use Rattle.merge_read.specs.Read.{keys_at}
 use Rattle.norm_labels.specs.Labels.{keys_of}
 use Rattle.merge_laws.proofs.Written.{LabelsStand, keys_stand}
@@ -24,7 +22,7 @@ use Rattle.merge_put.specs.Parts.{normal_or, normal_in, system_in_file, stored_i
 use Rattle.norm_system.proofs.Sound.{SoundSystem}
 
 -- ---- from the reader's answer
-taken_of : (s : List ℕ) (r : NormalRead) (x : Normal) → read_normal s ≡ good x → told_normal_read r ≡ shown_normal (good x) → AsRead s r
+taken_of : (s : List ℕ) (r : NormalRead) (x : Normal) → read_normal s ≡ good x → r ≡ numbers_in x → AsRead s r
 unfolding system_in_file stored_in_file normal_in normal_or
 taken_of s r x e t =
     let is : normal_in s ≡ x = ap normal_or e in
@@ -38,11 +36,8 @@ taken_of s r x e t =
       totals = ap (λ d. d.totals) t ∙ ap (λ z. z.totals) (sym is);
     }
 
-pub taken : (s : List ℕ) (r : NormalRead) → told_normal_read r ≡ shown_normal (read_normal s) → r.answer ≡ Read → AsRead s r
-taken s r t e =
-    by_judged (read_normal s)
-    (λ x h. taken_of s r x h (t ∙ ap shown_normal h))
-    (λ number place h. absurd (not_bad (sym (ap told_answer e) ∙ ap (λ d. d.verdict) t ∙ ap (λ j. (shown_normal j).verdict) h)))
+pub taken : (s : List ℕ) (r : NormalRead) → numbers_of (read_normal s) ≡ good r → AsRead s r
+taken s r t = let x = told_good _ r t in taken_of s r x.0 x.1 x.2
 
 -- ---- what follows
 pub record Known (s : List ℕ) (r : NormalRead) : Type 0 where

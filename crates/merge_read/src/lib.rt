@@ -17,8 +17,7 @@ pub fn label_at(s: &[u8], at: usize) -> NormalLabel
     requires { at + 24 ≤ length s.now }
     ensures { result ≡ normal_label_at s.now at }
 {
-    let e = at + 24;
-    norm_kinds::load_label(&s[at..e], 0)
+    norm_kinds::load_label(&s[at..at + 24], 0)
 }
 
 // The keys of the n labels that stand at a place, into lent room.
@@ -26,14 +25,10 @@ pub fn load_keys(s: &[u8], start: usize, n: usize, keys: &mut [u64])
     requires { (start + 24 * n ≤ length s.now) × (n ≤ length keys.old) }
     ensures { keys.new ≡ lay keys.old 0 (keys_at s.now start n) }
 {
-    let mut at = start;
-    let mut i: usize = 0;
-    while i < n {
-        let l = label_at(s, at);
+    for i in 0..n {
+        let l = label_at(s, start + 24 * i);
         let k = norm_system::label_key(l);
         keys[i] = k;
-        at += 24;
-        i += 1;
     }
 }
 
@@ -43,10 +38,8 @@ fn alike_at(a: &[u8], p: usize, b: &[u8], q: usize) -> bool
     requires { (p + 24 ≤ length a.now) × (q + 24 ≤ length b.now) }
     ensures { result ≡ alike (normal_label_at a.now p) (normal_label_at b.now q) }
 {
-    if byte_read::read_u32(a, p + 8) == byte_read::read_u32(b, q + 8) {
-        return byte_signed::read_i64(a, p + 16) == byte_signed::read_i64(b, q + 16);
-    }
-    false
+    byte_read::read_u32(a, p + 8) == byte_read::read_u32(b, q + 8)
+        && byte_signed::read_i64(a, p + 16) == byte_signed::read_i64(b, q + 16)
 }
 
 fn agree_in(
@@ -66,7 +59,6 @@ fn agree_in(
         if q < m {
             return alike_at(a, start + 24 * p, b, begin + 24 * q);
         }
-        return true;
     }
     true
 }
@@ -87,11 +79,8 @@ pub fn agree(
     requires count_in_bounds { (count ≤ length left.now) × (count ≤ length right.now) }
     ensures { result ≡ below (agree_at a.now start n left.now b.now begin m right.now) count }
 {
-    let mut i: usize = 0;
-    while i < count {
-        if agree_in(a, start, n, b, begin, m, left[i], right[i]) {
-            i += 1;
-        } else {
+    for i in 0..count {
+        if !agree_in(a, start, n, b, begin, m, left[i], right[i]) {
             return false;
         }
     }

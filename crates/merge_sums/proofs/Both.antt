@@ -1,9 +1,8 @@
 -- Cleared room, with the sums of one file and then of another added: the sums of both; and that they may be added.
 -- Assumes nothing.
 use mathlib.Core.Path.{◌≡◌, sym, ap, ◌∙◌, subst}
-use mathlib.Core.List.{List, ◌∷◌, ◌++◌, append-nil}
+use mathlib.Core.List.{List, ◌∷◌, ◌++◌}
 use Prim.Native.Nat.{ℕ, ◌+◌, ◌≤◌, ◌<◌, zero-le}
-use native.Mathlib.Nat.{le_refl}
 use native.Mathlib.Numerals.{add-one}
 use native.Mathlib.Omega.{arith}
 use lib.IntN.{ℤ, pos, ◌+ℤ◌, nat_abs}
@@ -17,7 +16,6 @@ use Rattle.byte_words.specs.Words.{lay, signed_bytes}
 use Rattle.byte_words.proofs.Words.{lay_append}
 use Rattle.byte_section.specs.Section.{encoded}
 use Rattle.num_packed.specs.Triangle.{tri}
-use Rattle.take_room.specs.Room.{cleared}
 use Rattle.norm_labels.specs.Seats.{seat}
 use Rattle.norm_labels.specs.Table.{rows_of}
 use Rattle.norm_labels.proofs.Tables.{length_rows, rows_at, plus_rows, plus_zeros, zeros_at}
@@ -26,10 +24,6 @@ use Rattle.norm_add.specs.declared.Column.{Column}
 use Rattle.norm_add.proofs.Held.{held_small, column_small}
 use Rattle.merge_sums.specs.Both.{both_places, both_sides, AddableBoth}
 use Rattle.merge_sums.proofs.Writing.{bytes_in, length_sum}
-
-pub all_cleared : (l : List ℤ) (n : ℕ) → n ≡ length l → cleared n l ≡ replicate n (pos 0)
-unfolding cleared
-all_cleared l n e = ap (λ t. replicate n (pos 0) ++ t) (drop_of_length-le l (subst (λ m. length l ≤ m) (sym e) (le_refl (length l)))) ∙ append-nil _
 
 -- ---- n zeros, with what one function gives and then what another gives added
 module _ (f : ℕ → ℤ) (n : ℕ) (none one : List ℤ) (z : none ≡ replicate n (pos 0)) (e : one ≡ plus none (rows_of f 0 n)) where

@@ -41,8 +41,7 @@ fn join_column(
     requires addable_both { AddableBoth a.now start (tri (length ta.now)) b.now begin (tri (length tb.now)) }
     ensures { (col.new ≡ rows_of (λ i. both_places a.now start ta.now b.now begin tb.now i j) 0 (j + 1)) × Passed ta.now (j + 1) result.left × Passed tb.now (j + 1) result.right }
 {
-    let n = col.len();
-    take_room::clear(col, n);
+    col.fill(0);
     let p = norm_add::add_next(col, a, start, ta, d.left, j);
     let q = norm_add::add_next(col, b, begin, tb, d.right, j);
     ColumnsDone { left: p, right: q }
@@ -55,35 +54,20 @@ fn join_sides(col: &mut [i64], a: &[u8], c: Column, ta: &[usize], b: &[u8], d: C
     requires addable_both { AddableBoth a.now c.base c.rows b.now d.base d.rows }
     ensures { col.new ≡ rows_of (both_sides a.now c ta.now b.now d tb.now) 0 (length col.old) }
 {
-    let n = col.len();
-    take_room::clear(col, n);
+    col.fill(0);
     norm_add::add_column(col, a, c, ta);
     norm_add::add_column(col, b, d, tb);
 }
 
 // ---- written
 
-// A sum put where its bytes have room, into a part of just them, so that nothing is tested.
-fn put_sum(out: &mut [u8], at: usize, x: i64)
-    requires { at + 8 ≤ length out.old }
-    ensures { out.new ≡ lay out.old at (signed_bytes w64 x) }
-{
-    let e = at + 8;
-    byte_signed::write_i64(&mut out[at..e], 0, x);
-}
-
 // Sums one after the other.
 fn put_column(out: &mut [u8], at: usize, col: &[i64])
     requires { at + 8 * length col.now ≤ length out.old }
     ensures { out.new ≡ lay out.old at (encoded (signed_bytes w64) col.now) }
 {
-    let mut k = at;
-    let mut i: usize = 0;
-    while i < col.len() {
-        let x = col[i];
-        put_sum(out, k, x);
-        k += 8;
-        i += 1;
+    for i in 0..col.len() {
+        norm_sum::put_sum(out, at + 8 * i, col[i]);
     }
 }
 
@@ -108,13 +92,11 @@ pub fn put_columns(
 {
     let mut d = ColumnsDone { left: 0, right: 0 };
     let mut k = at;
-    let mut j: usize = 0;
-    while j < count {
+    for j in 0..count {
         let e = j + 1;
         d = join_column(&mut room[..e], j, a, start, ta, b, begin, tb, d);
         put_column(out, k, &room[..e]);
         k += 8 * e;
-        j = e;
     }
 }
 

@@ -29,9 +29,7 @@ fn add_at(part: &mut [i64], k: usize, x: i64)
     requires x_bound { nat_abs (get_or part.old k (pos 0)) + nat_abs x < 2 ^ 63 }
     ensures { part.new ≡ set part.old k (get_or part.old k (pos 0) +ℤ x) }
 {
-    let y = part[k];
-    let z = sum_of(y, x);
-    part[k] = z;
+    part[k] = sum_of(part[k], x);
 }
 
 // Adds the sums of a column, the ith at the ith place of t.
@@ -41,15 +39,10 @@ pub fn add_column(part: &mut [i64], s: &[u8], c: Column, t: &[usize])
     requires addable { Addable s.now c.base c.rows part.old }
     ensures { part.new ≡ plus part.old (rows_of (on_place s.now c t.now) 0 (length part.old)) }
 {
-    let n = c.rows;
-    let mut at = c.base;
-    let mut i: usize = 0;
-    while i < n {
+    for i in 0..c.rows {
         let k = t[i];
-        let x = norm_sum::sum_from(s, at);
+        let x = norm_sum::sum_from(s, c.base + 8 * i);
         add_at(part, k, x);
-        at += 8;
-        i += 1;
     }
 }
 
@@ -68,7 +61,6 @@ pub fn add_next(part: &mut [i64], s: &[u8], start: usize, t: &[usize], q: usize,
             add_column(part, s, c, t);
             return q + 1;
         }
-        return q;
     }
     q
 }

@@ -17,11 +17,8 @@ use num_limits::{ARCS_MOST, ARCS_U64, LABELS_U64};
 pub fn counts_fit(arcs: usize, parameters: usize) -> bool
     ensures { result ≡ counts_fit arcs parameters }
 {
-    if num_whole::within(1, arcs as u64, ARCS_U64) {
-        num_whole::within(1, parameters as u64, LABELS_U64)
-    } else {
-        false
-    }
+    num_whole::within(1, arcs as u64, ARCS_U64)
+        && num_whole::within(1, parameters as u64, LABELS_U64)
 }
 
 // ---- 4
@@ -30,22 +27,15 @@ pub fn counts_fit(arcs: usize, parameters: usize) -> bool
 fn arc_fits(a: u64) -> bool
     ensures { result ≡ arc_ok a }
 {
-    if a < 4294967296 {
-        norm_system::arc_ok(a as u32)
-    } else {
-        false
-    }
+    a < 4294967296 && norm_system::arc_ok(a as u32)
 }
 
 fn arcs_fit(heads: &[u64], n: usize) -> bool
     requires { n ≤ length heads.now }
     ensures { result ≡ all arc_ok (take n heads.now) }
 {
-    let mut i: usize = 0;
-    while i < n {
-        if arc_fits(heads[i]) {
-            i += 1;
-        } else {
+    for i in 0..n {
+        if !arc_fits(heads[i]) {
             return false;
         }
     }
@@ -58,10 +48,8 @@ fn arcs_of(heads: &[u64], n: usize) -> [u32; ARCS_MOST]
     ensures { (take n result ≡ take n heads.now) × (arcs_most ≡ length result) }
 {
     let mut arcs: [u32; ARCS_MOST] = [0; ARCS_MOST];
-    let mut i: usize = 0;
-    while i < n {
+    for i in 0..n {
         arcs[i] = heads[i] as u32;
-        i += 1;
     }
     arcs
 }
@@ -70,16 +58,7 @@ fn arcs_of(heads: &[u64], n: usize) -> [u32; ARCS_MOST]
 fn is_small(kind: u64, index: u64, arc: u64, weight: u64) -> bool
     ensures { result ≡ is_small kind index arc weight }
 {
-    if 65535 < kind {
-        return false;
-    }
-    if 65535 < index {
-        return false;
-    }
-    if 4294967295 < arc {
-        return false;
-    }
-    weight <= 4294967295
+    kind <= 65535 && index <= 65535 && arc <= 4294967295 && weight <= 4294967295
 }
 
 // The label whose first number stands at k, without its estimate, which no test looks at.
@@ -100,11 +79,8 @@ fn label_fits(heads: &[u64], k: usize, arcs: &[u32]) -> bool
     requires { (k + 5 ≤ length heads.now) × (all arc_ok arcs.now ≡ true) }
     ensures { result ≡ normal_label_ok arcs.now (label_in_heads heads.now k) }
 {
-    if is_small(heads[k], heads[k + 1], heads[k + 2], heads[k + 3]) {
-        norm_system::label_ok(label_at(heads, k), arcs)
-    } else {
-        false
-    }
+    is_small(heads[k], heads[k + 1], heads[k + 2], heads[k + 3])
+        && norm_system::label_ok(label_at(heads, k), arcs)
 }
 
 // The n labels, of which the first stands at `from`, in a file that lists these arcs.
@@ -112,13 +88,8 @@ fn labels_fit(heads: &[u64], from: usize, n: usize, arcs: &[u32]) -> bool
     requires { (n ≤ labels_most) × (from + 5 * n ≤ length heads.now) × (all arc_ok arcs.now ≡ true) }
     ensures { result ≡ all (normal_label_ok arcs.now) (stands (label_in_heads heads.now) 5 n from) }
 {
-    let mut k = from;
-    let mut i: usize = 0;
-    while i < n {
-        if label_fits(heads, k, arcs) {
-            k += 5;
-            i += 1;
-        } else {
+    for i in 0..n {
+        if !label_fits(heads, from + 5 * i, arcs) {
             return false;
         }
     }
@@ -144,15 +115,12 @@ fn arcs_ascend(heads: &[u64], n: usize) -> bool
     ensures { result ≡ ascend (λ a. a) 0 (take n heads.now) }
 {
     let mut floor: u64 = 0;
-    let mut i: usize = 0;
-    while i < n {
+    for i in 0..n {
         let a = heads[i];
-        if floor <= a {
-            floor = a + 1;
-            i += 1;
-        } else {
+        if a < floor {
             return false;
         }
+        floor = a + 1;
     }
     true
 }
@@ -162,17 +130,12 @@ fn labels_ascend(arcs: usize, n: usize, heads: &[u64]) -> bool
     ensures { result ≡ ascend key_of 0 (stands (label_in_heads heads.now) 5 n arcs) }
 {
     let mut floor: u64 = 0;
-    let mut k = arcs;
-    let mut i: usize = 0;
-    while i < n {
-        let key = norm_system::label_key(label_at(heads, k));
-        if floor <= key {
-            floor = key + 1;
-            k += 5;
-            i += 1;
-        } else {
+    for i in 0..n {
+        let key = norm_system::label_key(label_at(heads, arcs + 5 * i));
+        if key < floor {
             return false;
         }
+        floor = key + 1;
     }
     true
 }
@@ -181,9 +144,5 @@ pub fn orders_fit(arcs: usize, parameters: usize, heads: &[u64]) -> bool
     requires { (arcs ≤ arcs_most) × (parameters ≤ labels_most) × (heads_long arcs parameters ≤ length heads.now) × (fields_fit (bare_system arcs parameters heads.now) ≡ true) }
     ensures { result ≡ orders_fit (bare_system arcs parameters heads.now) }
 {
-    if arcs_ascend(heads, arcs) {
-        labels_ascend(arcs, parameters, heads)
-    } else {
-        false
-    }
+    arcs_ascend(heads, arcs) && labels_ascend(arcs, parameters, heads)
 }

@@ -12,9 +12,9 @@ use Rattle.byte_words.proofs.Stands.{length_stands}
 use Rattle.byte_section.specs.Section.{encoded}
 use Rattle.byte_section.proofs.Trips.{length_encoded}
 use Rattle.num_packed.specs.Triangle.{tri}
-use Rattle.norm_kinds.specs.Kinds.{arc_number_bytes, fielded_bytes, sum_bytes, totals_at, totals_bytes}
+use Rattle.norm_kinds.specs.Kinds.{arc_number_bytes, fielded_bytes, sum_bytes, totals_at}
 use Rattle.norm_kinds.specs.Bytes.{sectioned}
-use Rattle.norm_kinds.proofs.Records.{length_arc, length_fielded, length_sum}
+use Rattle.norm_kinds.proofs.Records.{length_arc, length_fielded, length_sum, totals_section}
 use Rattle.norm_labels.specs.Table.{rows_of, columns_of}
 use Rattle.norm_labels.proofs.Tables.{length_rows, length_columns}
 use Rattle.norm_heads.specs.Heads.{arcs_at}
@@ -95,19 +95,9 @@ module _ (s : List ℕ) (r : NormalRead) (u : List ℕ) where
 
 -- ---- totals
 pub totals_laid : (out : List ℕ) (at : ℕ) (s : List ℕ) (r : NormalRead) (n q : ℕ) → n ≡ word 8 s r.totals → q ≡ word 8 s (r.totals + 8)
-    → lay (lay (lay out at (bytes_of 4 1)) (at + 4) (bytes_of 8 n)) (at + 12) (bytes_of 8 q) ≡ lay out at (totals_copied s r)
-unfolding totals_copied encoded totals_bytes totals_at
-totals_laid out at s r n q e f =
-    let u = bytes_of 4 1 in
-    let v = bytes_of 8 (word 8 s r.totals) in
-    let w = bytes_of 8 (word 8 s (r.totals + 8)) in
-    let one : length u ≡ 4 = length_bytes_of 4 1 in
-    let two : length v ≡ 8 = length_bytes_of 8 (word 8 s r.totals) in
-    let both : length (u ++ v) ≡ 12 = length-append u v ∙ omega arith in
-    rw (e, f)
-    (ap (λ t. lay t (at + 12) w) (lay_append out at (at + 4) u v (ap (λ n. at + n) (sym one)))
-    ∙ lay_append out at (at + 12) (u ++ v) w (ap (λ n. at + n) (sym both))
-    ∙ ap (lay out at) (append_assoc u v w ∙ ap (λ t. u ++ t) (sym (append-nil (v ++ w)) ∙ sym (append-nil ((v ++ w) ++ [])))))
+    → lay out at (bytes_of 4 1 ++ (bytes_of 8 n ++ bytes_of 8 q)) ≡ lay out at (totals_copied s r)
+unfolding totals_copied totals_at
+totals_laid out at s r n q e f = rw (e, f) (ap (lay out at) (totals_section _ _))
 
 -- ---- the three parts
 module _ (small : Bool) (s : List ℕ) (r : NormalRead) (w u : List ℕ) where

@@ -7,7 +7,6 @@ ghost use Rattle.byte_words.specs.Words.{lay};
 ghost use Rattle.byte_words.specs.Stands.{stands};
 ghost use Rattle.byte_section.specs.Section.{encoded};
 ghost use Rattle.num_packed.specs.Triangle.{tri};
-ghost use Rattle.num_packed.specs.Sound.{is_zero};
 ghost use Rattle.norm_kinds.specs.Kinds.{arc_number_bytes, fielded_at, fielded_bytes, sum_bytes};
 ghost use Rattle.norm_heads.specs.Heads.{arcs_at};
 ghost use Rattle.norm_labels.specs.Table.{rows_of, columns_of};
@@ -16,7 +15,6 @@ ghost use Rattle.norm_gather.specs.Gather.{seats_from, kept_seats, field_by_seat
 
 use norm_add::Column;
 use norm_read::NormalRead;
-use norm_system::NormalLabel;
 
 // ---- sums where they stand
 
@@ -26,9 +24,10 @@ fn held_at(s: &[u8], c: Column, i: usize) -> i64
     ensures { result ≡ held_at s.now c i }
 {
     if i < c.rows {
-        return norm_sum::sum_from(s, c.base + 8 * i);
+        norm_sum::sum_from(s, c.base + 8 * i)
+    } else {
+        0
     }
-    0
 }
 
 // Column j of a triangle of n columns that stands at a place; one without rows where it has no such column.
@@ -38,18 +37,13 @@ fn column_at(s: &[u8], start: usize, n: usize, j: usize) -> Column
 {
     if j < n {
         let base = start + 8 * num_packed::triangle(j);
-        return Column { base, rows: j + 1 };
+        Column { base, rows: j + 1 }
+    } else {
+        Column {
+            base: start,
+            rows: 0,
+        }
     }
-    Column {
-        base: start,
-        rows: 0,
-    }
-}
-
-fn is_unseen(diagonal: i64) -> bool
-    ensures { result ≡ is_zero diagonal }
-{
-    diagonal == 0
 }
 
 // The field of a label in a form, by its place among the columns of the triangle.
@@ -60,12 +54,10 @@ fn field_in(s: &[u8], start: usize, n: usize, k: usize, is_small: bool) -> u32
     if is_small {
         let c = column_at(s, start, n, k);
         let diagonal = held_at(s, c, k);
-        if is_unseen(diagonal) {
-            return 2;
-        }
-        return 1;
+        if diagonal == 0 { 2 } else { 1 }
+    } else {
+        0
     }
-    0
 }
 
 // ---- places, found once
@@ -75,19 +67,15 @@ pub fn seat_labels(s: &[u8], labels: usize, p: usize, n: usize, w: &mut [usize])
     requires { (labels + 24 * p ≤ length s.now) × (p ≤ length w.old) }
     ensures { w.new ≡ lay w.old 0 (seats_from n 0 (stands (fielded_at s.now) 24 p labels)) }
 {
-    let mut at = labels;
     let mut q: usize = 0;
-    let mut i: usize = 0;
-    while i < p {
-        let field = byte_read::read_u32(s, at + 12);
+    for i in 0..p {
+        let field = byte_read::read_u32(s, labels + 24 * i + 12);
         if field == 2 {
             w[i] = n;
         } else {
             w[i] = q;
             q += 1;
         }
-        at += 24;
-        i += 1;
     }
 }
 
@@ -104,33 +92,18 @@ pub fn keep_seats(
     ensures { (result ≡ length (kept_seats (field_by_seat is_small s.now start n) w.now)) × (u.new ≡ lay u.old 0 (kept_seats (field_by_seat is_small s.now start n) w.now)) }
 {
     let mut m: usize = 0;
-    let mut i: usize = 0;
-    while i < w.len() {
+    for i in 0..w.len() {
         let k = w[i];
         let field = field_in(s, start, n, k, is_small);
         if field != 2 {
             u[m] = k;
             m += 1;
         }
-        i += 1;
     }
     m
 }
 
 // ---- labels
-
-// A label's six fields, one after the other.
-fn put_fields(out: &mut [u8], at: usize, l: NormalLabel, field: u32)
-    requires { at + 24 ≤ length out.old }
-    ensures { out.new ≡ lay out.old at (fielded_bytes (record { label = l; field = field })) }
-{
-    byte_write::write_u16(out, at, l.kind);
-    byte_write::write_u16(out, at + 2, l.index);
-    byte_write::write_u32(out, at + 4, l.arc);
-    byte_write::write_u32(out, at + 8, l.weight);
-    byte_write::write_u32(out, at + 12, field);
-    byte_signed::write_i64(out, at + 16, l.estimate);
-}
 
 // The labels that stand at a place, with their fields in the form.
 fn put_labels(
@@ -147,12 +120,10 @@ fn put_labels(
     requires w_in_bounds { (labels + 24 * length w.now ≤ length s.now) × (at + 24 * length w.now ≤ length out.old) }
     ensures { out.new ≡ lay out.old at (encoded fielded_bytes (rows_of (fielded_by_seat is_small s.now labels start n w.now) 0 (length w.now))) }
 {
-    let mut i: usize = 0;
-    while i < w.len() {
+    for i in 0..w.len() {
         let field = field_in(s, start, n, w[i], is_small);
         let l = norm_kinds::load_label(s, labels + 24 * i);
-        put_fields(out, at + 24 * i, l, field);
-        i += 1;
+        norm_kinds::put_label(out, at + 24 * i, l, field);
     }
 }
 
@@ -163,39 +134,23 @@ fn put_arcs(out: &mut [u8], s: &[u8], n: usize)
     requires { (4 + 4 * n ≤ length s.now) × (4 + 4 * n ≤ length out.old) }
     ensures { out.new ≡ lay out.old 4 (encoded arc_number_bytes (arcs_at s.now n)) }
 {
-    let mut at: usize = 4;
-    let mut i: usize = 0;
-    while i < n {
+    for i in 0..n {
+        let at = 4 + 4 * i;
         let a = byte_read::read_u32(s, at);
         byte_write::write_u32(out, at, a);
-        at += 4;
-        i += 1;
     }
 }
 
 // ---- sums
-
-// A sum put where its bytes have room, into a part of just them, so that nothing is tested.
-fn put_sum(out: &mut [u8], at: usize, x: i64)
-    requires { at + 8 ≤ length out.old }
-    ensures { out.new ≡ lay out.old at (sum_bytes x) }
-{
-    let e = at + 8;
-    byte_signed::write_i64(&mut out[at..e], 0, x);
-}
 
 // The sums of a column at the first `count` places of u.
 fn put_gathered(out: &mut [u8], at: usize, s: &[u8], c: Column, u: &[usize], count: usize)
     requires { (c.base + 8 * c.rows ≤ length s.now) × (count ≤ length u.now) × (at + 8 * count ≤ length out.old) }
     ensures { out.new ≡ lay out.old at (encoded sum_bytes (rows_of (side_gathered s.now c u.now) 0 count)) }
 {
-    let mut k = at;
-    let mut i: usize = 0;
-    while i < count {
+    for i in 0..count {
         let x = held_at(s, c, u[i]);
-        put_sum(out, k, x);
-        k += 8;
-        i += 1;
+        norm_sum::put_sum(out, at + 8 * i, x);
     }
 }
 
@@ -206,13 +161,11 @@ fn put_columns(out: &mut [u8], at: usize, s: &[u8], start: usize, n: usize, u: &
     ensures { out.new ≡ lay out.old at (encoded sum_bytes (columns_of (gathered_at s.now start n u.now) 0 (length u.now))) }
 {
     let mut k = at;
-    let mut j: usize = 0;
-    while j < u.len() {
+    for j in 0..u.len() {
         let e = j + 1;
         let c = column_at(s, start, n, u[j]);
         put_gathered(out, k, s, c, u, e);
         k += 8 * e;
-        j = e;
     }
 }
 
@@ -261,9 +214,7 @@ fn put_totals(out: &mut [u8], at: usize, s: &[u8], r: NormalRead)
 {
     let accepted = byte_read::read_u64(s, r.totals);
     let square = byte_read::read_u64(s, r.totals + 8);
-    byte_write::write_u32(out, at, 1);
-    byte_write::write_u64(out, at + 4, accepted);
-    byte_write::write_u64(out, at + 12, square);
+    norm_kinds::put_totals(out, at, accepted, square);
 }
 
 // The whole file, of the labels whose places are w, where the form stores those at the places of u.

@@ -17,8 +17,10 @@ use Rattle.byte_section.proofs.Chains.{then_then, then_made, then_same}
 use Rattle.byte_words.specs.Stands.{stands}
 use Rattle.norm_kinds.specs.Kinds.{arc_kind, fielded_at, field_ok, fielded_at_ok, fielded_kind, is_small_form, stored_of}
 use Rattle.norm_kinds.proofs.Stored.{stored_few, old_all}
-use Rattle.byte_section.specs.Told.{Span, span_of}
-use Rattle.norm_heads.specs.Heads.{heads_part, Counts, counts_of, counts_part, arcs_at}
+use Rattle.byte_section.specs.Told.{span_of}
+use Rattle.byte_section.specs.declared.Span.{Span}
+use Rattle.norm_heads.specs.Heads.{heads_part, counts_of, counts_part, arcs_at}
+use Rattle.norm_heads.specs.declared.HeadsRead.{HeadsRead}
 use Rattle.norm_heads.proofs.Loops.{records_items}
 
 -- ---- a section's span
@@ -49,7 +51,7 @@ pub heads_counts : (s : List ℕ)
       arcs = d.count;
       parameters = e.count;
       stored = length (stored_of (stands (fielded_at s) 24 e.count (d.next + 4)));
-      small = is_small_form s d.next;
+      is_small = is_small_form s d.next;
       next = e.next;
     })
 unfolding counts_part heads_part span_of
@@ -58,7 +60,7 @@ heads_counts s =
     ∙ then_same _ _ _ (λ a e.
     let arcs : a.items ≡ arcs_at s (length a.items) = section_items arc_kind s 1 16 0 a e in
     let small = is_small_form s a.next in
-    let told : ℕ → ℕ → ℕ → Counts = λ p n next. record { arcs = length a.items; parameters = p; stored = n; small = small; next = next } in
+    let told : ℕ → ℕ → ℕ → HeadsRead = λ p n next. record { arcs = length a.items; parameters = p; stored = n; is_small = small; next = next } in
     then_made _ _ _
     ∙ then_same _ _ _ (λ b f. ap (λ l. good (told (length b.items) (length (stored_of l)) b.next)) (section_items (fielded_kind small a.items) s 1 500 a.next b f))
     ∙ ap (λ l. and_then (section_at (fielded_kind small l) s 1 500 a.next)
@@ -85,11 +87,11 @@ old_count s arcs small at d old e =
 pub heads_good : (s : List ℕ) (d e : Span) (n : ℕ) (small : Bool) → span_of (section_at arc_kind s 1 16 0) ≡ good d
     → span_of (section_at (fielded_kind (is_small_form s d.next) (arcs_at s d.count)) s 1 500 d.next) ≡ good e
     → n ≡ pick small (length (stored_of (stands (fielded_at s) 24 e.count (d.next + 4)))) e.count → small ≡ is_small_form s d.next
-    → good (record { arcs = d.count; parameters = e.count; stored = n; small = small; next = e.next }) ≡ counts_part s
+    → good (record { arcs = d.count; parameters = e.count; stored = n; is_small = small; next = e.next }) ≡ counts_part s
 heads_good s d e n small a b told form =
     let many = length (stored_of (stands (fielded_at s) 24 e.count (d.next + 4))) in
     let stored : n ≡ many = told ∙ by_cases small (λ c. sym (yes _ _ _ c refl)) (λ c. sym (no _ _ _ c refl) ∙ old_count s (arcs_at s d.count) (is_small_form s d.next) d.next e (sym form ∙ c) b) in
-    ap₂ (λ n f. good (record { arcs = d.count; parameters = e.count; stored = n; small = f; next = e.next })) stored form
+    ap₂ (λ n f. good (record { arcs = d.count; parameters = e.count; stored = n; is_small = f; next = e.next })) stored form
     ∙ sym (heads_counts s ∙ then_good _ _ a ∙ then_good _ _ b)
 
 pub few_arcs : (s : List ℕ) (d : Span) → span_of (section_at arc_kind s 1 16 0) ≡ good d → d.count ≤ 16
@@ -107,7 +109,7 @@ labels_whole s arcs small at d e =
     let x = section_read (fielded_kind small arcs) s 1 500 at a.0 a.1 in
     omega (arith, x.next, x.within, ap (λ z. z.count) (good_same a.2))
 
-pub few_counts : (s : List ℕ) (c : Counts) → counts_part s ≡ good c → (c.arcs ≤ 16) × (c.stored ≤ 500)
+pub few_counts : (s : List ℕ) (c : HeadsRead) → counts_part s ≡ good c → (c.arcs ≤ 16) × (c.stored ≤ 500)
 unfolding counts_part heads_part
 few_counts s c e =
     let h = then_read _ _ _ e in

@@ -1,7 +1,7 @@
 -- A section's records judged one by one and not kept, with the code's count upwards: what is left at each turn. And what the records of a
 -- section are that was read: what stands at their places.
 -- Assumes nothing.
-use Prim.Native.Nat.{ℕ, zero, suc, ◌+◌, ◌-◌, ◌≤◌, ◌<◌}
+use Prim.Native.Nat.{ℕ, zero, suc, ◌+◌, ◌*◌, ◌-◌, ◌≤◌, ◌<◌}
 use mathlib.Core.Path.{◌≡◌, sym, ap, ap₂, ◌∙◌}
 use mathlib.Core.List.{List, ◌∷◌}
 use native.Mathlib.Omega.{arith}
@@ -11,7 +11,8 @@ use Rattle.byte_section.specs.Section.{Kind, Run, and_then, records}
 use Rattle.byte_section.proofs.Walk.{good_same, then_good, then_bad, then_read, judged_read, records_end, records_good, records_bad, records_next}
 use Rattle.byte_section.proofs.Chains.{then_made, then_same}
 use Rattle.byte_words.specs.Stands.{stands}
-use Rattle.byte_section.specs.Told.{Span, span_of}
+use Rattle.byte_section.specs.Told.{span_of}
+use Rattle.byte_section.specs.declared.Span.{Span}
 use Rattle.norm_kinds.specs.Told.{floor_at}
 
 -- ---- a refusal of a record comes from its judgement
@@ -50,6 +51,12 @@ module _ {A : Type 0} (K : Kind A) (s : List ℕ) where
           → reaching n (records K s (n - i) at floor) ≡ bad number place
       unfolding reaching floor_at
       reach_bad number place e = then_bad _ _ (records_bad K s n i at floor more number place (then_told _ _ number place e))
+
+  -- all are read, those from a start on
+  pub reach_all : (n i start floor : ℕ) → n ≤ i → i ≤ n → reaching n (records K s (n - i) (start + K.size * i) floor) ≡ good (record { count = n; next = start + K.size * n })
+  reach_all n i start floor past within =
+      let e : i ≡ n = omega arith in
+      rw e (reach_end n n (start + K.size * n) floor (omega arith))
 
   -- ---- what was read is what stands there
   pub records_items : (n at floor : ℕ) (r : Run A) → records K s n at floor ≡ good r → r.items ≡ stands (K.decode s) K.size n at

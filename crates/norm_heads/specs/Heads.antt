@@ -2,14 +2,12 @@
 -- The form, the arcs and the labels of a normal file in the parts that the code has, in numbers.
 use Rattle.std.specs.Prelude.{ℕ, List, Bool, length}
 use Rattle.num_limits.specs.Capacities.{arcs_most, labels_most}
-use Rattle.num_whole.specs.Answer.{Judged, good, bad}
+use Rattle.num_whole.specs.Answer.{Judged, good}
 use Rattle.byte_words.specs.Words.{word}
-use Rattle.refusal.specs.Number.{number_of}
 use Rattle.byte_section.specs.Section.{Run, and_then, section_at}
 use Rattle.byte_words.specs.Stands.{stands}
 use Rattle.norm_kinds.specs.Kinds.{arc_kind, Fielded, fielded_kind, is_small_form, stored_of}
-use Rattle.norm_heads.specs.declared.HeadsAnswer.{HeadsAnswer}
-use Rattle.norm_heads.specs.declared.HeadsAnswer.TheVariants as HeadsAnswers
+use Rattle.norm_heads.specs.declared.HeadsRead.{HeadsRead}
 
 -- ---- the arcs and the labels
 pub record Heads : Type 0 where
@@ -24,32 +22,19 @@ heads_part s =
     good (record { small = is_small_form s a.next; arcs = a; labels = b })
 
 -- how many of each, how many labels have their sums stored, the form, and the place after the labels
-pub record Counts : Type 0 where
-  pub arcs : ℕ
-  pub parameters : ℕ
-  pub stored : ℕ
-  pub small : Bool
-  pub next : ℕ
-
-abbrev pub counts_of : Heads → Counts
+abbrev pub counts_of : Heads → HeadsRead
 counts_of h =
     record {
       arcs = length h.arcs.items;
       parameters = length h.labels.items;
       stored = length (stored_of h.labels.items);
-      small = h.small;
+      is_small = h.small;
       next = h.labels.next;
     }
 
-unfoldable pub counts_part : List ℕ → Judged Counts
+unfoldable pub counts_part : List ℕ → Judged HeadsRead
 counts_part s = and_then (heads_part s) (λ h. good (counts_of h))
 
 -- n arcs, after their count of four bytes
 abbrev pub arcs_at : List ℕ → ℕ → List ℕ
 arcs_at s n = stands (word 4 s) 4 n 4
-
--- ---- what the answers say
-abbrev pub told_heads : HeadsAnswer → Judged Counts
-told_heads (HeadsAnswers.Read arcs parameters stored small next) =
-    good (record { arcs = arcs; parameters = parameters; stored = stored; small = small; next = next })
-told_heads (HeadsAnswers.Refused r place) = bad (number_of r) place

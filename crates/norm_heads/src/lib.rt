@@ -3,59 +3,52 @@
 #![tactic(auto)]
 
 ghost use Rattle.std.specs.Prelude.{◌≡◌, ◌+◌, ◌*◌, ◌≤◌, length, take};
+ghost use Rattle.refusal.specs.Told.{told_placed};
 ghost use Rattle.num_limits.specs.Capacities.{arcs_most, labels_most};
 ghost use Rattle.num_whole.specs.Tests.{pick};
 ghost use Rattle.byte_words.specs.Words.{lay};
 ghost use Rattle.byte_words.specs.Stands.{stands};
 ghost use Rattle.byte_section.specs.Section.{records, section_at};
 ghost use Rattle.norm_kinds.specs.Kinds.{arc_kind, fielded_at, fielded_kind, is_small_form, stored_of};
-ghost use Rattle.byte_section.specs.Told.{span_of, told_section};
-ghost use Rattle.norm_heads.specs.Heads.{counts_part, arcs_at, told_heads};
+ghost use Rattle.byte_section.specs.Told.{span_of};
+ghost use Rattle.norm_heads.specs.Heads.{counts_part, arcs_at};
 
-use byte_section::{CountAnswer, SectionAnswer};
-use norm_kinds::FloorAnswer;
+use byte_section::Span;
 use num_limits::{ARCS_MOST, ARCS_U32, LABELS_U32};
-use refusal::Refusal;
+use refusal::{Fault, Refusal};
 
-// What reading the arcs and the labels finds: how many of each, how many labels have their sums stored, whether the form is the small one, and
-// the place after them.
+// What is read of the arcs and the labels: how many of each, how many labels have their sums stored, whether the form is the small one, and the
+// place after them.
 #[derive(Clone, Copy)]
-pub enum HeadsAnswer {
-    Read(usize, usize, usize, bool, usize),
-    Refused(Refusal, usize),
+pub struct HeadsRead {
+    pub arcs: usize,
+    pub parameters: usize,
+    pub stored: usize,
+    pub is_small: bool,
+    pub next: usize,
 }
 
 // The `count` records of the arcs section, from `start` on.
-fn walk_arcs(s: &[u8], start: usize, count: usize) -> SectionAnswer
+fn walk_arcs(s: &[u8], start: usize, count: usize) -> Result<Span, Fault>
     requires { (start ≤ length s.now) × (count ≤ arcs_most) }
-    ensures { told_section result ≡ span_of (records arc_kind s.now count start 0) }
+    ensures { told_placed result ≡ span_of (records arc_kind s.now count start 0) }
 {
-    let mut at = start;
     let mut floor: u64 = 0;
-    let mut i: usize = 0;
-    while i < count {
-        match norm_kinds::read_arc(s, at, floor) {
-            FloorAnswer::Next(next) => {
-                floor = next;
-                at += 4;
-                i += 1;
-            }
-            FloorAnswer::Refused(r, place) => {
-                return SectionAnswer::Refused(r, place);
-            }
-        }
+    for i in 0..count {
+        floor = norm_kinds::read_arc(s, start + 4 * i, floor)?;
     }
-    SectionAnswer::Read(count, at)
+    Ok(Span {
+        count,
+        next: start + 4 * count,
+    })
 }
 
 // The arcs section, the first of the file: its count, from 1 to 16, then its records.
-fn read_arcs(s: &[u8]) -> SectionAnswer
-    ensures { told_section result ≡ span_of (section_at arc_kind s.now 1 arcs_most 0) }
+fn read_arcs(s: &[u8]) -> Result<Span, Fault>
+    ensures { told_placed result ≡ span_of (section_at arc_kind s.now 1 arcs_most 0) }
 {
-    match byte_section::read_count(s, 0, 1, ARCS_U32) {
-        CountAnswer::Is(n) => walk_arcs(s, 4, n),
-        CountAnswer::Refused(r, place) => SectionAnswer::Refused(r, place),
-    }
+    let n = byte_section::read_count(s, 0, 1, ARCS_U32)?;
+    walk_arcs(s, 4, n)
 }
 
 // The n arcs of a file; slots past them are 0.
@@ -64,10 +57,8 @@ fn arcs_of(s: &[u8], n: usize) -> [u32; ARCS_MOST]
     ensures { (take n result ≡ arcs_at s.now n) × (arcs_most ≡ length result) }
 {
     let mut arcs: [u32; ARCS_MOST] = [0; ARCS_MOST];
-    let mut i: usize = 0;
-    while i < n {
+    for i in 0..n {
         arcs[i] = byte_read::read_u32(s, 4 + 4 * i);
-        i += 1;
     }
     arcs
 }
@@ -77,53 +68,44 @@ pub fn load_arcs(s: &[u8], n: usize, arcs: &mut [u64])
     requires { (4 + 4 * n ≤ length s.now) × (n ≤ length arcs.old) }
     ensures { arcs.new ≡ lay arcs.old 0 (arcs_at s.now n) }
 {
-    let mut at: usize = 4;
-    let mut i: usize = 0;
-    while i < n {
-        let a = byte_read::read_u32(s, at);
-        arcs[i] = a as u64;
-        at += 4;
-        i += 1;
+    for i in 0..n {
+        arcs[i] = u64::from(byte_read::read_u32(s, 4 + 4 * i));
     }
 }
 
 // The `count` records of the parameters section of a file of a form, from `start` on.
-fn walk_labels(s: &[u8], start: usize, count: usize, arcs: &[u32], is_small: bool) -> SectionAnswer
+fn walk_labels(
+    s: &[u8],
+    start: usize,
+    count: usize,
+    arcs: &[u32],
+    is_small: bool,
+) -> Result<Span, Fault>
     requires { (start ≤ length s.now) × (count ≤ labels_most) }
-    ensures { told_section result ≡ span_of (records (fielded_kind is_small arcs.now) s.now count start 0) }
+    ensures { told_placed result ≡ span_of (records (fielded_kind is_small arcs.now) s.now count start 0) }
 {
-    let mut at = start;
     let mut floor: u64 = 0;
-    let mut i: usize = 0;
-    while i < count {
-        match norm_kinds::read_label(s, at, floor, arcs, is_small) {
-            FloorAnswer::Next(next) => {
-                floor = next;
-                at += 24;
-                i += 1;
-            }
-            FloorAnswer::Refused(r, place) => {
-                return SectionAnswer::Refused(r, place);
-            }
-        }
+    for i in 0..count {
+        floor = norm_kinds::read_label(s, start + 24 * i, floor, arcs, is_small)?;
     }
-    SectionAnswer::Read(count, at)
+    Ok(Span {
+        count,
+        next: start + 24 * count,
+    })
 }
 
 // The parameters section: its count, from 1 to 500, then its records, all of the first one's form.
-fn read_labels(s: &[u8], at: usize, arcs: &[u32]) -> SectionAnswer
-    ensures { told_section result ≡ span_of (section_at (fielded_kind (is_small_form s.now at) arcs.now) s.now 1 labels_most at) }
+fn read_labels(s: &[u8], at: usize, arcs: &[u32]) -> Result<Span, Fault>
+    ensures { told_placed result ≡ span_of (section_at (fielded_kind (is_small_form s.now at) arcs.now) s.now 1 labels_most at) }
 {
-    match byte_section::read_count(s, at, 1, LABELS_U32) {
-        CountAnswer::Is(n) => walk_labels(s, at + 4, n, arcs, norm_kinds::is_small_form(s, at)),
-        CountAnswer::Refused(r, place) => SectionAnswer::Refused(r, place),
-    }
+    let n = byte_section::read_count(s, at, 1, LABELS_U32)?;
+    walk_labels(s, at + 4, n, arcs, norm_kinds::is_small_form(s, at))
 }
 
 // The parameters section of a file of n arcs.
-fn read_parameters(s: &[u8], at: usize, n: usize) -> SectionAnswer
+fn read_parameters(s: &[u8], at: usize, n: usize) -> Result<Span, Fault>
     requires { n ≤ arcs_most }
-    ensures { told_section result ≡ span_of (section_at (fielded_kind (is_small_form s.now at) (arcs_at s.now n)) s.now 1 labels_most at) }
+    ensures { told_placed result ≡ span_of (section_at (fielded_kind (is_small_form s.now at) (arcs_at s.now n)) s.now 1 labels_most at) }
 {
     let arcs = arcs_of(s, n);
     read_labels(s, at, &arcs[..n])
@@ -135,24 +117,31 @@ fn stored_in(s: &[u8], labels: usize, p: usize, is_small: bool) -> usize
     ensures { result ≡ pick is_small (length (stored_of (stands (fielded_at s.now) 24 p labels))) p }
 {
     if is_small {
-        return norm_kinds::count_stored(s, labels, p);
+        norm_kinds::count_stored(s, labels, p)
+    } else {
+        p
     }
-    p
 }
 
 // The arcs and the labels, one after the other.
-pub fn read_heads(s: &[u8]) -> HeadsAnswer
-    ensures { told_heads result ≡ counts_part s.now }
+pub fn read_heads(s: &[u8]) -> Result<HeadsRead, Fault>
+    ensures { told_placed result ≡ counts_part s.now }
 {
-    match read_arcs(s) {
-        SectionAnswer::Read(arcs, next) => match read_parameters(s, next, arcs) {
-            SectionAnswer::Read(parameters, end) => {
-                let is_small = norm_kinds::is_small_form(s, next);
-                let stored = stored_in(s, next + 4, parameters, is_small);
-                HeadsAnswer::Read(arcs, parameters, stored, is_small, end)
-            }
-            SectionAnswer::Refused(r, place) => HeadsAnswer::Refused(r, place),
-        },
-        SectionAnswer::Refused(r, place) => HeadsAnswer::Refused(r, place),
-    }
+    let Span {
+        count: arcs,
+        next: at,
+    } = read_arcs(s)?;
+    let Span {
+        count: parameters,
+        next,
+    } = read_parameters(s, at, arcs)?;
+    let is_small = norm_kinds::is_small_form(s, at);
+    let stored = stored_in(s, at + 4, parameters, is_small);
+    Ok(HeadsRead {
+        arcs,
+        parameters,
+        stored,
+        is_small,
+        next,
+    })
 }

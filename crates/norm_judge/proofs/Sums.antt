@@ -1,9 +1,10 @@
 -- Whether no sum is unsound, one section after another, from what the walks over the sums find.
 -- Assumes nothing.
+use Rattle.std.specs.Prelude.{Option, None, Some, is_some}
 use Prim.Native.Nat.{ℕ, ◌+◌, ◌*◌, ◌≤◌}
-use mathlib.Core.Path.{◌≡◌, sym, ap}
+use mathlib.Core.Path.{◌≡◌, refl, sym, ap}
 use mathlib.Core.List.{List}
-use mathlib.Core.Bool.{false}
+use mathlib.Core.Bool.{Bool, true, false, not}
 use lib.IntN.{ℤ, pos}
 use lib.ListN.{length, get_or, take}
 use lib.Seq.{length-take-le}
@@ -11,8 +12,25 @@ use Rattle.num_packed.specs.Triangle.{tri}
 use Rattle.num_packed.specs.Sound.{breaks, breaks_side}
 use Rattle.num_packed.specs.Found.{none, at, first_from, columns_from}
 use Rattle.norm_system.specs.System.{Where, after_matrix, after_rights, sums_where, unsound_stored, unsound_in}
+use Rattle.norm_totals.specs.Told.{told_where}
+use Rattle.norm_totals.specs.declared.Unsound.{Unsound}
+use Rattle.norm_totals.specs.declared.Unsound.TheVariants.{Matrix, Right, Accepted, Square}
 use Rattle.byte_words.proofs.Stands.{length_stands}
 use Rattle.norm_room.specs.Room.{label_in_heads, system_in_rooms, is_nowhere, sums_fit}
+
+-- a test that there is none
+pub none_nowhere : (o : Option Unsound) (b : Bool) → is_some o ≡ not b → b ≡ is_nowhere (told_where o)
+unfolding is_nowhere
+none_nowhere None true e = refl
+none_nowhere None false e = cc
+none_nowhere (Some (Matrix k)) true e = cc
+none_nowhere (Some (Matrix k)) false e = refl
+none_nowhere (Some (Right k)) true e = cc
+none_nowhere (Some (Right k)) false e = refl
+none_nowhere (Some Accepted) true e = cc
+none_nowhere (Some Accepted) false e = refl
+none_nowhere (Some Square) true e = cc
+none_nowhere (Some Square) false e = refl
 
 module _ (b : ℕ) (m : List ℤ) (p : ℕ) (w : Where) where
   -- ---- the matrix sums, then what follows

@@ -4,15 +4,13 @@
 ghost use Rattle.std.specs.Prelude.{◌≡◌, true, false, ◌+◌, ◌*◌, ◌≤◌, ◌^◌, pos, length};
 ghost use Rattle.num_limits.specs.Capacities.{arcs_most, labels_most};
 ghost use Rattle.refusal.specs.First.{answered};
-ghost use Rattle.refusal.specs.Told.{told_verdict};
+ghost use Rattle.refusal.specs.Told.{told};
 ghost use Rattle.num_packed.specs.Triangle.{tri};
 ghost use Rattle.norm_system.specs.System.{bound_of, totals_where, sides_where, sums_where};
 ghost use Rattle.norm_room.specs.Room.{system_in_rooms, is_nowhere, sums_fit, system_number};
 ghost use Rattle.norm_judge.specs.Judge.{sums_number, values_number, HeadsFit, Roomed};
 
-use norm_totals::Unsound;
-use num_packed::Walked;
-use refusal::{Refusal, Verdict};
+use refusal::Refusal;
 
 // ---- 6
 
@@ -28,13 +26,7 @@ fn totals_sound(arcs: usize, accepted: u64, square: u64) -> bool
     requires { arcs ≤ arcs_most }
     ensures { result ≡ is_nowhere (totals_where arcs accepted square) }
 {
-    match norm_totals::judge_totals(arcs, accepted, square) {
-        Unsound::Nowhere => true,
-        Unsound::Matrix(_) => false,
-        Unsound::Right(_) => false,
-        Unsound::Accepted => false,
-        Unsound::Square => false,
-    }
+    norm_totals::judge_totals(arcs, accepted, square).is_none()
 }
 
 // The right sides and the totals.
@@ -51,8 +43,8 @@ fn sides_sound(
 {
     let bound = bound_of(arcs, accepted, norm_totals::FILE_RIGHT_UNIT);
     match num_packed::first_broken_side(matrix, rights, p, bound) {
-        Walked::Sound => totals_sound(arcs, accepted, square),
-        Walked::Unsound(_) => false,
+        None => totals_sound(arcs, accepted, square),
+        Some(_) => false,
     }
 }
 
@@ -69,8 +61,8 @@ fn sums_sound(
 {
     let bound = bound_of(arcs, accepted, norm_totals::FILE_MATRIX_UNIT);
     match num_packed::first_unsound(matrix, p, bound) {
-        Walked::Sound => sides_sound(arcs, p, matrix, rights, accepted, square),
-        Walked::Unsound(_) => false,
+        None => sides_sound(arcs, p, matrix, rights, accepted, square),
+        Some(_) => false,
     }
 }
 
@@ -99,19 +91,17 @@ fn judge_sums(
     heads: &[u64],
     matrix: &[i64],
     rights: &[i64],
-) -> Verdict
+) -> Result<(), Refusal>
     requires { HeadsFit arcs parameters (length heads.now) }
-    ensures { told_verdict result ≡ answered (sums_number parameters (length matrix.now) (length rights.now) (system_in_rooms arcs parameters heads.now matrix.now rights.now)) tt }
+    ensures { told result ≡ answered (sums_number parameters (length matrix.now) (length rights.now) (system_in_rooms arcs parameters heads.now matrix.now rights.now)) tt }
 {
-    if norm_room::sums_roomy(parameters, matrix.len(), rights.len()) {
-        if sums_fit(arcs, parameters, heads, matrix, rights) {
-            Verdict::Sound
-        } else {
-            Verdict::Refused(Refusal::Unsound)
-        }
-    } else {
-        Verdict::Refused(Refusal::Room)
+    if !norm_room::sums_roomy(parameters, matrix.len(), rights.len()) {
+        return Err(Refusal::Room);
     }
+    if !sums_fit(arcs, parameters, heads, matrix, rights) {
+        return Err(Refusal::Unsound);
+    }
+    Ok(())
 }
 
 // 4, 5, 20 for the sums' rooms, 6.
@@ -121,19 +111,17 @@ fn judge_values(
     heads: &[u64],
     matrix: &[i64],
     rights: &[i64],
-) -> Verdict
+) -> Result<(), Refusal>
     requires { HeadsFit arcs parameters (length heads.now) }
-    ensures { told_verdict result ≡ answered (values_number parameters (length matrix.now) (length rights.now) (system_in_rooms arcs parameters heads.now matrix.now rights.now)) tt }
+    ensures { told result ≡ answered (values_number parameters (length matrix.now) (length rights.now) (system_in_rooms arcs parameters heads.now matrix.now rights.now)) tt }
 {
-    if norm_fields::fields_fit(arcs, parameters, heads) {
-        if norm_fields::orders_fit(arcs, parameters, heads) {
-            judge_sums(arcs, parameters, heads, matrix, rights)
-        } else {
-            Verdict::Refused(Refusal::Order)
-        }
-    } else {
-        Verdict::Refused(Refusal::Limits)
+    if !norm_fields::fields_fit(arcs, parameters, heads) {
+        return Err(Refusal::Limits);
     }
+    if !norm_fields::orders_fit(arcs, parameters, heads) {
+        return Err(Refusal::Order);
+    }
+    judge_sums(arcs, parameters, heads, matrix, rights)
 }
 
 // 2, 20 for the heads' room, 4, 5, 20 for the sums' rooms, 6, else sound.
@@ -143,16 +131,14 @@ pub fn judge(
     heads: &[u64],
     matrix: &[i64],
     rights: &[i64],
-) -> Verdict
-    ensures { told_verdict result ≡ answered (system_number arcs parameters heads.now matrix.now rights.now) tt }
+) -> Result<(), Refusal>
+    ensures { told result ≡ answered (system_number arcs parameters heads.now matrix.now rights.now) tt }
 {
-    if norm_fields::counts_fit(arcs, parameters) {
-        if norm_room::heads_roomy(arcs, parameters, heads.len()) {
-            judge_values(arcs, parameters, heads, matrix, rights)
-        } else {
-            Verdict::Refused(Refusal::Room)
-        }
-    } else {
-        Verdict::Refused(Refusal::Count)
+    if !norm_fields::counts_fit(arcs, parameters) {
+        return Err(Refusal::Count);
     }
+    if !norm_room::heads_roomy(arcs, parameters, heads.len()) {
+        return Err(Refusal::Room);
+    }
+    judge_values(arcs, parameters, heads, matrix, rights)
 }

@@ -3,7 +3,7 @@
 -- Assumes nothing.
 use Prim.Native.Nat.{ℕ, ◌+◌, ◌-◌, ◌^◌, ◌≤◌, ◌<◌}
 use mathlib.Core.Path.{◌≡◌, refl, sym, ap, ◌∙◌}
-use mathlib.Core.List.{List, ◌++◌, append_assoc}
+use mathlib.Core.List.{List, [], ◌∷◌, ◌++◌, append_assoc, append-nil}
 use mathlib.Core.Bool.{Bool, true}
 use native.Mathlib.Omega.{arith}
 use lib.IntN.{ℤ}
@@ -17,9 +17,11 @@ use Rattle.byte_words.specs.Words.{word, bytes_of, signed_word, signed_bytes}
 use Rattle.byte_words.proofs.Words.{Bytes, length_bytes_of, word_after, word_bytes_of}
 use Rattle.byte_words.proofs.Parts.{signed_back, word_forth, signed_forth, parts_join}
 use Rattle.byte_words.proofs.Written.{length_signed, word_first, word_beside}
+use Rattle.byte_section.specs.Section.{encoded}
 use Rattle.norm_system.specs.System.{arc_ok, normal_label_ok}
 use Rattle.norm_system.specs.declared.NormalLabel.{NormalLabel}
 use Rattle.norm_system.proofs.Labels.{arc_small, label_small}
+use Rattle.norm_kinds.specs.Bytes.{sectioned}
 use Rattle.norm_kinds.specs.Kinds.{arc_number_bytes, normal_label_at, normal_label_bytes, Fielded, fielded_at, field_ok, fielded_at_ok, fielded_bytes, sum_bytes, Totals, totals_at, totals_bytes}
 
 -- ---- how long
@@ -42,6 +44,16 @@ length_sum x = length_signed w64 x
 pub length_totals : (t : Totals) → length (totals_bytes t) ≡ 16
 unfolding totals_bytes
 length_totals t = simp (length-append, length_bytes_of)
+
+-- ---- a label of the old form has the field 0
+pub old_fielded : (l : NormalLabel) → fielded_bytes (record { label = l; field = 0 }) ≡ normal_label_bytes l
+unfolding fielded_bytes normal_label_bytes
+old_fielded l = refl
+
+-- ---- the totals section
+pub totals_section : (n q : ℕ) → bytes_of 4 1 ++ (bytes_of 8 n ++ bytes_of 8 q) ≡ sectioned totals_bytes (record { accepted = n; square = q } ∷ []) []
+unfolding encoded totals_bytes
+totals_section n q = simp (append_assoc, append-nil)
 
 -- ---- written, then read: an arc and a label within their limits, an estimate, sums and totals of 64 bits
 pub arc_back : (p : List ℕ) (a : ℕ) (r : List ℕ) → arc_ok a ≡ true

@@ -1,17 +1,9 @@
 -- For the proofs of the code alone: no public promise and no law cites this, and an auditor may skip it.
 -- One record of a normal file that is judged and not kept.
 use Rattle.std.specs.Prelude.{ℕ, List}
-use Rattle.num_whole.specs.Answer.{Judged, good, bad}
-use Rattle.refusal.specs.Number.{number_of}
+use Rattle.num_whole.specs.Answer.{Judged, good}
 use Rattle.byte_section.specs.Section.{Kind, and_then, judged_at}
-use Rattle.norm_kinds.specs.declared.FloorAnswer.{FloorAnswer}
-use Rattle.norm_kinds.specs.declared.FloorAnswer.TheVariants as FloorAnswers
 
 -- the least key that may follow it
 unfoldable pub floor_at : {A : Type 0} → Kind A → List ℕ → ℕ → ℕ → Judged ℕ
 floor_at K s at floor = and_then (judged_at K s at floor) (λ a. good (K.after a))
-
--- what the answer says
-abbrev pub told_floor : FloorAnswer → Judged ℕ
-told_floor (FloorAnswers.Next n) = good n
-told_floor (FloorAnswers.Refused r place) = bad (number_of r) place

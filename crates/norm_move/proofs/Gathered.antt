@@ -31,7 +31,7 @@ use Rattle.norm_heads.specs.Heads.{arcs_at}
 use Rattle.norm_add.specs.Add.{held_at, column_at}
 use Rattle.norm_add.specs.declared.Column.{Column}
 use Rattle.norm_add.proofs.Held.{held_sum, column_sum}
-use Rattle.norm_read.specs.Normal.{Normal, read_normal, shown_normal, told_normal_read}
+use Rattle.norm_read.specs.Normal.{Normal, read_normal, numbers_in}
 use Rattle.norm_read.specs.declared.NormalRead.{NormalRead}
 use Rattle.norm_read.proofs.Stored.{all_keys, stored_keys, stored_asc}
 use Rattle.norm_read.proofs.Sections.{SoundNormal, accepted_normal}
@@ -117,7 +117,7 @@ unfolding side
 by_side y a = refl
 
 -- ---- a file that was read
-module _ (s : List ℕ) (f : Normal) (e : read_normal s ≡ good f) (r : NormalRead) (t : told_normal_read r ≡ shown_normal (good f)) where
+module _ (s : List ℕ) (f : Normal) (e : read_normal s ≡ good f) (r : NormalRead) (t : r ≡ numbers_in f) where
   k : SoundNormal f
   k = accepted_normal s f e
 

@@ -7,20 +7,17 @@ use mathlib.Core.Bool.{Bool}
 use native.Mathlib.Omega.{arith}
 use lib.ListN.{length, take, drop}
 use lib.Seq.{take_at}
-use Rattle.num_whole.specs.Answer.{Judged, good, bad}
+use Rattle.num_whole.specs.Answer.{good, bad}
 use Rattle.num_whole.proofs.Cases.{yes, no, is_less, not_less}
-use Rattle.refusal.specs.Number.{number_of}
-use Rattle.refusal.specs.declared.Refusal.{Refusal}
 use Rattle.byte_words.specs.Words.{lay}
 use Rattle.byte_words.proofs.Words.{lay_front}
-use Rattle.byte_section.specs.Told.{told_answer}
-use Rattle.byte_section.specs.declared.ReadAnswer.TheVariants.{Read, Refused}
-use Rattle.byte_section.proofs.Walk.{not_bad, by_judged, then_good, then_bad}
+use Rattle.byte_section.proofs.Walk.{then_good, then_bad}
 use Rattle.num_packed.specs.Triangle.{tri}
 use Rattle.norm_kinds.specs.Kinds.{stored_of}
-use Rattle.norm_read.specs.Normal.{Normal, read_normal, shown_normal, told_normal_read}
+use Rattle.norm_read.specs.Normal.{Normal, read_normal, numbers_in, numbers_of}
 use Rattle.norm_read.specs.declared.NormalRead.{NormalRead}
 use Rattle.norm_read.proofs.Accepted.{accepted_sound, accepted_standing}
+use Rattle.norm_read.proofs.Told.{told_good}
 use Rattle.norm_forms.specs.Forms.{form_fields, form_bytes}
 use Rattle.norm_forms.proofs.Moves.{length_form}
 use Rattle.norm_move.specs.Move.{file_moved, with_room, moved_into, move_answer, laid_in, move_left}
@@ -29,7 +26,7 @@ use Rattle.norm_move.specs.Move.{file_moved, with_room, moved_into, move_answer,
 pub record Known (s : List ℕ) (r : NormalRead) : Type 0 where
   pub file : Normal
   pub is : read_normal s ≡ good file
-  pub told : told_normal_read r ≡ shown_normal (good file)
+  pub told : r ≡ numbers_in file
   pub few_arcs : r.arcs ≤ 16
   pub few_labels : r.parameters ≤ 500
   pub few_stored : r.stored ≤ 500
@@ -38,7 +35,7 @@ pub record Known (s : List ℕ) (r : NormalRead) : Type 0 where
   pub rights_end : r.rights + 8 * r.stored ≤ length s
   pub totals_end : r.totals + 16 ≤ length s
 
-known_of : (s : List ℕ) (r : NormalRead) (f : Normal) → read_normal s ≡ good f → told_normal_read r ≡ shown_normal (good f) → Known s r
+known_of : (s : List ℕ) (r : NormalRead) (f : Normal) → read_normal s ≡ good f → r ≡ numbers_in f → Known s r
 known_of s r f e t =
     let o = accepted_sound s f e in
     let d = accepted_standing s f e in
@@ -66,21 +63,8 @@ known_of s r f e t =
       totals_end = omega arith;
     }
 
-module _ (s : List ℕ) (r : NormalRead) (t : told_normal_read r ≡ shown_normal (read_normal s)) where
-  pub known : r.answer ≡ Read → Known s r
-  known e =
-      by_judged (read_normal s)
-      (λ f h. known_of s r f h (t ∙ ap shown_normal h))
-      (λ number place h. absurd (not_bad (sym (ap told_answer e) ∙ ap (λ d. d.verdict) t ∙ ap (λ j. (shown_normal j).verdict) h)))
-
-  pub refused : (w : Refusal) (place : ℕ) → r.answer ≡ Refused w place → read_normal s ≡ bad (number_of w) place
-  refused w place e =
-      by_judged (read_normal s)
-      (λ x h. absurd (not_bad (sym (ap (λ j. (shown_normal j).verdict) h) ∙ sym (ap (λ d. d.verdict) t) ∙ ap told_answer e)))
-      (λ number at h. h ∙ alike (sym (ap (λ j. (shown_normal j).verdict) h) ∙ sym (ap (λ d. d.verdict) t) ∙ ap told_answer e))
-    where
-      alike : {number at n p : ℕ} → ◌≡◌ {A = Judged (Unit {0})} (bad number at) (bad n p) → ◌≡◌ {A = Judged Normal} (bad number at) (bad n p)
-      alike e = cc
+pub known : (s : List ℕ) (r : NormalRead) → numbers_of (read_normal s) ≡ good r → Known s r
+known s r t = let f = told_good _ r t in known_of s r f.0 f.1 f.2
 
 -- ---- what is answered and left, by the code's tests
 module _ (small : Bool) (s : List ℕ) where

@@ -4,13 +4,10 @@
 use Rattle.std.specs.Prelude.{ℕ, List, Bool, length}
 use Rattle.num_whole.specs.Tests.{less, pick}
 use Rattle.num_whole.specs.Answer.{Judged, good, bad}
-use Rattle.refusal.specs.Number.{number_of}
 use Rattle.byte_words.specs.Words.{lay}
 use Rattle.byte_section.specs.Section.{and_then}
 use Rattle.norm_read.specs.Normal.{read_normal}
 use Rattle.norm_forms.specs.Forms.{form_bytes}
-use Rattle.norm_move.specs.declared.MoveAnswer.{MoveAnswer}
-use Rattle.norm_move.specs.declared.MoveAnswer.TheVariants as Answers
 
 -- the bytes of a file moved to a form, or the file's own refusal
 unfoldable pub file_moved : Bool → List ℕ → Judged (List ℕ)
@@ -35,8 +32,3 @@ laid_in room (bad number place) = room
 
 unfoldable pub move_left : Bool → List ℕ → List ℕ → List ℕ
 move_left small file room = laid_in room (moved_into small file (length room))
-
--- ---- what the answer says
-abbrev pub told_move : MoveAnswer → Judged ℕ
-told_move (Answers.Is n) = good n
-told_move (Answers.Refused r place) = bad (number_of r) place

@@ -1,9 +1,9 @@
 // Inner to the writers of normal files: the bytes of a system that stands in three lent rooms, and the sections that a state's file shares.
 #![tactic(auto)]
 
-ghost use Rattle.std.specs.Prelude.{◌≡◌, ◌+◌, ◌*◌, ◌%◌, ◌≤◌, [], ◌++◌, length, take};
+ghost use Rattle.std.specs.Prelude.{◌≡◌, ◌+◌, ◌*◌, ◌%◌, ◌≤◌, [], length, take};
 ghost use Rattle.num_limits.specs.Capacities.{arcs_most, labels_most, sums_most};
-ghost use Rattle.byte_words.specs.Words.{bytes_of, lay};
+ghost use Rattle.byte_words.specs.Words.{lay};
 ghost use Rattle.byte_words.specs.Stands.{stands};
 ghost use Rattle.num_packed.specs.Triangle.{tri};
 ghost use Rattle.norm_kinds.specs.Kinds.{arc_number_bytes, normal_label_bytes, sum_bytes};
@@ -53,14 +53,8 @@ fn put_labels(heads: &[u64], from: usize, n: usize, out: &mut [u8], start: usize
     ensures { out.new ≡ lay out.old start (sectioned normal_label_bytes (stands (label_in_heads heads.now) 5 n from) []) }
 {
     byte_write::write_u32(out, start, n as u32);
-    let mut k = from;
-    let mut at = start + 4;
-    let mut i: usize = 0;
-    while i < n {
-        put_label(heads, k, out, at);
-        k += 5;
-        at += 24;
-        i += 1;
+    for i in 0..n {
+        put_label(heads, from + 5 * i, out, start + 4 + 24 * i);
     }
 }
 
@@ -72,12 +66,8 @@ fn put_arcs(heads: &[u64], n: usize, out: &mut [u8])
     ensures { out.new ≡ lay out.old 0 (sectioned arc_number_bytes (take n heads.now) []) }
 {
     byte_write::write_u32(out, 0, n as u32);
-    let mut at: usize = 4;
-    let mut i: usize = 0;
-    while i < n {
-        byte_write::write_u32(out, at, low32(heads[i]));
-        at += 4;
-        i += 1;
+    for i in 0..n {
+        byte_write::write_u32(out, 4 + 4 * i, low32(heads[i]));
     }
 }
 
@@ -89,23 +79,9 @@ fn put_sums(sums: &[i64], n: usize, out: &mut [u8], start: usize)
     ensures { out.new ≡ lay out.old start (sectioned sum_bytes (take n sums.now) []) }
 {
     byte_write::write_u32(out, start, n as u32);
-    let mut at = start + 4;
-    let mut i: usize = 0;
-    while i < n {
-        byte_signed::write_i64(out, at, sums[i]);
-        at += 8;
-        i += 1;
+    for i in 0..n {
+        byte_signed::write_i64(out, start + 4 + 8 * i, sums[i]);
     }
-}
-
-// The totals section, the last of the file.
-fn put_totals(out: &mut [u8], at: usize, accepted: u64, square: u64)
-    requires { at + 20 ≤ length out.old }
-    ensures { out.new ≡ lay out.old at (bytes_of 4 1 ++ (bytes_of 8 accepted ++ bytes_of 8 square)) }
-{
-    byte_write::write_u32(out, at, 1);
-    byte_write::write_u64(out, at + 4, accepted);
-    byte_write::write_u64(out, at + 12, square);
 }
 
 // What follows the labels of p parameters: the matrix sums, the right sides and the totals.
@@ -126,7 +102,7 @@ pub fn put_tail(
     let rights_at = at + 4 + 8 * sums;
     put_sums(matrix, sums, out, at);
     put_sums(rights, p, out, rights_at);
-    put_totals(out, rights_at + 4 + 8 * p, accepted, square);
+    norm_kinds::put_totals(out, rights_at + 4 + 8 * p, accepted, square);
 }
 
 // ---- the file

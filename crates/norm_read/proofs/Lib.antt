@@ -7,3 +7,4 @@ pub mod Held
 pub mod Accepted
 pub mod Whole
 pub mod Back
+pub mod Told

@@ -1,7 +1,7 @@
 -- The parts of the reading put together are the reading: in runs of records, and in the numbers that the code has.
 -- Assumes nothing.
 use Prim.Native.Nat.{ℕ, ◌+◌, ◌-◌}
-use mathlib.Core.Path.{◌≡◌, refl, sym, ap, ◌∙◌}
+use mathlib.Core.Path.{◌≡◌, refl, sym, ap, ap₂, ◌∙◌}
 use mathlib.Core.List.{List}
 use native.Mathlib.Omega.{arith}
 use lib.IntN.{ℤ}
@@ -19,11 +19,14 @@ use Rattle.norm_labels.specs.Labels.{on_labels}
 use Rattle.byte_words.specs.Stands.{stands}
 use Rattle.norm_walk.specs.Walk.{unsound_at}
 use Rattle.norm_kinds.specs.Kinds.{stored_of, sum_kind, Totals, no_totals, totals_at, totals_kind}
-use Rattle.norm_read.specs.Normal.{Normal, system_from, normal_from, exactly, at_where, soundly, read_normal, shown_normal}
-use Rattle.norm_heads.specs.Heads.{Heads, heads_part, Counts, counts_part}
+use Rattle.norm_read.specs.Normal.{Normal, system_from, normal_from, exactly, at_where, soundly, read_normal, numbers_in, numbers_of}
+use Rattle.norm_heads.specs.Heads.{Heads, heads_part, counts_of, counts_part}
+use Rattle.norm_heads.specs.declared.HeadsRead.{HeadsRead}
 use Rattle.norm_heads.proofs.Heads.{section_items}
-use Rattle.norm_sections.specs.Sums.{plain_part, Places, totals_part, sums_part}
-use Rattle.norm_read.specs.Parts.{shown_bad, shown_where, shown_sums, shown_rest}
+use Rattle.norm_sections.specs.Sums.{plain_part, totals_part, sums_part}
+use Rattle.norm_sections.specs.declared.Places.{Places}
+use Rattle.norm_read.specs.declared.NormalRead.{NormalRead}
+use Rattle.norm_read.specs.Parts.{numbers_from, judged_where, judged_sums}
 use Rattle.norm_heads.proofs.Loops.{then_told}
 use Rattle.norm_read.proofs.Plain.{plain_section}
 
@@ -111,15 +114,13 @@ exactly_items K s n at r e =
     section_items K s n n at r e ∙ ap (λ k. stands (K.decode s) K.size k (at + 4)) many
 
 -- ---- the reading, in numbers
-shown_where_lem : (x : Normal) (w : Where)
-    → shown_normal (at_where x w)
-    ≡ shown_where (length x.holds.arcs) (length x.holds.labels) (length x.stored.labels) x.small (record { matrix = x.matrix; rights = x.rights; totals = x.totals }) w
-unfolding at_where shown_where
-shown_where_lem x nowhere = refl
-shown_where_lem x (in_matrix k) = refl
-shown_where_lem x (in_rights k) = refl
-shown_where_lem x in_accepted = refl
-shown_where_lem x in_square = refl
+judged_lem : (x : Normal) (w : Where) → numbers_of (at_where x w) ≡ judged_where (numbers_in x) w
+unfolding at_where judged_where
+judged_lem x nowhere = refl
+judged_lem x (in_matrix k) = refl
+judged_lem x (in_rights k) = refl
+judged_lem x in_accepted = refl
+judged_lem x in_square = refl
 
 module _ (s : List ℕ) (h : Heads) where
   -- how many labels there are, and how many have their sums stored
@@ -143,23 +144,35 @@ module _ (s : List ℕ) (h : Heads) where
       ap (λ l. get_or l 0 no_totals) (exactly_items totals_kind s 1 x.rights.next x.totals z.third) in
       rw (m, r, t)
 
-  rest_shown : (j : Judged Runs) → runs_part s n at ≡ j
-      → shown_normal (and_then j (λ x. soundly (normal_of h x))) ≡ shown_rest s (length h.arcs.items) p n h.small (and_then j (λ x. good (places_of at x)))
-  unfolding and_then shown_rest shown_sums soundly on_labels
-  rest_shown (good x) e =
-      shown_where_lem (normal_of h x) (unsound_stored h.small (normal_of h x).stored)
-      ∙ ap (λ k. shown_where (length h.arcs.items) k n h.small (places_of at x) (unsound_stored h.small (normal_of h x).stored)) (length-map h.labels.items (λ m. m.label))
-      ∙ ap (shown_where (length h.arcs.items) p n h.small (places_of at x)) (unsound_same x e)
-  rest_shown (bad number place) e = refl
+  rest_judged : (x : Runs) → runs_part s n at ≡ good x → numbers_of (soundly (normal_of h x)) ≡ judged_sums s (numbers_from (counts_of h) (places_of at x))
+  unfolding judged_sums soundly on_labels
+  rest_judged x e =
+      judged_lem (normal_of h x) (unsound_stored h.small (normal_of h x).stored)
+      ∙ ap₂ (λ k w. judged_where (numbers_from (record (counts_of h) { parameters = k }) (places_of at x)) w) (length-map h.labels.items (λ m. m.label)) (unsound_same x e)
 
-pub read_refused : (s : List ℕ) {number place : ℕ} → counts_part s ≡ bad number place → shown_bad number place ≡ shown_normal (read_normal s)
+-- the heads that were read
+heads_read : (s : List ℕ) (c : HeadsRead) → counts_part s ≡ good c → (h : Heads) × (heads_part s ≡ good h) × (counts_of h ≡ c)
 unfolding counts_part
-read_refused s e = sym (ap shown_normal (read_runs s ∙ then_bad _ _ (then_told _ _ _ _ e)))
-
-pub read_rest : (s : List ℕ) (c : Counts) → counts_part s ≡ good c
-    → shown_rest s c.arcs c.parameters c.stored c.small (sums_part s c.stored c.next) ≡ shown_normal (read_normal s)
-unfolding counts_part
-read_rest s c e =
+heads_read s c e =
     let h = then_read _ _ _ e in
-    rw (← good_same h.2)
-    (sym (ap shown_normal (read_runs s ∙ then_good _ _ h.1) ∙ rest_shown s h.0 _ refl ∙ ap (shown_rest s _ _ _ _) (sums_places s _ _)))
+    (h.0, h.1, good_same h.2)
+
+pub heads_refused : (s : List ℕ) {number place : ℕ} → counts_part s ≡ bad number place → bad number place ≡ numbers_of (read_normal s)
+unfolding counts_part
+heads_refused s e = sym (ap numbers_of (read_runs s ∙ then_bad _ _ (then_told _ _ _ _ e)))
+
+pub sums_refused : (s : List ℕ) (c : HeadsRead) {number place : ℕ} → counts_part s ≡ good c → sums_part s c.stored c.next ≡ bad number place
+    → bad number place ≡ numbers_of (read_normal s)
+sums_refused s c {number} {place} e f =
+    let h = heads_read s c e in
+    let g : sums_part s (length (stored_of h.0.labels.items)) h.0.labels.next ≡ bad number place = ap (λ (c : HeadsRead). sums_part s c.stored c.next) h.2 ∙ f in
+    sym (ap numbers_of (read_runs s ∙ then_good _ _ h.1 ∙ then_bad _ _ (then_told _ _ _ _ (sums_places s _ _ ∙ g))))
+
+pub sums_judged : (s : List ℕ) (c : HeadsRead) (x : Places) → counts_part s ≡ good c → sums_part s c.stored c.next ≡ good x
+    → judged_sums s (numbers_from c x) ≡ numbers_of (read_normal s)
+sums_judged s c x e f =
+    let h = heads_read s c e in
+    let g : sums_part s (length (stored_of h.0.labels.items)) h.0.labels.next ≡ good x = ap (λ (c : HeadsRead). sums_part s c.stored c.next) h.2 ∙ f in
+    let r = then_read _ _ _ (sums_places s _ _ ∙ g) in
+    ap₂ (λ c x. judged_sums s (numbers_from c x)) (sym h.2) (sym (good_same r.2))
+    ∙ sym (ap numbers_of (read_runs s ∙ then_good _ _ h.1 ∙ then_good _ _ r.1) ∙ rest_judged s h.0 r.0 r.1)

@@ -1,7 +1,7 @@
 -- Document 01, 'Normal file': "Sections, each after its count: arcs ..; parameters ..; matrix sums ..; right sides ..; totals"; "Files are read
 -- left to right: a section's count (1, 2), then its records one by one, each 1, 4, 5; then 3; then 6." Document 02, #106, has two forms of it:
 -- what a file stores is a system, of the labels whose sums are there; what it holds is that system on all its labels.
-use Rattle.std.specs.Prelude.{ℕ, ◌+◌, ◌*◌, List, Bool, false, ℤ, length, get_or}
+use Rattle.std.specs.Prelude.{ℕ, ◌+◌, ◌*◌, List, Bool, ℤ, length, get_or}
 use Rattle.num_limits.specs.Capacities.{arcs_most, labels_most}
 use Rattle.num_whole.specs.Answer.{Judged, good, bad}
 use Rattle.byte_section.specs.Section.{Kind, Run, and_then, section_at, closed}
@@ -10,7 +10,6 @@ use Rattle.norm_system.specs.System.{System, Where, nowhere, in_matrix, in_right
 use Rattle.norm_system.specs.declared.NormalLabel.{NormalLabel}
 use Rattle.norm_labels.specs.Labels.{on_labels}
 use Rattle.norm_kinds.specs.Kinds.{arc_kind, Fielded, labels_in, fielded_kind, is_small_form, stored_of, sum_kind, Totals, no_totals, totals_kind}
-use Rattle.byte_section.specs.Told.{told_answer}
 use Rattle.norm_read.specs.declared.NormalRead.{NormalRead}
 
 -- the form of a normal file, its labels with their fields, what it stores and what it holds, and where the records of its last three sections
@@ -72,41 +71,19 @@ read_normal s =
     (b.next + 4) (m.next + 4) (r.next + 4)))
     soundly
 
--- ---- what the answer says: with a refusal every number is 0, and the form is told as the old one
-pub record ShownNormal : Type 0 where
-  pub verdict : Judged (Unit {0})
-  pub arcs : ℕ
-  pub parameters : ℕ
-  pub stored : ℕ
-  pub small : Bool
-  pub matrix : ℕ
-  pub rights : ℕ
-  pub totals : ℕ
-
-abbrev pub shown_normal : Judged Normal → ShownNormal
-shown_normal (good x) =
+-- ---- what a reader tells of a file: its numbers, or the refusal
+abbrev pub numbers_in : Normal → NormalRead
+numbers_in x =
     record {
-      verdict = good tt;
       arcs = length x.holds.arcs;
       parameters = length x.holds.labels;
       stored = length x.stored.labels;
-      small = x.small;
+      is_small = x.small;
       matrix = x.matrix;
       rights = x.rights;
       totals = x.totals;
     }
-shown_normal (bad number place) =
-    record { verdict = bad number place; arcs = 0; parameters = 0; stored = 0; small = false; matrix = 0; rights = 0; totals = 0 }
 
-abbrev pub told_normal_read : NormalRead → ShownNormal
-told_normal_read r =
-    record {
-      verdict = told_answer r.answer;
-      arcs = r.arcs;
-      parameters = r.parameters;
-      stored = r.stored;
-      small = r.is_small;
-      matrix = r.matrix;
-      rights = r.rights;
-      totals = r.totals;
-    }
+abbrev pub numbers_of : Judged Normal → Judged NormalRead
+numbers_of (good x) = good (numbers_in x)
+numbers_of (bad number place) = bad number place

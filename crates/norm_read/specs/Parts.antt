@@ -1,38 +1,35 @@
 -- For the proofs of the code alone: no public promise and no law cites this, and an auditor may skip it.
 -- What the reader of a normal file tells in the end, in the parts that the code has, all in numbers.
-use Rattle.std.specs.Prelude.{ℕ, ◌+◌, ◌*◌, List, Bool, false}
+use Rattle.std.specs.Prelude.{ℕ, ◌+◌, ◌*◌, List}
 use Rattle.num_whole.specs.Answer.{Judged, good, bad}
 use Rattle.norm_system.specs.System.{Where, nowhere, in_matrix, in_rights, in_accepted, in_square}
 use Rattle.norm_walk.specs.Walk.{unsound_at}
-use Rattle.norm_sections.specs.Sums.{Places}
-use Rattle.norm_read.specs.Normal.{ShownNormal}
+use Rattle.norm_heads.specs.declared.HeadsRead.{HeadsRead}
+use Rattle.norm_sections.specs.declared.Places.{Places}
+use Rattle.norm_read.specs.declared.NormalRead.{NormalRead}
 
--- ---- what is told
-abbrev pub shown_bad : ℕ → ℕ → ShownNormal
-shown_bad number place =
-    record { verdict = bad number place; arcs = 0; parameters = 0; stored = 0; small = false; matrix = 0; rights = 0; totals = 0 }
+abbrev pub places_in : NormalRead → Places
+places_in r = record { matrix = r.matrix; rights = r.rights; totals = r.totals }
 
--- of a file of so many arcs and p labels, of which n have their sums stored
-unfoldable pub shown_where : ℕ → ℕ → ℕ → Bool → Places → Where → ShownNormal
-shown_where arcs p n small x nowhere =
+abbrev pub numbers_from : HeadsRead → Places → NormalRead
+numbers_from h x =
     record {
-      verdict = good tt;
-      arcs = arcs;
-      parameters = p;
-      stored = n;
-      small = small;
+      arcs = h.arcs;
+      parameters = h.parameters;
+      stored = h.stored;
+      is_small = h.is_small;
       matrix = x.matrix;
       rights = x.rights;
       totals = x.totals;
     }
-shown_where arcs p n small x (in_matrix k) = shown_bad 6 (x.matrix + 8 * k)
-shown_where arcs p n small x (in_rights k) = shown_bad 6 (x.rights + 8 * k)
-shown_where arcs p n small x in_accepted = shown_bad 6 x.totals
-shown_where arcs p n small x in_square = shown_bad 6 (x.totals + 8)
 
-unfoldable pub shown_sums : List ℕ → ℕ → ℕ → ℕ → Bool → Places → ShownNormal
-shown_sums s arcs p n small x = shown_where arcs p n small x (unsound_at small s arcs n x.matrix x.rights x.totals)
+-- 6 at the first unsound sum
+unfoldable pub judged_where : NormalRead → Where → Judged NormalRead
+judged_where r nowhere = good r
+judged_where r (in_matrix k) = bad 6 (r.matrix + 8 * k)
+judged_where r (in_rights k) = bad 6 (r.rights + 8 * k)
+judged_where r in_accepted = bad 6 r.totals
+judged_where r in_square = bad 6 (r.totals + 8)
 
-unfoldable pub shown_rest : List ℕ → ℕ → ℕ → ℕ → Bool → Judged Places → ShownNormal
-shown_rest s arcs p n small (good x) = shown_sums s arcs p n small x
-shown_rest s arcs p n small (bad number place) = shown_bad number place
+unfoldable pub judged_sums : List ℕ → NormalRead → Judged NormalRead
+judged_sums s r = judged_where r (unsound_at r.is_small s r.arcs r.stored r.matrix r.rights r.totals)

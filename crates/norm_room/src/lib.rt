@@ -27,11 +27,7 @@ pub fn sums_roomy(parameters: usize, matrix: usize, rights: usize) -> bool
     requires { parameters ≤ labels_most }
     ensures { result ≡ sums_roomy parameters matrix rights }
 {
-    if num_packed::triangle(parameters) <= matrix {
-        parameters <= rights
-    } else {
-        false
-    }
+    num_packed::triangle(parameters) <= matrix && parameters <= rights
 }
 
 // Whether all three rooms are long enough.
@@ -39,9 +35,5 @@ pub fn is_roomy(arcs: usize, parameters: usize, heads: usize, matrix: usize, rig
     requires { (arcs ≤ arcs_most) × (parameters ≤ labels_most) }
     ensures { result ≡ roomy_for arcs parameters heads matrix rights }
 {
-    if heads_roomy(arcs, parameters, heads) {
-        sums_roomy(parameters, matrix, rights)
-    } else {
-        false
-    }
+    heads_roomy(arcs, parameters, heads) && sums_roomy(parameters, matrix, rights)
 }

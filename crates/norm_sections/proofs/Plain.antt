@@ -10,7 +10,8 @@ use Rattle.num_whole.proofs.Cases.{yes, no, is_less, not_less, less_false}
 use Rattle.byte_section.specs.Section.{count_at, closed}
 use Rattle.byte_section.proofs.Walk.{good_same, then_good, then_bad, then_read, pick_read, counted}
 use Rattle.num_packed.specs.Triangle.{tri}
-use Rattle.norm_sections.specs.Sums.{plain_part, Places, totals_part, sums_part, Room}
+use Rattle.norm_sections.specs.Sums.{plain_part, totals_part, sums_part, Room}
+use Rattle.norm_sections.specs.declared.Places.{Places}
 
 -- ---- the tests that the code makes
 module _ (s : List ℕ) (at n size : ℕ) where

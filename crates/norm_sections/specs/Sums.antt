@@ -3,13 +3,9 @@
 use Rattle.std.specs.Prelude.{ℕ, ◌+◌, ◌*◌, ◌-◌, ◌≤◌, List, length}
 use Rattle.num_whole.specs.Tests.{less, pick}
 use Rattle.num_whole.specs.Answer.{Judged, good, bad}
-use Rattle.refusal.specs.Number.{number_of}
+use Rattle.norm_sections.specs.declared.Places.{Places}
 use Rattle.byte_section.specs.Section.{and_then, count_at, closed}
 use Rattle.num_packed.specs.Triangle.{tri}
-use Rattle.norm_sections.specs.declared.PlaceAnswer.{PlaceAnswer}
-use Rattle.norm_sections.specs.declared.PlaceAnswer.TheVariants as PlaceAnswers
-use Rattle.norm_sections.specs.declared.SumsAnswer.{SumsAnswer}
-use Rattle.norm_sections.specs.declared.SumsAnswer.TheVariants as SumsAnswers
 
 -- ---- sections of n records of one size, with no limits and no order: the place after one
 unfoldable pub plain_part : List ℕ → ℕ → ℕ → ℕ → Judged ℕ
@@ -18,10 +14,6 @@ plain_part s at n size =
     pick (less (length s - (at + 4)) (n * size)) (bad 1 (length s)) (good (at + 4 + n * size))
 
 -- where the records of the last three sections begin
-pub record Places : Type 0 where
-  pub matrix : ℕ
-  pub rights : ℕ
-  pub totals : ℕ
 
 -- the last section, with what stands before it
 unfoldable pub totals_part : List ℕ → ℕ → ℕ → ℕ → Judged Places
@@ -40,12 +32,3 @@ pub record Room (long p : ℕ) (x : Places) : Type 0 where
   pub matrix : x.matrix + 8 * tri p ≤ long
   pub rights : x.rights + 8 * p ≤ long
   pub totals : x.totals + 16 ≤ long
-
--- ---- what the answers say
-abbrev pub told_place : PlaceAnswer → Judged ℕ
-told_place (PlaceAnswers.After n) = good n
-told_place (PlaceAnswers.Refused r place) = bad (number_of r) place
-
-abbrev pub told_sums : SumsAnswer → Judged Places
-told_sums (SumsAnswers.Read m r t) = good (record { matrix = m; rights = r; totals = t })
-told_sums (SumsAnswers.Refused r place) = bad (number_of r) place

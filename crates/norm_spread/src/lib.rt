@@ -16,19 +16,17 @@ fn sum_for(s: &[u8], at: usize, field: u32) -> i64
     ensures { result ≡ unless_two field (signed_word w64 s.now at) }
 {
     if field == 2 {
-        return 0;
+        0
+    } else {
+        byte_signed::read_i64(s, at)
     }
-    byte_signed::read_i64(s, at)
 }
 
 // How many labels with sums a label with this field is.
 fn counted(field: u32) -> usize
     ensures { (result ≡ pick (same field 2) 0 1) × (result ≤ 1) }
 {
-    if field == 2 {
-        return 0;
-    }
-    1
+    if field == 2 { 0 } else { 1 }
 }
 
 // The stored sums that begin at a place, for the first n labels, into the room from k on.
@@ -38,14 +36,10 @@ pub fn spread_row(s: &[u8], labels: usize, n: usize, start: usize, out: &mut [i6
     ensures { out.new ≡ sets out.old k (rows_of (spread_row_at s.now labels start) 0 n) }
 {
     let mut at = start;
-    let mut label = labels;
-    let mut i: usize = 0;
-    while i < n {
-        let field = byte_read::read_u32(s, label + 12);
+    for i in 0..n {
+        let field = byte_read::read_u32(s, labels + 24 * i + 12);
         out[k + i] = sum_for(s, at, field);
         at += 8 * counted(field);
-        label += 24;
-        i += 1;
     }
 }
 
@@ -54,10 +48,8 @@ fn clear(out: &mut [i64], k: usize, n: usize)
     requires { k + n ≤ length out.old }
     ensures { out.new ≡ sets out.old k (rows_of (λ i. pos 0) 0 n) }
 {
-    let mut i: usize = 0;
-    while i < n {
+    for i in 0..n {
         out[k + i] = 0;
-        i += 1;
     }
 }
 
@@ -90,8 +82,7 @@ pub fn spread_matrix(s: &[u8], labels: usize, p: usize, start: usize, out: &mut 
 {
     let mut r: usize = 0;
     let mut k: usize = 0;
-    let mut j: usize = 0;
-    while j < p {
+    for j in 0..p {
         let field = byte_read::read_u32(s, labels + 24 * j + 12);
         spread_column(
             s,
@@ -104,6 +95,5 @@ pub fn spread_matrix(s: &[u8], labels: usize, p: usize, start: usize, out: &mut 
         );
         r += counted(field);
         k += j + 1;
-        j += 1;
     }
 }

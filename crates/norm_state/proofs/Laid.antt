@@ -1,15 +1,13 @@
 -- The bytes of a state's file in the parts that are laid one after the other, and how long it is.
 -- Assumes nothing.
 use Prim.Native.Nat.{ℕ, ◌+◌, ◌*◌, ◌≤◌}
-use mathlib.Core.Path.{◌≡◌, refl, sym, ap, ◌∙◌}
-use mathlib.Core.List.{List, [], ◌∷◌, ◌++◌, map, append_assoc, append-nil}
+use mathlib.Core.Path.{◌≡◌, refl, ap, ◌∙◌}
+use mathlib.Core.List.{List, [], ◌∷◌, ◌++◌, map, append-nil}
 use lib.ListN.{length, take, length-map}
 use lib.Seq.{length-take-le}
-use mir.Syntax.{w64}
-use Rattle.byte_words.specs.Words.{bytes_of, signed_bytes, lay}
+use Rattle.byte_words.specs.Words.{bytes_of, lay}
 use Rattle.byte_words.proofs.Words.{length_bytes_of, lay_append}
 use Rattle.byte_section.specs.Section.{encoded}
-use Rattle.arc_limits.specs.declared.Label.{Label}
 use Rattle.arc_heading.specs.Judge.{labels_of}
 use Rattle.arc_heading.specs.declared.Heading.{Heading}
 use Rattle.num_packed.specs.Triangle.{tri}
@@ -18,16 +16,9 @@ use Rattle.take_state.specs.State.{State}
 use Rattle.norm_kinds.specs.Kinds.{arc_number_bytes, normal_label_bytes}
 use Rattle.norm_kinds.specs.Bytes.{sectioned}
 use Rattle.norm_room.specs.Room.{file_long}
-use Rattle.norm_put.specs.Bytes.{name_bytes, tail_bytes}
-use Rattle.norm_put.proofs.Laid.{length_name, file_laid, file_long_lem}
-use Rattle.norm_state.specs.OfState.{arc_for, label_of_arc, system_of_state, state_bytes}
-
--- a label: its name, then its estimate
-pub label_laid : (out : List ℕ) (at arc : ℕ) (l : Label)
-    → lay (lay out at (name_bytes l.kind l.index (arc_for arc l.kind) l.weight)) (at + 16) (signed_bytes w64 l.estimate) ≡ lay out at (normal_label_bytes (label_of_arc arc l))
-unfolding normal_label_bytes label_of_arc name_bytes
-label_laid out at arc l =
-    lay_append out at (at + 16) _ _ (ap (λ n. at + n) (sym (length_name _ _ _ _))) ∙ ap (lay out at) (simp append_assoc)
+use Rattle.norm_put.specs.Bytes.{tail_bytes}
+use Rattle.norm_put.proofs.Laid.{file_laid, file_long_lem}
+use Rattle.norm_state.specs.OfState.{label_of_arc, system_of_state, state_bytes}
 
 -- the arcs section of one arc
 pub arc_laid : (out : List ℕ) (arc : ℕ) → lay (lay out 0 (bytes_of 4 1)) 4 (bytes_of 4 arc) ≡ lay out 0 (sectioned arc_number_bytes (arc ∷ []) [])

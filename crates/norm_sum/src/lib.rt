@@ -1,11 +1,12 @@
-// Inner to the readers of normal files: one sum, read where it stands in the file's bytes and held against its bound and its diagonals.
+// Inner to the readers and writers of normal files: one sum, read or put where it stands in the file's bytes, and held against its bound and its
+// diagonals.
 #![tactic(auto)]
 
 ghost use Rattle.std.specs.Prelude.{◌≡◌, Bool, ℕ, ◌+◌, ◌*◌, ◌≤◌, ◌<◌, ◌^◌, pos, length, get_or};
 ghost use Rattle.std.specs.Int.Signed.{lt_z};
 ghost use Rattle.std.specs.Int.{w64};
 ghost use Rattle.num_limits.specs.Capacities.{labels_most};
-ghost use Rattle.byte_words.specs.Words.{signed_word};
+ghost use Rattle.byte_words.specs.Words.{lay, signed_word, signed_bytes};
 ghost use Rattle.num_packed.specs.Triangle.{tri};
 ghost use Rattle.num_packed.specs.Sound.{entry, is_zero, breaks_side};
 ghost use Rattle.norm_system.specs.System.{breaks_in};
@@ -18,8 +19,15 @@ pub fn sum_from(s: &[u8], at: usize) -> i64
     requires { at + 8 ≤ length s.now }
     ensures { result ≡ signed_word w64 s.now at }
 {
-    let e = at + 8;
-    byte_signed::read_i64(&s[at..e], 0)
+    byte_signed::read_i64(&s[at..at + 8], 0)
+}
+
+// A sum put where its bytes have room, into a part of just them, so that nothing is tested.
+pub fn put_sum(out: &mut [u8], at: usize, x: i64)
+    requires { at + 8 ≤ length out.old }
+    ensures { out.new ≡ lay out.old at (signed_bytes w64 x) }
+{
+    byte_signed::write_i64(&mut out[at..at + 8], 0, x);
 }
 
 // Sum k of those that begin at a place.
@@ -35,10 +43,7 @@ fn is_past(x: i64, bound: u64) -> bool
     ensures { result ≡ past bound x }
 {
     let b = bound as i64;
-    if b < x {
-        return true;
-    }
-    x < 0 - b
+    b < x || x < -b
 }
 
 fn is_zero(x: i64) -> bool
@@ -51,10 +56,7 @@ fn is_zero(x: i64) -> bool
 pub fn least_of(is_small: bool) -> i64
     ensures { result ≡ least_of is_small }
 {
-    if is_small {
-        return 1;
-    }
-    0
+    if is_small { 1 } else { 0 }
 }
 
 fn is_low(x: i64, least: i64) -> bool

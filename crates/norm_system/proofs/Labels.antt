@@ -1,34 +1,30 @@
--- Laws of labels and arcs: a list of arcs searched from its front, the kinds that a label may have, and that what is within its limits
+-- Laws of labels and arcs: a list of arcs searched, the kinds that a label may have, and that what is within its limits
 -- fits the bytes that a file has for it.
 -- Assumes nothing.
-use Prim.Native.Nat.{ℕ, ◌+◌, ◌≤◌, ◌<◌, ◌^◌}
+use Prim.Native.Nat.{ℕ, ◌≤◌, ◌<◌, ◌^◌}
 use mathlib.Core.Path.{◌≡◌, refl, sym, ◌∙◌, subst}
 use mathlib.Core.List.{List, [], ◌∷◌}
-use mathlib.Core.Bool.{true, false}
+use mathlib.Core.Bool.{Bool, true, false, ◌||◌}
 use native.Mathlib.Omega.{arith}
-use native.Mathlib.Numerals.{add-one}
-use lib.ListN.{length, get_or, drop, drop_of_length-le}
-use lib.Seq.{drop-cons}
 use Rattle.num_whole.specs.Tests.{same, up_to, either}
+use lib.Dec.{eqb}
+use Rattle.std.specs.List.{list_any}
 use Rattle.num_whole.specs.Lists.{all}
-use Rattle.num_whole.proofs.Cases.{apart, yes, no, at_last, by_cases, is_same, not_same, same_true, up_to_true, between_true, both_first, both_second}
+use Rattle.num_whole.proofs.Cases.{apart, yes, no, at_last, by_cases, same_true, up_to_true, between_true, both_first, both_second}
 use Rattle.arc_limits.proofs.Small.{index_small}
 use Rattle.norm_system.specs.System.{arc_ok, has, arc_listed, normal_label_ok}
 use Rattle.norm_system.specs.declared.NormalLabel.{NormalLabel}
 
--- ---- a list of arcs from the ith on
-module _ (a : ℕ) (l : List ℕ) (i : ℕ) where
-  pub has_end : length l ≤ i → has a (drop i l) ≡ false
-  unfolding has
-  has_end h = rw (drop_of_length-le l h)
+-- ---- a list of arcs searched
+or_either : (b c d : Bool) → c ≡ d → (b || c) ≡ either b d
+unfolding either
+or_either true c d e = refl
+or_either false c d e = e
 
-  pub has_here : i < length l → get_or l i 0 ≡ a → has a (drop i l) ≡ true
-  unfolding has either
-  has_here h e = rw (drop-cons l i 0 h, is_same _ _ e)
-
-  pub has_on : i < length l → (get_or l i 0 ≡ a → ⊥) → has a (drop i l) ≡ has a (drop (i + 1) l)
-  unfolding has either
-  has_on h e = rw (drop-cons l i 0 h, not_same _ _ e, add-one)
+pub has_any : (a : ℕ) (l : List ℕ) → list_any (λ x. eqb x a) l ≡ has a l
+unfolding has same
+has_any a [] = refl
+has_any a (x ∷ l) = or_either (eqb x a) _ _ (has_any a l)
 
 -- ---- what is listed is within the limits of an arc
 pub arc_small : (a : ℕ) → arc_ok a ≡ true → a < 256 ^ 4

@@ -2,7 +2,7 @@
 #![tactic(auto)]
 
 ghost use Rattle.std.specs.Prelude.{◌≡◌, ◌+◌, ◌*◌, ◌<◌, ◌^◌};
-ghost use Rattle.norm_system.specs.System.{arc_ok, has, arc_listed, normal_label_ok, key_of};
+ghost use Rattle.norm_system.specs.System.{arc_ok, arc_listed, normal_label_ok, key_of};
 
 use num_limits::ARC_MOST;
 
@@ -19,21 +19,7 @@ pub struct NormalLabel {
 pub fn arc_ok(a: u32) -> bool
     ensures { result ≡ arc_ok a }
 {
-    num_whole::within(1, a as u64, ARC_MOST)
-}
-
-// Whether an arc is one of those listed.
-fn is_listed(a: u32, arcs: &[u32]) -> bool
-    ensures { result ≡ has a arcs.now }
-{
-    let mut i: usize = 0;
-    while i < arcs.len() {
-        if arcs[i] == a {
-            return true;
-        }
-        i += 1;
-    }
-    false
+    num_whole::within(1, u64::from(a), ARC_MOST)
 }
 
 // Arc 0 for kinds 1 and 2, else a listed arc.
@@ -41,28 +27,24 @@ fn arc_fits(l: NormalLabel, arcs: &[u32]) -> bool
     ensures { result ≡ arc_listed arcs.now l }
 {
     if l.kind > 2 {
-        return is_listed(l.arc, arcs);
+        arcs.contains(&l.arc)
+    } else {
+        l.arc == 0
     }
-    l.arc == 0
 }
 
 // Whether a label's fields are within their limits, in a file that lists these arcs.
 pub fn label_ok(l: NormalLabel, arcs: &[u32]) -> bool
     ensures { result ≡ normal_label_ok arcs.now l }
 {
-    if l.weight > arc_limits::WEIGHT_MOST {
-        return false;
-    }
-    if arc_limits::index_ok(l.kind, l.index) {
-        arc_fits(l, arcs)
-    } else {
-        false
-    }
+    l.weight <= arc_limits::WEIGHT_MOST
+        && arc_limits::index_ok(l.kind, l.index)
+        && arc_fits(l, arcs)
 }
 
 // The kind, the arc and the index of a label as one number, by which labels ascend.
 pub fn label_key(l: NormalLabel) -> u64
     ensures { (result ≡ key_of l) × (result < (l.kind + 1) * 2 ^ 48) }
 {
-    l.kind as u64 * 281474976710656 + l.arc as u64 * 65536 + l.index as u64
+    u64::from(l.kind) * 281474976710656 + u64::from(l.arc) * 65536 + u64::from(l.index)
 }

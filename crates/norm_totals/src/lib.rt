@@ -15,10 +15,9 @@ const FILE_SQUARE_UNIT: u64 = 4503599627370496;
 
 const FILE_ACCEPTED: u64 = 4096;
 
-// Where the first unsound sum of a file stands, by its number in its section.
+// Which sum of a file is unsound, by its number in its section.
 #[derive(Clone, Copy)]
 pub enum Unsound {
-    Nowhere,
     Matrix(usize),
     Right(usize),
     Accepted,
@@ -30,21 +29,18 @@ pub fn bound_of(arcs: usize, accepted: u64, unit: u64) -> u64
     requires { (arcs ≤ arcs_most) × (unit ≤ 2 ^ 58) }
     ensures { (result ≡ bound_of arcs accepted unit) × (result ≤ 2 ^ 62) }
 {
-    if accepted == 0 {
-        return 0;
-    }
-    arcs as u64 * unit
+    if accepted == 0 { 0 } else { arcs as u64 * unit }
 }
 
-pub fn judge_totals(arcs: usize, accepted: u64, square: u64) -> Unsound
+pub fn judge_totals(arcs: usize, accepted: u64, square: u64) -> Option<Unsound>
     requires { arcs ≤ arcs_most }
     ensures { told_where result ≡ totals_where arcs accepted square }
 {
     if arcs as u64 * FILE_ACCEPTED < accepted {
-        return Unsound::Accepted;
+        return Some(Unsound::Accepted);
     }
     if bound_of(arcs, accepted, FILE_SQUARE_UNIT) < square {
-        return Unsound::Square;
+        return Some(Unsound::Square);
     }
-    Unsound::Nowhere
+    None
 }

@@ -14,9 +14,7 @@ use Rattle.num_whole.specs.Tests.{pick}
 use Rattle.num_whole.proofs.Cases.{yes, no, by_cases}
 use Rattle.byte_words.specs.Words.{word, signed_word, lay}
 use Rattle.byte_words.proofs.Words.{lay_front}
-use Rattle.byte_section.proofs.Walk.{not_bad, by_judged, then_good, then_bad}
-use Rattle.refusal.specs.Number.{number_of}
-use Rattle.refusal.specs.declared.Refusal.{Refusal}
+use Rattle.byte_section.proofs.Walk.{then_good, then_bad}
 use Rattle.num_packed.specs.Triangle.{tri}
 use Rattle.norm_system.specs.System.{System}
 use Rattle.norm_sum.specs.Sums.{sums_at}
@@ -25,12 +23,11 @@ use Rattle.byte_section.specs.Section.{encoded}
 use Rattle.norm_labels.specs.Table.{rows_of, columns_of}
 use Rattle.norm_labels.specs.Labels.{on_labels}
 use Rattle.norm_kinds.specs.Kinds.{labels_in, fielded_at, stored_of}
-use Rattle.norm_read.specs.Normal.{Normal, read_normal, shown_normal, told_normal_read}
-use Rattle.byte_section.specs.Told.{told_answer}
+use Rattle.norm_read.specs.Normal.{Normal, read_normal, numbers_in, numbers_of}
 use Rattle.norm_read.specs.declared.NormalRead.{NormalRead}
-use Rattle.byte_section.specs.declared.ReadAnswer.TheVariants.{Read, Refused}
 use Rattle.norm_heads.specs.Heads.{arcs_at}
 use Rattle.norm_read.proofs.Sections.{accepted_normal}
+use Rattle.norm_read.proofs.Told.{told_good}
 use Rattle.norm_read.proofs.Held.{up}
 use Rattle.norm_read.proofs.Accepted.{accepted_sound, labels_stand, accepted_standing}
 use Rattle.norm_read.proofs.Back.{all_stored, holds_stored}
@@ -57,7 +54,7 @@ module _ (s : List ℕ) (x : Normal) (e : read_normal s ≡ good x) where
       let square : x.stored.square ≡ word 8 s (x.totals + 8) = ap (λ y. y.square) k.held ∙ t.square in
       (λ i. record { arcs = arcs i; labels = labels i; matrix = t.matrix i; rights = t.rights i; accepted = accepted i; square = square i })
 
-  standing : x ≡ normal_at s (length x.holds.arcs) (length x.holds.labels) (length x.stored.labels) x.small x.matrix x.rights x.totals
+  standing : x ≡ normal_at s (numbers_in x)
   standing =
       let t = accepted_standing s x e in
       let held = sym (accepted_normal s x e).held ∙ ap₂ (λ l y. on_labels (labels_in l) y) t.fielded stored_is in
@@ -71,22 +68,10 @@ module _ (s : List ℕ) (x : Normal) (e : read_normal s ≡ good x) where
         totals = x.totals;
       })
 
-module _ (s : List ℕ) (r : NormalRead) (t : told_normal_read r ≡ shown_normal (read_normal s)) where
-  pub taken : r.answer ≡ Read → read_normal s ≡ good (normal_at s r.arcs r.parameters r.stored r.is_small r.matrix r.rights r.totals)
-  taken e =
-      by_judged (read_normal s)
-      (λ x h. let u : told_normal_read r ≡ shown_normal (good x) = t ∙ ap shown_normal h in
-      h ∙ ap good (standing s x h ∙ (λ i. normal_at s (sym u i).arcs (sym u i).parameters (sym u i).stored (sym u i).small (sym u i).matrix (sym u i).rights (sym u i).totals)))
-      (λ number place h. absurd (not_bad (sym (ap told_answer e) ∙ ap (λ d. d.verdict) t ∙ ap (λ j. (shown_normal j).verdict) h)))
-
-  pub refused : (w : Refusal) (place : ℕ) → r.answer ≡ Refused w place → read_normal s ≡ bad (number_of w) place
-  refused w place e =
-      by_judged (read_normal s)
-      (λ x h. absurd (not_bad (sym (ap (λ j. (shown_normal j).verdict) h) ∙ sym (ap (λ d. d.verdict) t) ∙ ap told_answer e)))
-      (λ number at h. h ∙ alike (sym (ap (λ j. (shown_normal j).verdict) h) ∙ sym (ap (λ d. d.verdict) t) ∙ ap told_answer e))
-    where
-      alike : {number at n p : ℕ} → ◌≡◌ {A = Judged (Unit {0})} (bad number at) (bad n p) → ◌≡◌ {A = Judged Normal} (bad number at) (bad n p)
-      alike e = cc
+pub taken : (s : List ℕ) (r : NormalRead) → numbers_of (read_normal s) ≡ good r → read_normal s ≡ good (normal_at s r)
+taken s r t =
+    let x = told_good _ r t in
+    x.1 ∙ ap good (standing s x.0 x.1 ∙ ap (normal_at s) (sym x.2))
 
 -- ---- the file's own refusal
 module _ (s : List ℕ) (heads matrix rights number place : ℕ) (e : read_normal s ≡ bad number place) where
@@ -107,9 +92,30 @@ sums_left l room h =
     sets-eq l room 0 (omega arith) ∙ ap (λ n. l ++ drop n room) z
 
 -- ---- a file that was read
-module _ (s : List ℕ) (a p n : ℕ) (small : Bool) (m r t : ℕ) (e : read_normal s ≡ good (normal_at s a p n small m r t)) where
+module _ (s : List ℕ) (k : NormalRead) (e : read_normal s ≡ good (normal_at s k)) where
   abbrev file : Normal
-  file = normal_at s a p n small m r t
+  file = normal_at s k
+
+  abbrev a : ℕ
+  a = k.arcs
+
+  abbrev p : ℕ
+  p = k.parameters
+
+  abbrev n : ℕ
+  n = k.stored
+
+  abbrev small : Bool
+  small = k.is_small
+
+  abbrev m : ℕ
+  m = k.matrix
+
+  abbrev r : ℕ
+  r = k.rights
+
+  abbrev t : ℕ
+  t = k.totals
 
   abbrev labels : ℕ
   labels = 8 + 4 * a
@@ -176,8 +182,8 @@ module _ (s : List ℕ) (a p n : ℕ) (small : Bool) (m r t : ℕ) (e : read_nor
     unpack_bad h = then_good _ _ e ∙ sym (no _ _ _ (roomy_same ∙ h) refl)
 
   -- what is told and left
-  pub told_good : record { verdict = good tt; arcs = a; parameters = p; stored = n; small = small; matrix = m; rights = r; totals = t } ≡ shown_normal (good file)
-  told_good = λ i. record { verdict = good tt; arcs = sym many_arcs i; parameters = sym many_labels i; stored = sym many_stored i; small = small; matrix = m; rights = r; totals = t }
+  pub numbers_same : k ≡ numbers_in file
+  numbers_same = λ i. record { arcs = sym many_arcs i; parameters = sym many_labels i; stored = sym many_stored i; is_small = small; matrix = m; rights = r; totals = t }
 
   pub heads_left : (h : List ℕ) → heads_long a p ≤ length h → lay h 0 (heads_at s a p t) ≡ filled heads_of (good file) h
   unfolding filled heads_of over heads_at label_numbers_from on_labels

@@ -4,8 +4,8 @@
 
 ghost use Rattle.std.specs.Prelude.{◌≡◌, false, ◌+◌, ◌*◌, ◌≤◌, length};
 ghost use Rattle.std.proofs.lemmas.List.Edits.{sets};
+ghost use Rattle.refusal.specs.Told.{told_placed};
 ghost use Rattle.num_limits.specs.Capacities.{labels_most};
-ghost use Rattle.num_whole.specs.Answer.{good};
 ghost use Rattle.num_whole.specs.Tests.{pick};
 ghost use Rattle.num_packed.specs.Triangle.{tri};
 ghost use Rattle.norm_labels.specs.Table.{rows_of, columns_of};
@@ -13,14 +13,13 @@ ghost use Rattle.norm_spread.specs.Spread.{spread_row_at, spread_column_at};
 ghost use Rattle.byte_words.specs.Words.{lay};
 ghost use Rattle.norm_sum.specs.Sums.{sums_at};
 ghost use Rattle.norm_kinds.specs.Kinds.{normal_label_at};
-ghost use Rattle.norm_read.specs.Normal.{read_normal, shown_normal, told_normal_read};
+ghost use Rattle.norm_read.specs.Normal.{numbers_of};
 ghost use Rattle.norm_room.specs.Room.{heads_long, label_numbers, heads_of};
-ghost use Rattle.norm_unpack.specs.Parts.{normal_at, label_numbers_from, heads_at};
+ghost use Rattle.norm_unpack.specs.Parts.{label_numbers_from, heads_at};
 ghost use Rattle.norm_unpack.specs.Unpack.{unpack_normal, filled, matrix_of, rights_of};
 
-use byte_section::ReadAnswer;
 use norm_read::NormalRead;
-use refusal::Refusal;
+use refusal::{Fault, Refusal};
 
 // ---- the heads
 
@@ -29,10 +28,10 @@ fn fill_label(s: &[u8], at: usize, heads: &mut [u64], k: usize)
     requires { (at + 24 ≤ length s.now) × (k + 5 ≤ length heads.old) }
     ensures { heads.new ≡ lay heads.old k (label_numbers (normal_label_at s.now at)) }
 {
-    heads[k] = byte_read::read_u16(s, at) as u64;
-    heads[k + 1] = byte_read::read_u16(s, at + 2) as u64;
-    heads[k + 2] = byte_read::read_u32(s, at + 4) as u64;
-    heads[k + 3] = byte_read::read_u32(s, at + 8) as u64;
+    heads[k] = u64::from(byte_read::read_u16(s, at));
+    heads[k + 1] = u64::from(byte_read::read_u16(s, at + 2));
+    heads[k + 2] = u64::from(byte_read::read_u32(s, at + 4));
+    heads[k + 3] = u64::from(byte_read::read_u32(s, at + 8));
     heads[k + 4] = byte_read::read_u64(s, at + 16);
 }
 
@@ -41,14 +40,8 @@ fn fill_labels(s: &[u8], start: usize, n: usize, heads: &mut [u64], first: usize
     requires { (start + 24 * n ≤ length s.now) × (first + 5 * n ≤ length heads.old) }
     ensures { heads.new ≡ lay heads.old first (label_numbers_from s.now n start) }
 {
-    let mut at = start;
-    let mut k = first;
-    let mut i: usize = 0;
-    while i < n {
-        fill_label(s, at, heads, k);
-        at += 24;
-        k += 5;
-        i += 1;
+    for i in 0..n {
+        fill_label(s, start + 24 * i, heads, first + 5 * i);
     }
 }
 
@@ -72,12 +65,8 @@ fn fill_sums(s: &[u8], start: usize, n: usize, out: &mut [i64])
     requires { (start + 8 * n ≤ length s.now) × (n ≤ length out.old) }
     ensures { out.new ≡ sets out.old 0 (sums_at s.now start n) }
 {
-    let mut at = start;
-    let mut i: usize = 0;
-    while i < n {
-        out[i] = norm_sum::sum_from(s, at);
-        at += 8;
-        i += 1;
+    for i in 0..n {
+        out[i] = norm_sum::sum_from(s, start + 8 * i);
     }
 }
 
@@ -111,78 +100,34 @@ fn fill_rights(s: &[u8], labels: usize, p: usize, start: usize, is_small: bool, 
 
 // ---- the file
 
-// A file that was read, unpacked where the rooms are long enough.
-fn unpack_read(
+// A normal file read, and what it holds put into the rooms: for every file and all rooms.
+pub fn unpack(
     file: &[u8],
-    arcs: usize,
-    parameters: usize,
-    stored: usize,
-    is_small: bool,
-    entries: usize,
-    sides: usize,
-    totals: usize,
     heads: &mut [u64],
     matrix: &mut [i64],
     rights: &mut [i64],
-) -> NormalRead
-    requires { read_normal file.now ≡ good (normal_at file.now arcs parameters stored is_small entries sides totals) }
-    ensures result_value { told_normal_read result ≡ shown_normal (unpack_normal file.now (length heads.old) (length matrix.old) (length rights.old)) }
+) -> Result<NormalRead, Fault>
+    ensures result_value { told_placed result ≡ numbers_of (unpack_normal file.now (length heads.old) (length matrix.old) (length rights.old)) }
     ensures heads_after { heads.new ≡ filled heads_of (unpack_normal file.now (length heads.old) (length matrix.old) (length rights.old)) heads.old }
     ensures matrix_after { matrix.new ≡ filled matrix_of (unpack_normal file.now (length heads.old) (length matrix.old) (length rights.old)) matrix.old }
     ensures rights_after { rights.new ≡ filled rights_of (unpack_normal file.now (length heads.old) (length matrix.old) (length rights.old)) rights.old }
 {
-    if norm_room::is_roomy(arcs, parameters, heads.len(), matrix.len(), rights.len()) {
-        fill_heads(file, arcs, parameters, totals, heads);
-        let labels = 8 + 4 * arcs;
-        fill_matrix(file, labels, parameters, entries, is_small, matrix);
-        fill_rights(file, labels, parameters, sides, is_small, rights);
-        NormalRead {
-            answer: ReadAnswer::Read,
-            arcs,
-            parameters,
-            stored,
-            is_small,
-            matrix: entries,
-            rights: sides,
-            totals,
-        }
-    } else {
-        NormalRead {
-            answer: ReadAnswer::Refused(Refusal::Room, file.len()),
-            arcs: 0,
-            parameters: 0,
-            stored: 0,
-            is_small: false,
-            matrix: 0,
-            rights: 0,
-            totals: 0,
-        }
+    let r = norm_read::read(file)?;
+    if !norm_room::is_roomy(
+        r.arcs,
+        r.parameters,
+        heads.len(),
+        matrix.len(),
+        rights.len(),
+    ) {
+        return Err(Fault {
+            why: Refusal::Room,
+            place: file.len(),
+        });
     }
-}
-
-// A normal file read, and what it holds put into the rooms: for every file and all rooms.
-pub fn unpack(file: &[u8], heads: &mut [u64], matrix: &mut [i64], rights: &mut [i64]) -> NormalRead
-    ensures result_value { told_normal_read result ≡ shown_normal (unpack_normal file.now (length heads.old) (length matrix.old) (length rights.old)) }
-    ensures heads_after { heads.new ≡ filled heads_of (unpack_normal file.now (length heads.old) (length matrix.old) (length rights.old)) heads.old }
-    ensures matrix_after { matrix.new ≡ filled matrix_of (unpack_normal file.now (length heads.old) (length matrix.old) (length rights.old)) matrix.old }
-    ensures rights_after { rights.new ≡ filled rights_of (unpack_normal file.now (length heads.old) (length matrix.old) (length rights.old)) rights.old }
-{
-    let r = norm_read::read(file);
-    let answer = r.answer;
-    match answer {
-        ReadAnswer::Read => unpack_read(
-            file,
-            r.arcs,
-            r.parameters,
-            r.stored,
-            r.is_small,
-            r.matrix,
-            r.rights,
-            r.totals,
-            heads,
-            matrix,
-            rights,
-        ),
-        ReadAnswer::Refused(_, _) => r,
-    }
+    fill_heads(file, r.arcs, r.parameters, r.totals, heads);
+    let labels = 8 + 4 * r.arcs;
+    fill_matrix(file, labels, r.parameters, r.matrix, r.is_small, matrix);
+    fill_rights(file, labels, r.parameters, r.rights, r.is_small, rights);
+    Ok(r)
 }

@@ -2,11 +2,10 @@
 #![tactic(auto)]
 
 ghost use Rattle.std.specs.Prelude.{◌≡◌, length};
+ghost use Rattle.refusal.specs.Told.{told};
 ghost use Rattle.norm_write.specs.Write.{write_normal, normal_left_in};
-ghost use Rattle.byte_section.specs.Told.{told_write};
 
-use byte_section::WriteAnswer;
-use refusal::{Refusal, Verdict};
+use refusal::Refusal;
 
 // The whole file at the start of a lent buffer, which keeps its rest; a refusal changes nothing. The heads have each arc, then for each
 // label its kind, index, arc, prior weight and estimate, then accepted and the square sum.
@@ -17,20 +16,15 @@ pub fn write(
     matrix: &[i64],
     rights: &[i64],
     out: &mut [u8],
-) -> WriteAnswer
-    ensures answer { told_write result ≡ write_normal arcs parameters heads.now matrix.now rights.now (length out.old) }
+) -> Result<usize, Refusal>
+    ensures answer { told result ≡ write_normal arcs parameters heads.now matrix.now rights.now (length out.old) }
     ensures left { out.new ≡ normal_left_in arcs parameters heads.now matrix.now rights.now out.old }
 {
-    match norm_judge::judge(arcs, parameters, heads, matrix, rights) {
-        Verdict::Refused(refusal) => WriteAnswer::Refused(refusal),
-        Verdict::Sound => {
-            let n = norm_room::needed(arcs, parameters);
-            if out.len() < n {
-                WriteAnswer::Refused(Refusal::Room)
-            } else {
-                norm_put::put(arcs, parameters, heads, matrix, rights, out);
-                WriteAnswer::Is(n)
-            }
-        }
+    norm_judge::judge(arcs, parameters, heads, matrix, rights)?;
+    let n = norm_room::needed(arcs, parameters);
+    if out.len() < n {
+        return Err(Refusal::Room);
     }
+    norm_put::put(arcs, parameters, heads, matrix, rights, out);
+    Ok(n)
 }

@@ -1,7 +1,7 @@
 -- The machine's tests of signed numbers.
 -- Assumes nothing.
-use mathlib.Core.Path.{◌≡◌, refl, sym, ap, ◌∙◌, subst}
-use mathlib.Core.Bool.{Bool, true, false, cond}
+use mathlib.Core.Path.{◌≡◌, refl, sym, ap, ap₂, ◌∙◌, subst}
+use mathlib.Core.Bool.{Bool, true, false, not, cond}
 use Prim.Native.Nat.{ℕ, zero, suc, ◌-◌, ◌^◌, ◌<◌, ◌≤◌, zero-le}
 use native.Mathlib.Omega.{arith}
 use borrow.Author.Tests.{eq-eqb, ne_eqb, eqb-true, le-ltb, ltb-false}
@@ -52,6 +52,25 @@ chosen false x y e = absurd (apart (sym e))
 pub other : {A : Type 0} (t : Bool) (x y : A) → t ≡ false → cond t x y ≡ y
 other true x y e = absurd (apart e)
 other false x y e = refl
+
+-- what is past a bound, from the machine's numbers
+pub past_is : (b x b' x' : ℤ) (r : Bool) → b' ≡ b → x' ≡ x → r ≡ cond (lt_z b' x') true (lt_z x' (neg_ℤ b')) → r ≡ cond (lt_z b x) true (lt_z x (neg_ℤ b))
+past_is b x b' x' r p q e = e ∙ ap₂ (λ u v. cond (lt_z u v) true (lt_z v (neg_ℤ u))) p q
+
+-- what is past a bound breaks it, and what is not is judged on
+pub past_true : (a b r : Bool) → cond a true b ≡ true → true ≡ cond a true (cond b true r)
+past_true true b r e = refl
+past_true false true r e = refl
+past_true false false r e = absurd (apart (sym e))
+
+pub past_false : (a b r : Bool) → cond a true b ≡ false → r ≡ cond a true (cond b true r)
+past_false true b r e = absurd (apart e)
+past_false false true r e = absurd (apart e)
+past_false false false r e = refl
+
+pub not_past : (a b : Bool) → not (cond a true b) ≡ cond a false (not b)
+not_past true b = refl
+not_past false b = refl
 
 -- ---- zero, and not below it
 pub zero_true : (z : ℤ) → is_zero z ≡ true → z ≡ pos 0

@@ -1,9 +1,7 @@
 -- Document 01: "for 6 the first unsound sum in file order". The first number at which a test holds, and the first entry of a packed triangle.
-use Rattle.std.specs.Prelude.{ℕ, zero, suc, ◌+◌, Bool}
+use Rattle.std.specs.Prelude.{ℕ, zero, suc, ◌+◌, Bool, Option, None, Some}
 use Rattle.num_whole.specs.Tests.{pick}
 use Rattle.num_packed.specs.Triangle.{tri}
-use Rattle.num_packed.specs.declared.Walked.{Walked}
-use Rattle.num_packed.specs.declared.Walked.TheVariants.{Sound, Unsound}
 
 -- nothing, or the number of what was found
 pub data Found : Type 0 where
@@ -25,6 +23,6 @@ columns_from f j zero = none
 columns_from f j (suc n) = in_column (tri j) (first_from (λ i. f i j) 0 (suc j)) (columns_from f (j + 1) n)
 
 -- what the answer of a walk over sums says
-abbrev pub told_walked : Walked → Found
-told_walked Sound = none
-told_walked (Unsound k) = at k
+abbrev pub told_walked : Option ℕ → Found
+told_walked None = none
+told_walked (Some k) = at k

@@ -1,7 +1,8 @@
 // Inner to states and normal files: places in the packed triangle, and the first sum that is not sound.
 #![tactic(auto)]
 
-ghost use Rattle.std.specs.Prelude.{◌≡◌, ◌+◌, ◌*◌, ◌≤◌, ◌<◌, pos, length, true, false, ◌≤ℤ◌};
+ghost use Rattle.std.specs.Prelude.{◌≡◌, ◌+◌, ◌*◌, ◌≤◌, ◌<◌, pos, length, true, false, cond, neg_ℤ, ◌≤ℤ◌};
+ghost use Rattle.std.specs.Int.Signed.{lt_z};
 ghost use Rattle.num_whole.specs.Tests.{below};
 ghost use Rattle.num_limits.specs.Capacities.{labels_most, sums_most};
 ghost use Rattle.num_packed.specs.Sound.{breaks, breaks_side};
@@ -25,6 +26,14 @@ pub fn place(i: usize, j: usize) -> usize
     triangle(j) + i
 }
 
+// Whether a sum is larger in size than a bound.
+fn is_past(x: i64, bound: i64) -> bool
+    requires { pos 0 ≤ℤ bound }
+    ensures { result ≡ cond (lt_z bound x) true (lt_z x (neg_ℤ bound)) }
+{
+    bound < x || x < -bound
+}
+
 // Whether the entry of row i and column j is one that sums cannot have.
 fn is_broken(s: &[i64], i: usize, j: usize, bound: i64) -> bool
     requires i_le_j { (i ≤ j) × (j < labels_most) }
@@ -33,53 +42,29 @@ fn is_broken(s: &[i64], i: usize, j: usize, bound: i64) -> bool
     ensures { result ≡ breaks bound s.now i j }
 {
     let x = s[place(i, j)];
-    if bound < x {
-        return true;
-    }
-    if x < 0 - bound {
+    if is_past(x, bound) {
         return true;
     }
     if i == j {
         return x < 0;
     }
-    if x == 0 {
-        return false;
-    }
-    let p = s[place(i, i)];
-    if p == 0 {
-        return true;
-    }
-    let q = s[place(j, j)];
-    q == 0
-}
-
-// What a walk over sums finds: each is sound, or the number of the first that is not.
-#[derive(Clone, Copy)]
-pub enum Walked {
-    Sound,
-    Unsound(usize),
+    x != 0 && (s[place(i, i)] == 0 || s[place(j, j)] == 0)
 }
 
 // The first entry that sums of p columns cannot have, where there is one: each is judged by itself, by its bound, its row and its column.
-fn walk(s: &[i64], p: usize, bound: i64) -> Walked
+fn walk(s: &[i64], p: usize, bound: i64) -> Option<usize>
     requires p_le_labels_most { (p ≤ labels_most) × (tri p ≤ length s.now) }
     requires pos_bound { pos 0 ≤ℤ bound }
     ensures { told_walked result ≡ columns_from (breaks bound s.now) 0 p }
 {
-    let mut found = Walked::Sound;
-    let mut j: usize = 0;
-    'all: while j < p {
-        let mut i: usize = 0;
-        while i <= j {
+    for j in 0..p {
+        for i in 0..j + 1 {
             if is_broken(s, i, j, bound) {
-                found = Walked::Unsound(place(i, j));
-                break 'all;
+                return Some(place(i, j));
             }
-            i += 1;
         }
-        j += 1;
     }
-    found
+    None
 }
 
 // Whether the diagonal of parameter i is above 0.
@@ -87,8 +72,7 @@ fn is_seen(s: &[i64], i: usize) -> bool
     requires { (i < labels_most) × (tri (i + 1) ≤ length s.now) }
     ensures { result ≡ seen_at s.now i }
 {
-    let d = s[place(i, i)];
-    0 < d
+    0 < s[place(i, i)]
 }
 
 // Whether each diagonal of p parameters is.
@@ -96,11 +80,8 @@ fn all_seen(s: &[i64], p: usize) -> bool
     requires { (p ≤ labels_most) × (tri p ≤ length s.now) }
     ensures { result ≡ below (seen_at s.now) p }
 {
-    let mut i: usize = 0;
-    while i < p {
-        if is_seen(s, i) {
-            i += 1;
-        } else {
+    for i in 0..p {
+        if !is_seen(s, i) {
             return false;
         }
     }
@@ -113,11 +94,7 @@ fn is_within(s: &[i64], k: usize, bound: i64) -> bool
     requires pos_bound { pos 0 ≤ℤ bound }
     ensures { result ≡ within_at bound s.now k }
 {
-    let sum = s[k];
-    if bound < sum {
-        return false;
-    }
-    0 - bound <= sum
+    !is_past(s[k], bound)
 }
 
 // Whether each of the first n sums is.
@@ -126,11 +103,8 @@ fn all_within(s: &[i64], n: usize, bound: i64) -> bool
     requires pos_bound { pos 0 ≤ℤ bound }
     ensures { result ≡ below (within_at bound s.now) n }
 {
-    let mut k: usize = 0;
-    while k < n {
-        if is_within(s, k, bound) {
-            k += 1;
-        } else {
+    for k in 0..n {
+        if !is_within(s, k, bound) {
             return false;
         }
     }
@@ -139,7 +113,7 @@ fn all_within(s: &[i64], n: usize, bound: i64) -> bool
 
 // The first entry that sums of p columns cannot have, where there is one. Where each diagonal is above 0 no entry has to be 0, and the bounds
 // alone tell that all are sound, at a third of the work.
-pub fn first_unsound(s: &[i64], p: usize, bound: i64) -> Walked
+pub fn first_unsound(s: &[i64], p: usize, bound: i64) -> Option<usize>
     requires p_le_labels_most { (p ≤ labels_most) × (tri p ≤ length s.now) }
     requires pos_bound { pos 0 ≤ℤ bound }
     ensures { told_walked result ≡ columns_from (breaks bound s.now) 0 p }
@@ -147,7 +121,7 @@ pub fn first_unsound(s: &[i64], p: usize, bound: i64) -> Walked
     if all_seen(s, p) {
         let n = triangle(p);
         if all_within(s, n, bound) {
-            return Walked::Sound;
+            return None;
         }
     }
     walk(s, p, bound)
@@ -161,31 +135,19 @@ fn is_broken_side(s: &[i64], r: &[i64], i: usize, bound: i64) -> bool
     ensures { result ≡ breaks_side bound s.now r.now i }
 {
     let y = r[i];
-    if bound < y {
-        return true;
-    }
-    if y < 0 - bound {
-        return true;
-    }
-    if y == 0 {
-        return false;
-    }
-    let d = s[place(i, i)];
-    d == 0
+    is_past(y, bound) || y != 0 && s[place(i, i)] == 0
 }
 
 // The first right side that sums of p parameters cannot have, where there is one.
-pub fn first_broken_side(s: &[i64], r: &[i64], p: usize, bound: i64) -> Walked
+pub fn first_broken_side(s: &[i64], r: &[i64], p: usize, bound: i64) -> Option<usize>
     requires p_le_labels_most { (p ≤ labels_most) × (tri p ≤ length s.now) × (p ≤ length r.now) }
     requires pos_bound { pos 0 ≤ℤ bound }
     ensures { told_walked result ≡ first_from (breaks_side bound s.now r.now) 0 p }
 {
-    let mut i: usize = 0;
-    while i < p {
+    for i in 0..p {
         if is_broken_side(s, r, i, bound) {
-            return Walked::Unsound(i);
+            return Some(i);
         }
-        i += 1;
     }
-    Walked::Sound
+    None
 }

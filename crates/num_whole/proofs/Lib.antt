@@ -4,3 +4,5 @@ pub mod Walks
 pub mod Tables
 pub mod Adding
 pub mod Padded
+pub mod Alls
+pub mod Ascends

@@ -5,15 +5,16 @@ ghost use Rattle.std.specs.Prelude.{◌≡◌, min};
 ghost use Rattle.num_whole.specs.Tests.{between};
 
 // Whether low ≤ x ≤ high.
+#[tactic(auto, unfolding(crate::specs::Tests::between, crate::specs::Tests::both, crate::specs::Tests::up_to))]
 pub fn within(low: u64, x: u64, high: u64) -> bool
     ensures { result ≡ between low x high }
 {
-    if low <= x { x <= high } else { false }
+    low <= x && x <= high
 }
 
 // The least of two numbers.
 pub fn least(a: usize, b: usize) -> usize
     ensures { result ≡ min a b }
 {
-    if a < b { a } else { b }
+    a.min(b)
 }

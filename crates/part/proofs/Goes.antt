@@ -1,5 +1,6 @@
 -- A part that nothing but the file's form refuses: what it completes, takes and leaves.
 -- Assumes nothing.
+use Rattle.std.specs.Prelude.{Result, Ok, Err, IfOk}
 use Prim.Native.Nat.{ℕ, ◌+◌, ◌-◌, ◌*◌, ◌/◌, ◌≤◌, min}
 use mathlib.Core.Path.{◌≡◌, refl, sym, ap, ap₂, ◌∙◌, subst}
 use mathlib.Core.List.{List, ◌++◌}
@@ -14,16 +15,18 @@ use Rattle.num_whole.specs.Lists.{padded}
 use Rattle.num_whole.specs.Answer.{Judged, good, bad, given}
 use Rattle.num_whole.proofs.Cases.{yes, no, by_cases, is_same, same_true, both_second, less_true, less_false}
 use Rattle.num_whole.proofs.Padded.{length_padded}
-use Rattle.num_limits.specs.Capacities.{parameters_most, stations_most}
+use Rattle.num_limits.specs.Capacities.{parameters_most, records_most, stations_most}
 use Rattle.num_packed.specs.Triangle.{tri}
 use Rattle.refusal.proofs.Firsts.{first_none_left, first_pass, unless_true, number_given}
 use Rattle.byte_words.specs.Words.{lay}
 use Rattle.byte_section.proofs.Walk.{not_bad, by_judged, good_same}
-use Rattle.arc_kinds.specs.Kinds.{record_size}
 use Rattle.arc_heading.specs.Judge.{judged}
 use Rattle.arc_heading.specs.declared.Heading.{Heading}
 use Rattle.arc_heading.proofs.Sound.{sound}
+use Rattle.refusal.specs.Told.{told_placed}
+use Rattle.refusal.specs.declared.Fault.{Fault}
 use Rattle.arc_read.specs.Arc.{Arc}
+use Rattle.arc_read.specs.declared.ArcRead.{ArcRead}
 use Rattle.take_state.specs.State.{State, room_number, state_number}
 use Rattle.take_laws.specs.Machine.{run, answers}
 use Rattle.take_laws.specs.Taking.{frame_of, record_answer, record_step}
@@ -47,7 +50,7 @@ use Rattle.part.specs.Going.{grown}
 use Rattle.part.proofs.Stops.{Fine, fine, Outcome}
 
 -- ---- how many records are whole
-pub completed_is : (t n : ℕ) (b : List ℕ) → n ≡ length b → completed_by t n (opened b) ≡ length (done t b)
+completed_is : (t n : ℕ) (b : List ℕ) → n ≡ length b → completed_by t n (opened b) ≡ length (done t b)
 completed_is t n b e =
     by_judged (opened b)
     (λ a o. ap (completed_by t n) o ∙ ap (λ k. min (a.count - t) ((k - a.start) / size_of a)) e ∙ sym (done_number t b a o))
@@ -78,7 +81,7 @@ module _ (p : ByValue.Position) (l : List ℕ) (f : Front) (v : FrontOf p l f) w
   front_opens = ap opened front_is ∙ opened_front (k ++ l)
 
   -- and begins with what was kept
-  pub front_begins : beginning f.room f.held l ≡ k ++ l
+  pub front_begins : beginning f l ≡ k ++ l
   front_begins =
       let m = f.held in
       let head : take m f.room ≡ k =
@@ -88,8 +91,25 @@ module _ (p : ByValue.Position) (l : List ℕ) (f : Front) (v : FrontOf p l f) w
       ∙ take_at k l m (sym v.long) in
       ap (λ x. x ++ l) head
 
-  pub all_long : f.held + length l ≡ length (k ++ l)
+  all_long : f.held + length l ≡ length (k ++ l)
   all_long = ap (λ n. n + length l) v.long ∙ sym (length-append k l)
+
+  -- how many records it completes
+  pub completes : (o : Result ArcRead Fault) (n : ℕ) → told_placed o ≡ opened (take f.length f.room)
+      → n ≡ completed_by p.taken (f.held + length l) (told_placed o) → n ≡ length (done p.taken (k ++ l))
+  completes o n e is =
+      is ∙ ap (completed_by p.taken (f.held + length l)) (e ∙ front_opens) ∙ completed_is p.taken _ (k ++ l) all_long
+
+-- ---- what was opened is small
+pub few_read : (n : ℕ) (o : Result ArcRead Fault) → IfOk o (λ a. (a.heading.parameters ≤ parameters_most) × (a.start ≤ n) × (a.count ≤ records_most))
+    → IfOk o (λ a. a.heading.parameters ≤ parameters_most)
+few_read n (Ok a) h = h.0
+few_read n (Err x) h = tt
+
+pub fits_read : (n : ℕ) (o : Result ArcRead Fault) → IfOk o (λ a. (a.heading.parameters ≤ parameters_most) × (a.start ≤ n) × (a.count ≤ records_most))
+    → IfOk o (λ a. (a.heading.parameters ≤ parameters_most) × (a.count ≤ records_most))
+fits_read n (Ok a) h = (h.0, h.2)
+fits_read n (Err x) h = tt
 
 -- ---- sums that have room for what was opened
 room_none : (h : Heading) (m r : List ℤ) → judged h ≡ given tt → tri h.parameters ≤ length m → h.parameters ≤ length r → room_number h m r ≡ 0
@@ -166,7 +186,7 @@ module _ (p : ByValue.Position) (s : State) (l out : List ℕ) where
           (λ x. omega (arith, less_true _ _ x))
           (λ x. absurd (not_bad (sym (opened_of q.kept l a o (less_false _ _ x)) ∙ e))))
 
-      pub ready : (n : ℕ) (f : Front) → FrontOf p l f → n ≡ length (done t b) → Ready a.heading a.count a.start f.room f.held t n l
+      pub ready : (n : ℕ) (f : Front) → FrontOf p l f → n ≡ length (done t b) → Ready a f t n l
       ready n f w e =
           let is = front_begins p l f w in
           record {
@@ -180,7 +200,7 @@ module _ (p : ByValue.Position) (s : State) (l out : List ℕ) where
       pub start_low : a.start ≤ 956
       start_low = opened_start b a o
 
-      pub inside : (n : ℕ) (f : Front) → FrontOf p l f → n ≡ length (done t b) → a.start + n * record_size a.heading.parameters ≤ f.held + length l
+      pub inside : (n : ℕ) (f : Front) → FrontOf p l f → n ≡ length (done t b) → a.start + n * size_of a ≤ f.held + length l
       inside n f w e = omega (arith, done_within t b a o, all_long p l f w, ap (λ k. k * size_of a) e)
 
     -- ---- before that

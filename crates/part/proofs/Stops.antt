@@ -25,6 +25,7 @@ use Rattle.part_laws.specs.OneGo.{emptied}
 use Rattle.num_packed.specs.Room.{sums_roomy}
 use Rattle.part_laws.specs.Entries.{position_of, held_of, fair, sound_at, parameters_in, Told, stopped, begin_number, begin_state, part_number, part_position, part_state, part_answers, part_told, told_end, finish_number, finish_told, finish_position, heading_told, heading_given}
 use Rattle.part_laws.specs.declared.Position as ByValue
+use Rattle.part_laws.proofs.States.{parameters_most_lem}
 
 -- ---- the room, as the code asks for it
 pub room_asked : (k n : ℕ) (m r : List ℤ) → k ≡ n → n ≤ parameters_most
@@ -32,6 +33,10 @@ pub room_asked : (k n : ℕ) (m r : List ℤ) → k ≡ n → n ≤ parameters_m
 room_asked k n m r e h =
     let least : min k parameters_most ≡ n = omega arith in
     ap (λ i. sums_roomy i (length m) (length r)) least
+
+pub asked : (p : ByValue.Position) (m r : List ℤ) (k : ℕ) → k ≡ parameters_in (position_of p).kept
+    → sums_roomy (parameters_in (position_of p).kept) (length m) (length r) ≡ sums_roomy (min k parameters_most) (length m) (length r)
+asked p m r k e = sym (room_asked k _ m r e (parameters_most_lem (position_of p).kept))
 
 pub room_given : (n m r : ℕ) → sums_roomy n m r ≡ true → (tri n ≤ m) × (n ≤ r)
 unfolding sums_roomy

@@ -1,13 +1,13 @@
 // An arc file handed over in parts, cut anywhere: begin, a part, finish, and the heading of what was handed over so far.
 #![tactic(auto)]
 
-ghost use Rattle.std.specs.Prelude.{◌≡◌, ◌≤◌, length};
+ghost use Rattle.std.specs.Prelude.{◌≡◌, ◌≤◌, length, IfOk};
 ghost use Rattle.num_whole.specs.Tests.{both};
 ghost use Rattle.num_whole.specs.Answer.{bad};
 ghost use Rattle.num_packed.specs.Triangle.{tri};
-ghost use Rattle.refusal.specs.First.{answered};
+ghost use Rattle.refusal.specs.First.{answered, verdict_of};
 ghost use Rattle.refusal.specs.Number.{number_of};
-ghost use Rattle.refusal.specs.Told.{told_verdict};
+ghost use Rattle.refusal.specs.Told.{told};
 ghost use Rattle.arc_read.specs.Arc.{Arc};
 ghost use Rattle.take_state.specs.State.{state_of};
 ghost use Rattle.part_laws.specs.Feeding.{begun, so_far};
@@ -31,55 +31,49 @@ ghost use Rattle.part_laws.specs.Entries.{
   heading_told,
   heading_given,
 };
+ghost use Rattle.part.specs.Given.{tally_of, told_heading, heading_of};
 ghost use Rattle.part.specs.Going.{Going, grown};
 
 use arc_heading::Heading;
-use byte_section::ReadAnswer;
+use arc_read::ArcRead;
 use num_limits::PARAMETERS_MOST;
-use part_laws::{Finished, PartAnswer, Position};
-use part_open::Opening;
+use part_laws::{Finished, PartRefusal, Position};
 use part_place::Front;
-use refusal::{Refusal, Verdict};
+use refusal::{Fault, Refusal};
 use take_tally::Tally;
 
 // ---- begin
 
+// Where a file begins, and an empty state.
 #[derive(Clone, Copy)]
 pub struct Begun {
-    pub answer: Verdict,
     pub position: Position,
     pub tally: Tally,
 }
 
 // Where a file begins, with an empty state: 20 where the room for fifty parameters is short, else the sums are cleared.
-pub fn begin(matrix: &mut [i64], rights: &mut [i64]) -> Begun
-    ensures answer_value { told_verdict result.answer ≡ answered (begin_number matrix.old rights.old) tt }
-    ensures position { result.position ≡ held_of begun }
-    ensures state { state_of matrix.new rights.new result.tally ≡ begin_state matrix.old rights.old }
+pub fn begin(matrix: &mut [i64], rights: &mut [i64]) -> Result<Begun, Refusal>
+    ensures answer_value { verdict_of (told result) ≡ answered (begin_number matrix.old rights.old) tt }
+    ensures position { IfOk result (λ b. b.position ≡ held_of begun) }
+    ensures state { state_of matrix.new rights.new (tally_of result) ≡ begin_state matrix.old rights.old }
 {
-    if take_room::is_roomy(PARAMETERS_MOST, matrix, rights) {
-        let sums = num_packed::triangle(PARAMETERS_MOST);
-        take_room::clear(matrix, sums);
-        take_room::clear(rights, PARAMETERS_MOST);
-        Begun {
-            answer: Verdict::Sound,
-            position: part_place::begun(),
-            tally: take_tally::no_tally(),
-        }
-    } else {
-        Begun {
-            answer: Verdict::Refused(Refusal::Room),
-            position: part_place::begun(),
-            tally: take_tally::no_tally(),
-        }
+    if !take_room::is_roomy(PARAMETERS_MOST, matrix, rights) {
+        return Err(Refusal::Room);
     }
+    let sums = num_packed::triangle(PARAMETERS_MOST);
+    take_room::clear(matrix, sums);
+    take_room::clear(rights, PARAMETERS_MOST);
+    Ok(Begun {
+        position: part_place::begun(),
+        tally: take_tally::no_tally(),
+    })
 }
 
 // ---- a part
 
 #[derive(Clone, Copy)]
 pub struct Parted {
-    pub answer: PartAnswer,
+    pub answer: Result<usize, PartRefusal>,
     pub position: Position,
     pub tally: Tally,
 }
@@ -89,36 +83,32 @@ fn stopped(r: Refusal, p: Position, t: Tally) -> Parted
     ensures { (told_part result.answer ≡ stopped (number_of r)) × (result.position ≡ p) × (result.tally ≡ t) }
 {
     Parted {
-        answer: PartAnswer::Stopped(r),
+        answer: Err(PartRefusal::Stopped(r)),
         position: p,
         tally: t,
     }
 }
 
 // A part of a file that it does not open: what is kept grows, or a refusal in its form closes it.
-fn unopened(r: Refusal, place: usize, f: Front, taken: usize, t: Tally) -> Parted
-    ensures answer_value { told_part result.answer ≡ told_form (so_far {A = Arc} (bad (number_of r) place)) 0 taken }
-    ensures position { result.position ≡ grown (so_far {A = Arc} (bad (number_of r) place)) f taken }
-    ensures tally { result.tally ≡ t }
+fn unopened(fault: Fault, f: Front, taken: usize) -> Finished
+    ensures answer_value { told_part result.answer ≡ told_form (so_far {A = Arc} (bad (number_of fault.why) fault.place)) 0 taken }
+    ensures position { result.position ≡ grown (so_far {A = Arc} (bad (number_of fault.why) fault.place)) f taken }
 {
-    let kept = f.room;
-    let length = f.length;
-    if refusal::number(r) == 1 {
-        Parted {
-            answer: PartAnswer::Took(0),
+    if refusal::number(fault.why) == 1 {
+        let kept = f.room;
+        Finished {
+            answer: Ok(0),
             position: Position {
                 kept,
-                length,
+                length: f.length,
                 taken,
                 over: false,
             },
-            tally: t,
         }
     } else {
-        Parted {
-            answer: PartAnswer::Broken(r, place, taken),
+        Finished {
+            answer: Err(PartRefusal::Broken(fault, taken)),
             position: part_place::ended(taken),
-            tally: t,
         }
     }
 }
@@ -126,7 +116,7 @@ fn unopened(r: Refusal, place: usize, f: Front, taken: usize, t: Tally) -> Parte
 // A part that nothing but the file's form refuses.
 fn go_on(
     p: Position,
-    new: Opening,
+    new: Result<ArcRead, Fault>,
     f: Front,
     n: usize,
     t: Tally,
@@ -141,28 +131,24 @@ fn go_on(
     ensures state { state_of matrix.new rights.new result.tally ≡ part_state p (state_of matrix.old rights.old t) bytes.now (length answers.old) }
     ensures told { answers.new ≡ part_answers p (state_of matrix.old rights.old t) bytes.now answers.old }
 {
-    let answer = new.answer;
-    let taken = p.taken;
-    match answer {
-        ReadAnswer::Read => {
-            let h = new.heading;
-            let count = new.count;
-            let start = new.start;
-            let front = f.room;
-            let len = f.held;
-            let tally = part_take::take_done(
-                h, count, start, front, len, taken, n, t, matrix, rights, bytes, answers,
-            );
-            let m = part_take::moved_on(h, count, start, front, len, taken, n, bytes);
-            let said = m.answer;
-            let position = m.position;
+    match new {
+        Ok(a) => {
+            let tally = part_take::take_done(a, f, p.taken, n, t, matrix, rights, bytes, answers);
+            let Finished { answer, position } = part_take::moved_on(a, f, p.taken, n, bytes);
             Parted {
-                answer: said,
+                answer,
                 position,
                 tally,
             }
         }
-        ReadAnswer::Refused(r, place) => unopened(r, place, f, taken, t),
+        Err(fault) => {
+            let Finished { answer, position } = unopened(fault, f, p.taken);
+            Parted {
+                answer,
+                position,
+                tally: t,
+            }
+        }
     }
 }
 
@@ -172,11 +158,8 @@ fn is_given(p: Position, parameters: usize, t: Tally, matrix: &[i64], rights: &[
     ensures { result ≡ both (fair p) (sound_at (position_of p) (state_of matrix.now rights.now t)) }
 {
     let old = part_place::open_at(p);
-    if part_place::is_fair(p, old) {
-        part_place::is_sound_at(old, parameters, p.taken, t, matrix, rights)
-    } else {
-        false
-    }
+    part_place::is_fair(p, old)
+        && part_place::is_sound_at(old, parameters, p.taken, t, matrix, rights)
 }
 
 // A part handed over: 28, 20, 6, a refusal in the file's form, or the records that it completes are taken.
@@ -197,21 +180,19 @@ pub fn part(
         return stopped(Refusal::Closed, p, t);
     }
     let parameters = part_place::parameters_at(p);
-    if take_room::is_roomy(parameters, matrix, rights) {
-        let f = part_place::front_of(p, bytes);
-        let room = f.room;
-        let most = f.length;
-        let new = part_open::open(&room[..most]);
-        let n = part_place::completed(new, p.taken, f.held + bytes.len());
-        if n <= answers.len() {
-            if is_given(p, parameters, t, matrix, rights) {
-                return go_on(p, new, f, n, t, matrix, rights, bytes, answers);
-            }
-            return stopped(Refusal::Unsound, p, t);
-        }
+    if !take_room::is_roomy(parameters, matrix, rights) {
         return stopped(Refusal::Room, p, t);
     }
-    stopped(Refusal::Room, p, t)
+    let f = part_place::front_of(p, bytes);
+    let new = part_open::open(&f.room[..f.length]);
+    let n = part_place::completed(new, p.taken, f.held + bytes.len());
+    if answers.len() < n {
+        return stopped(Refusal::Room, p, t);
+    }
+    if !is_given(p, parameters, t, matrix, rights) {
+        return stopped(Refusal::Unsound, p, t);
+    }
+    go_on(p, new, f, n, t, matrix, rights, bytes, answers)
 }
 
 // ---- finish
@@ -223,52 +204,33 @@ pub fn finish(p: Position) -> Finished
 {
     if p.over {
         return Finished {
-            answer: PartAnswer::Stopped(Refusal::Closed),
+            answer: Err(PartRefusal::Stopped(Refusal::Closed)),
             position: p,
         };
     }
     let old = part_place::open_at(p);
-    if part_place::is_fair(p, old) {
-        part_place::end_of(p, old)
-    } else {
-        Finished {
-            answer: PartAnswer::Stopped(Refusal::Unsound),
+    if !part_place::is_fair(p, old) {
+        return Finished {
+            answer: Err(PartRefusal::Stopped(Refusal::Unsound)),
             position: p,
-        }
+        };
     }
+    part_place::end_of(p, old)
 }
 
 // ---- the heading
 
-#[derive(Clone, Copy)]
-pub struct Headed {
-    pub answer: PartAnswer,
-    pub heading: Heading,
-}
-
 // The heading of what was handed over: 6, or 1 where it is not complete yet.
-pub fn heading(p: Position) -> Headed
-    ensures answer_value { told_part result.answer ≡ heading_told p }
-    ensures heading { result.heading ≡ heading_given p }
+pub fn heading(p: Position) -> Result<Heading, PartRefusal>
+    ensures answer_value { told_heading result ≡ heading_told p }
+    ensures heading { heading_of result ≡ heading_given p }
 {
     let old = part_place::open_at(p);
-    if part_place::is_fair(p, old) {
-        let answer = old.answer;
-        let heading = old.heading;
-        match answer {
-            ReadAnswer::Read => Headed {
-                answer: PartAnswer::Took(0),
-                heading,
-            },
-            ReadAnswer::Refused(r, place) => Headed {
-                answer: PartAnswer::Broken(r, place, p.taken),
-                heading: arc_front::blank(),
-            },
-        }
-    } else {
-        Headed {
-            answer: PartAnswer::Stopped(Refusal::Unsound),
-            heading: arc_front::blank(),
-        }
+    if !part_place::is_fair(p, old) {
+        return Err(PartRefusal::Stopped(Refusal::Unsound));
+    }
+    match old {
+        Ok(a) => Ok(a.heading),
+        Err(fault) => Err(PartRefusal::Broken(fault, p.taken)),
     }
 }

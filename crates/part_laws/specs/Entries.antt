@@ -1,5 +1,5 @@
 -- Document 02, #102, the entries: the position by value, what they refuse besides the file's form (28, 20, 6), and what they give and leave.
-use Rattle.std.specs.Prelude.{ℕ, ◌+◌, List, [], ◌∷◌, ◌++◌, Bool, ℤ, length, take}
+use Rattle.std.specs.Prelude.{ℕ, ◌+◌, List, [], ◌∷◌, ◌++◌, Bool, ℤ, length, take, Result, Ok, Err}
 use Rattle.num_whole.specs.Tests.{less, up_to, same, pick, both}
 use Rattle.num_limits.specs.Capacities.{parameters_most, records_most}
 use Rattle.num_whole.specs.Lists.{all, rest, padded}
@@ -19,8 +19,8 @@ use Rattle.part_laws.specs.Beginning.{opened, size_of, done, opened_heading}
 use Rattle.part_laws.specs.Feeding.{Position, feed, finish, closing}
 use Rattle.part_laws.specs.OneGo.{emptied}
 use Rattle.part_laws.specs.declared.Position as ByValue
-use Rattle.part_laws.specs.declared.PartAnswer.{PartAnswer}
-use Rattle.part_laws.specs.declared.PartAnswer.TheVariants as Answers
+use Rattle.part_laws.specs.declared.PartRefusal.{PartRefusal}
+use Rattle.part_laws.specs.declared.PartRefusal.TheVariants.{Stopped, Broken}
 
 -- ---- the position by value
 -- a heading with its counts has no more bytes: 4 and 12 of settings, 4 and 50·16 of parameters, 4 and 16·8 of stations, 4 of records
@@ -96,10 +96,10 @@ pub data Told : Type 0 where
   stopped : ℕ → Told
   broken : ℕ → ℕ → ℕ → Told
 
-abbrev pub told_part : PartAnswer → Told
-told_part (Answers.Took n) = took n
-told_part (Answers.Stopped r) = stopped (number_of r)
-told_part (Answers.Broken r place n) = broken (number_of r) place n
+abbrev pub told_part : Result ℕ PartRefusal → Told
+told_part (Ok n) = took n
+told_part (Err (Stopped r)) = stopped (number_of r)
+told_part (Err (Broken f n)) = broken (number_of f.why) f.place n
 
 -- ---- begin: "Begin clears room for fifty parameters, since P is not known yet"
 unfoldable pub begin_number : List ℤ → List ℤ → ℕ

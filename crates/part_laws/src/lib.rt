@@ -3,7 +3,7 @@
 #![tactic(auto)]
 
 use num_limits::{PARAMETERS_MOST, PARTIAL_SIZE, RECORD_FIXED};
-use refusal::Refusal;
+use refusal::{Fault, Refusal};
 
 // The bytes of a heading with its counts, at most: 4 and 12 of settings, 4 and 50·16 of parameters, 4 and 16·8 of stations, 4 of records.
 pub const OPENED_MOST: usize = 956;
@@ -24,17 +24,16 @@ pub struct Position {
     pub over: bool,
 }
 
-// The number of records that a part completed; 28, 20 or 6; or a refusal in the file's form, its place, and the number of all records taken.
+// 28, 20 or 6, which change nothing; or a refusal in the file's form, with the number of all records taken.
 #[derive(Clone, Copy)]
-pub enum PartAnswer {
-    Took(usize),
+pub enum PartRefusal {
     Stopped(Refusal),
-    Broken(Refusal, usize, usize),
+    Broken(Fault, usize),
 }
 
-// What finish answers, and where it leads.
+// What finish answers, and where it leads: the number of records that a part completed, or a refusal.
 #[derive(Clone, Copy)]
 pub struct Finished {
-    pub answer: PartAnswer,
+    pub answer: Result<usize, PartRefusal>,
     pub position: Position,
 }

@@ -41,8 +41,11 @@ module _ (p : ByValue.Position) (room : length p.kept ≡ position_most) (ok : f
   reading = read_at p.taken (position_of p).kept
 
   module _ (a : Arc) (e : opened (position_of p).kept ≡ good a) where
-    pub few : p.taken ≤ a.count
+    few : p.taken ≤ a.count
     few = (placed_amid (position_of p) a there e).few
+
+    pub taken_small : a.count ≤ records_most → a.heading.parameters ≤ parameters_most → p.taken * size_of a ≤ 8650620
+    taken_small h k = small p.taken a.heading.parameters (omega (arith, few)) k
 
     read_is : reading ≡ closed_at a (p.length + p.taken * size_of a)
     read_is = read_good p.taken (position_of p).kept a e ∙ ap (λ n. closed_at a (n + p.taken * size_of a)) long

@@ -1,5 +1,6 @@
 -- What is read off a position by value: the bytes that count, and the front of them with a part.
 -- Assumes nothing.
+use Rattle.std.specs.Prelude.{Result, Ok, Err, IfOk}
 use Prim.Native.Nat.{ℕ, ◌+◌, ◌-◌, ◌≤◌, min}
 use mathlib.Core.Path.{◌≡◌, refl, sym, ap, ap₂, ◌∙◌}
 use mathlib.Core.List.{List, ◌++◌, append_assoc}
@@ -11,14 +12,16 @@ use Rattle.num_whole.specs.Tests.{less}
 use Rattle.num_whole.specs.Lists.{padded}
 use Rattle.num_whole.proofs.Cases.{by_cases, yes, no, holds, fails, less_true, less_false}
 use Rattle.num_whole.proofs.Padded.{put_padded}
+use Rattle.num_limits.specs.Capacities.{parameters_most, records_most}
 use Rattle.byte_words.specs.Words.{lay}
 use Rattle.byte_words.proofs.Words.{lay_append}
 use Rattle.part_laws.specs.Entries.{position_most, placed_by, ends_by, placed, ends, led, tidy, fair}
 use Rattle.part_laws.specs.declared.Position as ByValue
 use Rattle.part_laws.proofs.ByValue.{tidy_long}
-use Rattle.part_open.specs.Told.{told_opening}
+use Rattle.refusal.specs.Told.{told_placed}
+use Rattle.refusal.specs.declared.Fault.{Fault}
+use Rattle.arc_read.specs.declared.ArcRead.{ArcRead}
 use Rattle.part_place.specs.Looks.{OpensAt}
-use Rattle.part_open.specs.declared.Opening.{Opening}
 
 -- a length past a room is as all of it
 pub least_take : (n m : ℕ) (l : List ℕ) → length l ≡ m → take (min n m) l ≡ take n l
@@ -27,6 +30,13 @@ least_take n m l e =
     (λ f. let h : min n m ≡ n = omega (arith, less_true _ _ f) in rw h)
     (λ f. let h : min n m ≡ m = omega (arith, less_false _ _ f) in
     rw h (take_all m l (omega arith) ∙ sym (take_all n l (omega (arith, less_false _ _ f)))))
+
+-- what is opened of few bytes
+pub opens_within : (o : Result ArcRead Fault) (n : ℕ) → n ≤ position_most
+    → IfOk o (λ a. (a.heading.parameters ≤ parameters_most) × (a.start ≤ n) × (a.count ≤ records_most))
+    → IfOk o (λ a. (a.heading.parameters ≤ parameters_most) × (a.start ≤ position_most) × (a.count ≤ records_most))
+opens_within (Ok a) n h f = (f.0, omega arith, f.2)
+opens_within (Err x) n h f = tt
 
 -- ---- bytes put one after another into zeros
 pub kept_so : (n : ℕ) (a xs ys : List ℕ) → length xs + length ys ≤ n → a ≡ lay (lay (replicate n 0) 0 xs) (length xs) ys → a ≡ padded n 0 (xs ++ ys)
@@ -49,13 +59,13 @@ front_cut x bytes m n fits is =
     ap (take m) apart ∙ take_at (x ++ take n bytes) (drop n bytes) m (both_long ∙ full)))
 
 -- ---- whether the entries give it
-module _ (p : ByValue.Position) (o : Opening) (room : length p.kept ≡ position_most) (v : OpensAt p o) {x : Bool} where
-  pub fair_over : tidy p ≡ true → p.over ≡ true → x ≡ ends_by p.length p.taken (told_opening o) → x ≡ fair p
+module _ (p : ByValue.Position) (o : Result ArcRead Fault) (room : length p.kept ≡ position_most) (v : OpensAt p o) {x : Bool} where
+  pub fair_over : tidy p ≡ true → p.over ≡ true → x ≡ ends_by p.length p.taken (told_placed o) → x ≡ fair p
   unfolding fair led ends
   fair_over t f e =
       e ∙ ap₂ (λ n j. ends_by n p.taken j) (sym (tidy_long p room t)) v.told ∙ holds _ _ t (yes _ _ _ f refl)
 
-  pub fair_on : tidy p ≡ true → p.over ≡ false → x ≡ placed_by p.length p.taken (told_opening o) → x ≡ fair p
+  pub fair_on : tidy p ≡ true → p.over ≡ false → x ≡ placed_by p.length p.taken (told_placed o) → x ≡ fair p
   unfolding fair led placed
   fair_on t f e =
       e ∙ ap₂ (λ n j. placed_by n p.taken j) (sym (tidy_long p room t)) v.told ∙ holds _ _ t (no _ _ _ f refl)

@@ -1,26 +1,23 @@
 // A position in an arc file that is handed over in parts: made, put together with a part, and judged with the state at it.
 #![tactic(auto)]
 
-ghost use Rattle.std.specs.Prelude.{◌≡◌, true, false, ◌++◌, ◌+◌, ◌≤◌, length};
+ghost use Rattle.std.specs.Prelude.{◌≡◌, true, false, ◌++◌, ◌+◌, ◌≤◌, length, IfOk};
 ghost use Rattle.num_whole.specs.Tests.{less, pick, both, same};
 ghost use Rattle.num_whole.specs.Lists.{padded};
 ghost use Rattle.num_limits.specs.Capacities.{parameters_most};
 ghost use Rattle.num_packed.specs.Triangle.{tri};
 ghost use Rattle.refusal.specs.Number.{number_of};
+ghost use Rattle.refusal.specs.Told.{told_placed};
 ghost use Rattle.take_state.specs.State.{state_of, sums_sound, sound_state};
 ghost use Rattle.part_laws.specs.Beginning.{read_at};
 ghost use Rattle.part_laws.specs.Feeding.{ended, begun, closing};
 ghost use Rattle.part_laws.specs.Entries.{record_size_most, position_most, position_of, held_of, tidy, fair, parameters_in, placed_by, ends_by, sound_by, told_part, told_end};
-ghost use Rattle.part_open.specs.Told.{told_opening};
 ghost use Rattle.part_place.specs.Looks.{completed_by, OpensAt, FrontOf, RoomAt};
 
-use arc_kinds::SettingsAnswer;
-use byte_section::{CountAnswer, ReadAnswer};
+use arc_read::ArcRead;
 use num_limits::{PARAMETERS_MOST, PARAMETERS_U32, PARTIAL_SIZE, RECORD_FIXED, RECORDS_MOST};
-use num_packed::Walked;
-use part_laws::{Finished, POSITION_MOST, PartAnswer, Position};
-use part_open::Opening;
-use refusal::{Refusal, Verdict};
+use part_laws::{Finished, POSITION_MOST, PartRefusal, Position};
+use refusal::{Fault, Refusal};
 use take_tally::Tally;
 
 // ---- positions
@@ -61,7 +58,7 @@ pub fn keep(first: &[u8], others: &[u8]) -> [u8; POSITION_MOST]
 }
 
 // What opens the file, by a position's bytes.
-pub fn open_at(p: Position) -> Opening
+pub fn open_at(p: Position) -> Result<ArcRead, Fault>
     ensures { OpensAt p result }
 {
     let kept = p.kept;
@@ -97,12 +94,10 @@ pub fn front_of(p: Position, bytes: &[u8]) -> Front
 fn parameters_in(s: &[u8]) -> usize
     ensures { result ≡ parameters_in s.now }
 {
-    match arc_kinds::read_settings(s) {
-        SettingsAnswer::Got(_) => match byte_section::read_count(s, 16, 1, PARAMETERS_U32) {
-            CountAnswer::Is(n) => n,
-            CountAnswer::Refused(_, _) => PARAMETERS_MOST,
-        },
-        SettingsAnswer::Refused(_, _) => PARAMETERS_MOST,
+    if arc_kinds::read_settings(s).is_ok() {
+        byte_section::read_count(s, 16, 1, PARAMETERS_U32).unwrap_or(PARAMETERS_MOST)
+    } else {
+        PARAMETERS_MOST
     }
 }
 
@@ -115,20 +110,19 @@ pub fn parameters_at(p: Position) -> usize
 }
 
 // How many records are whole in `long` bytes of a file that opens so.
-pub fn completed(new: Opening, taken: usize, long: usize) -> usize
-    requires { new.heading.parameters ≤ parameters_most }
-    ensures { result ≡ completed_by taken long (told_opening new) }
+pub fn completed(new: Result<ArcRead, Fault>, taken: usize, long: usize) -> usize
+    requires { IfOk new (λ a. a.heading.parameters ≤ parameters_most) }
+    ensures { result ≡ completed_by taken long (told_placed new) }
 {
-    let answer = new.answer;
-    let count = new.count;
-    let start = new.start;
-    let size = RECORD_FIXED + PARTIAL_SIZE * new.heading.parameters;
-    match answer {
-        ReadAnswer::Read => num_whole::least(
-            byte_words::left(count, taken),
-            byte_words::left(long, start) / size,
-        ),
-        ReadAnswer::Refused(_, _) => 0,
+    match new {
+        Ok(a) => {
+            let size = RECORD_FIXED + PARTIAL_SIZE * a.heading.parameters;
+            num_whole::least(
+                byte_words::left(a.count, taken),
+                byte_words::left(long, a.start) / size,
+            )
+        }
+        Err(_) => 0,
     }
 }
 
@@ -138,18 +132,7 @@ pub fn completed(new: Opening, taken: usize, long: usize) -> usize
 fn is_tidy(p: Position) -> bool
     ensures { result ≡ tidy p }
 {
-    if p.length <= POSITION_MOST {
-        let mut i = p.length;
-        while i < POSITION_MOST {
-            if p.kept[i] == 0 {
-                i += 1;
-            } else {
-                return false;
-            }
-        }
-        return true;
-    }
-    false
+    p.length <= POSITION_MOST && p.kept[p.length..POSITION_MOST].iter().all(|b| *b == 0)
 }
 
 // The length that a position's bytes stay below, counted from the first record.
@@ -163,72 +146,45 @@ fn limit(taken: usize, count: usize, size: usize) -> usize
 fn first_only(r: Refusal, taken: usize) -> bool
     ensures { result ≡ both (same (number_of r) 1) (same taken 0) }
 {
-    if refusal::number(r) == 1 {
-        taken == 0
-    } else {
-        false
-    }
+    refusal::number(r) == 1 && taken == 0
 }
 
 // Whether the entries give so many bytes and records taken, while the file is not over.
-fn is_placed(old: Opening, length: usize, taken: usize) -> bool
-    requires { (old.heading.parameters ≤ parameters_most) × (old.start ≤ position_most) }
-    ensures { result ≡ placed_by length taken (told_opening old) }
+fn is_placed(old: Result<ArcRead, Fault>, length: usize, taken: usize) -> bool
+    requires { IfOk old (λ a. (a.heading.parameters ≤ parameters_most) × (a.start ≤ position_most)) }
+    ensures { result ≡ placed_by length taken (told_placed old) }
 {
-    let answer = old.answer;
-    let count = old.count;
-    let start = old.start;
-    let size = RECORD_FIXED + PARTIAL_SIZE * old.heading.parameters;
-    match answer {
-        ReadAnswer::Read => {
-            if taken <= count {
-                length < start + limit(taken, count, size)
-            } else {
-                false
-            }
+    match old {
+        Ok(a) => {
+            let size = RECORD_FIXED + PARTIAL_SIZE * a.heading.parameters;
+            taken <= a.count && length < a.start + limit(taken, a.count, size)
         }
-        ReadAnswer::Refused(r, _) => first_only(r, taken),
+        Err(fault) => first_only(fault.why, taken),
     }
 }
 
 // Whether they do where it is over.
-fn is_ended(old: Opening, length: usize, taken: usize) -> bool
-    ensures { result ≡ ends_by length taken (told_opening old) }
+fn is_ended(old: Result<ArcRead, Fault>, length: usize, taken: usize) -> bool
+    ensures { result ≡ ends_by length taken (told_placed old) }
 {
-    let answer = old.answer;
-    let count = old.count;
-    let start = old.start;
-    match answer {
-        ReadAnswer::Read => {
-            if length == start {
-                taken == count
-            } else {
-                false
-            }
-        }
-        ReadAnswer::Refused(_, _) => {
-            if length == 0 {
-                taken <= RECORDS_MOST
-            } else {
-                false
-            }
-        }
+    match old {
+        Ok(a) => length == a.start && taken == a.count,
+        Err(_) => length == 0 && taken <= RECORDS_MOST,
     }
 }
 
 // Whether a position is one that the entries give.
-pub fn is_fair(p: Position, old: Opening) -> bool
+pub fn is_fair(p: Position, old: Result<ArcRead, Fault>) -> bool
     requires { OpensAt p old }
     ensures { result ≡ fair p }
 {
-    if is_tidy(p) {
-        if p.over {
-            is_ended(old, p.length, p.taken)
-        } else {
-            is_placed(old, p.length, p.taken)
-        }
+    if !is_tidy(p) {
+        return false;
+    }
+    if p.over {
+        is_ended(old, p.length, p.taken)
     } else {
-        false
+        is_placed(old, p.length, p.taken)
     }
 }
 
@@ -237,17 +193,11 @@ fn sums_empty(parameters: usize, t: Tally, matrix: &[i64], rights: &[i64]) -> bo
     requires { (parameters ≤ parameters_most) × (tri parameters ≤ length matrix.now) × (parameters ≤ length rights.now) }
     ensures { result ≡ sums_sound 0 parameters (state_of matrix.now rights.now t) }
 {
-    if take_tally::tally_sound(0, t) {
-        match num_packed::first_unsound(matrix, parameters, 0) {
-            Walked::Sound => match num_packed::first_broken_side(matrix, rights, parameters, 0) {
-                Walked::Sound => true,
-                Walked::Unsound(_) => false,
-            },
-            Walked::Unsound(_) => false,
-        }
-    } else {
-        false
+    if !take_tally::tally_sound(0, t) {
+        return false;
     }
+    num_packed::first_unsound(matrix, parameters, 0).is_none()
+        && num_packed::first_broken_side(matrix, rights, parameters, 0).is_none()
 }
 
 // Whether a state holds nothing, for so many parameters.
@@ -255,16 +205,12 @@ fn is_empty(parameters: usize, t: Tally, matrix: &[i64], rights: &[i64]) -> bool
     requires { (parameters ≤ parameters_most) × (tri parameters ≤ length matrix.now) × (parameters ≤ length rights.now) }
     ensures { result ≡ sound_state 0 parameters (state_of matrix.now rights.now t) }
 {
-    if sums_empty(parameters, t, matrix, rights) {
-        take_tally::marks_sound(parameters, t, matrix)
-    } else {
-        false
-    }
+    sums_empty(parameters, t, matrix, rights) && take_tally::marks_sound(parameters, t, matrix)
 }
 
 // Whether a state is one that the entries give at a position.
 pub fn is_sound_at(
-    old: Opening,
+    old: Result<ArcRead, Fault>,
     parameters: usize,
     taken: usize,
     t: Tally,
@@ -272,57 +218,49 @@ pub fn is_sound_at(
     rights: &[i64],
 ) -> bool
     requires parameters_le_parameters_most { (parameters ≤ parameters_most) × (tri parameters ≤ length matrix.now) × (parameters ≤ length rights.now) }
-    requires room_at { RoomAt (told_opening old) matrix.now rights.now }
-    ensures { result ≡ sound_by parameters taken (state_of matrix.now rights.now t) (told_opening old) }
+    requires room_at { RoomAt (told_placed old) matrix.now rights.now }
+    ensures { result ≡ sound_by parameters taken (state_of matrix.now rights.now t) (told_placed old) }
 {
-    let answer = old.answer;
-    let h = old.heading;
-    match answer {
-        ReadAnswer::Read => match take_state::judge_state(h, t, matrix, rights) {
-            Verdict::Sound => {
-                let counts = t.counts;
-                take_counts::accepted(counts) <= taken as u64
-            }
-            Verdict::Refused(_) => false,
-        },
-        ReadAnswer::Refused(_, _) => is_empty(parameters, t, matrix, rights),
+    match old {
+        Ok(a) => take_state::judge_state(a.heading, t, matrix, rights).is_ok()
+            && take_counts::accepted(t.counts) <= taken as u64,
+        Err(_) => is_empty(parameters, t, matrix, rights),
     }
 }
 
 // ---- the end
 
 // What is answered where the file is over, and where that leads: 1 where something is missing, else its heading is kept.
-pub fn end_of(p: Position, old: Opening) -> Finished
+pub fn end_of(p: Position, old: Result<ArcRead, Fault>) -> Finished
     requires { OpensAt p old × (fair p ≡ true) × (p.over ≡ false) }
     ensures answer_value { told_part result.answer ≡ told_end (read_at p.taken (position_of p).kept) p.taken }
     ensures position { result.position ≡ held_of (closing (read_at p.taken (position_of p).kept) (position_of p)) }
 {
-    let answer = old.answer;
-    let count = old.count;
-    let start = old.start;
-    let length = p.length;
-    let taken = p.taken;
-    let size = RECORD_FIXED + PARTIAL_SIZE * old.heading.parameters;
-    match answer {
-        ReadAnswer::Read => {
-            let total = length + taken * size;
-            if total < start + count * size {
+    match old {
+        Ok(a) => {
+            let size = RECORD_FIXED + PARTIAL_SIZE * a.heading.parameters;
+            let total = p.length + p.taken * size;
+            if total < a.start + a.count * size {
                 Finished {
-                    answer: PartAnswer::Broken(Refusal::Short, total, taken),
-                    position: ended(taken),
+                    answer: Err(PartRefusal::Broken(
+                        Fault {
+                            why: Refusal::Short,
+                            place: total,
+                        },
+                        p.taken,
+                    )),
+                    position: ended(p.taken),
                 }
             } else {
-                let mut q = p;
-                q.over = true;
                 Finished {
-                    answer: PartAnswer::Took(0),
-                    position: q,
+                    answer: Ok(0),
+                    position: Position { over: true, ..p },
                 }
             }
         }
-        ReadAnswer::Refused(r, place) => Finished {
-            answer: PartAnswer::Broken(r, place, taken),
-            position: ended(taken),
+        Err(fault) => Finished {
+            answer: Err(PartRefusal::Broken(fault, p.taken)),
+            position: ended(p.taken),
         },
     }
 }

@@ -7,12 +7,14 @@ use native.Mathlib.Omega.{arith}
 use native.Mathlib.Nat.{suc-mul}
 use lib.ListN.{length, take, drop, replicate, length-append, length-take}
 use lib.Seq.{length-take-le, drop-drop, drop-append-add, take-take, take_at}
-use Rattle.arc_kinds.specs.Kinds.{record_size}
-use Rattle.arc_heading.specs.declared.Heading.{Heading}
 use Rattle.arc_read.specs.Arc.{Arc}
+use Rattle.take_state.specs.State.{State, state_number}
 use Rattle.take_laws.specs.Taking.{cut}
-use Rattle.part_laws.specs.Beginning.{done}
+use Rattle.arc_heading.proofs.Sound.{sound}
+use Rattle.take_laws.proofs.Guarded.{whole}
+use Rattle.part_laws.specs.Beginning.{size_of, done}
 use Rattle.part_laws.proofs.Front.{opened_start, done_within, done_cut, cut_take, drop_take_le}
+use Rattle.part_place.specs.declared.Front.{Front}
 use Rattle.part_take.specs.Ready.{beginning, Ready}
 
 nothing : {A : Type 0} (l : List A) → length l ≡ 0 → l ≡ []
@@ -26,15 +28,21 @@ front_part i k m l h =
     let less : k ≤ j = omega arith in
     ap (λ x. take k (drop i (take x l))) all ∙ ap (take k) (drop_take_le i j l) ∙ take-take k j (drop i l) less
 
-module _ (h : Heading) (count start : ℕ) (front : List ℕ) (len taken n : ℕ) (bytes : List ℕ) (r : Ready h count start front len taken n bytes) (room : length front ≡ 1088) where
+module _ (a : Arc) (f : Front) (taken n : ℕ) (bytes : List ℕ) (r : Ready a f taken n bytes) (room : length f.room ≡ 1088) where
+  abbrev start : ℕ
+  start = a.start
+
+  abbrev front : List ℕ
+  front = f.room
+
+  abbrev len : ℕ
+  len = f.held
+
   abbrev size : ℕ
-  size = record_size h.parameters
+  size = size_of a
 
   abbrev b : List ℕ
-  b = beginning front len bytes
-
-  abbrev a : Arc
-  a = record { heading = h; count = count; start = start }
+  b = beginning f bytes
 
   pub low : start ≤ 956
   low = opened_start b a r.opens
@@ -56,7 +64,7 @@ module _ (h : Heading) (count start : ℕ) (front : List ℕ) (len taken n : ℕ
   pub none_done : n ≡ 0 → [] ≡ done taken b
   none_done z = sym (nothing (done taken b) (omega (arith, r.number)))
 
-  pub some_done : (k : ℕ) → n ≡ suc k → h.parameters ≤ 50
+  pub some_done : (k : ℕ) → n ≡ suc k → a.heading.parameters ≤ 50
       → take size (drop start front) ∷ cut size k (take (k * size) (drop (start + size - len) bytes)) ≡ done taken b
   unfolding cut
   some_done k e few =
@@ -74,5 +82,10 @@ module _ (h : Heading) (count start : ℕ) (front : List ℕ) (len taken n : ℕ
       ap₂ (λ x y. x ∷ y) first (cut_take size k (drop (start + size - len) bytes) ∙ ap (cut size k) others)
       ∙ sym (done_cut taken b a r.opens ∙ ap (λ j. cut size j (drop start b)) (sym r.number ∙ e))
 
-  pub inside_others : (k : ℕ) → n ≡ suc k → start + (k * size + size) ≤ len + length bytes
+  inside_others : (k : ℕ) → n ≡ suc k → start + (k * size + size) ≤ len + length bytes
   inside_others k e = omega (arith, inside, ap (λ m. m * size) e, suc-mul k size)
+
+  -- so the numbers of the code fit
+  pub numbers : (s : State) → state_number a.heading s ≡ 0 → (n ≡ 0 → ⊥)
+      → (a.heading.parameters ≤ 50) × (start ≤ 956) × (start + ((n - 1) * size + size) ≤ len + length bytes)
+  numbers s e some = ((sound a.heading (whole a.heading s e).heading).few, low, inside_others (n - 1) (omega arith))

@@ -13,9 +13,8 @@ use Rattle.num_whole.specs.Answer.{Judged, good, bad}
 use Rattle.num_whole.specs.Lists.{padded}
 use Rattle.num_whole.proofs.Cases.{yes, no, by_cases, is_less, not_less, not_same, less_true, less_false}
 use Rattle.arc_kinds.specs.Kinds.{record_size}
-use Rattle.arc_heading.specs.declared.Heading.{Heading}
 use Rattle.arc_read.specs.Arc.{Arc}
-use Rattle.part_laws.specs.Beginning.{ends_at, closed_at, whole, behind, left, read_at}
+use Rattle.part_laws.specs.Beginning.{size_of, ends_at, closed_at, whole, behind, left, read_at}
 use Rattle.part_laws.specs.Feeding.{ended, so_far, moved}
 use Rattle.part_laws.specs.Entries.{position_most, held_of, took, broken, told_form}
 use Rattle.part_laws.proofs.Runs.{whole_long}
@@ -23,20 +22,30 @@ use Rattle.part_laws.proofs.Cuts.{left_good, read_good}
 use Rattle.part_laws.proofs.Six.{whole_few, behind_few, so_far_within}
 use Rattle.part_laws.proofs.Opened.{opened_within}
 use Rattle.part_laws.proofs.Front.{opened_start, left_cut}
+use Rattle.part_place.specs.declared.Front.{Front}
 use Rattle.part_take.specs.Ready.{beginning, Ready}
 use Rattle.part_take.proofs.Dones.{front_first}
 
-module _ (h : Heading) (count start : ℕ) (front : List ℕ) (len taken n : ℕ) (bytes : List ℕ) (r : Ready h count start front len taken n bytes) (room : length front ≡ 1088)
-    (few : h.parameters ≤ 50) (fewer : taken ≤ count)
+module _ (a : Arc) (f : Front) (taken n : ℕ) (bytes : List ℕ) (r : Ready a f taken n bytes) (room : length f.room ≡ 1088)
+    (few : a.heading.parameters ≤ 50) (fewer : taken ≤ a.count)
   where
+    abbrev count : ℕ
+    count = a.count
+
+    abbrev start : ℕ
+    start = a.start
+
+    abbrev front : List ℕ
+    front = f.room
+
+    abbrev len : ℕ
+    len = f.held
+
     abbrev size : ℕ
-    size = record_size h.parameters
+    size = size_of a
 
     abbrev b : List ℕ
-    b = beginning front len bytes
-
-    abbrev a : Arc
-    a = record { heading = h; count = count; start = start }
+    b = beginning f bytes
 
     abbrev verdict : Judged (Unit {0})
     verdict = so_far (read_at taken b)
@@ -132,7 +141,7 @@ module _ (h : Heading) (count start : ℕ) (front : List ℕ) (len taken n : ℕ
             let m = min 1088 (len + length bytes) in
             let head : take start front ≡ take start b =
             sym (take-take start m front (omega (arith, low, within, long)))
-            ∙ ap (take start) (front_first h count start front len taken n bytes r room)
+            ∙ ap (take start) (front_first a f taken n bytes r room)
             ∙ take-take start 1088 b (omega (arith, low)) in
             let is : take start front ++ rest ≡ left taken b = ap₂ (λ x y. x ++ y) head rest_is ∙ sym left_is in
             let size_is : start + length rest ≡ length (left taken b) =

@@ -3,18 +3,18 @@
 use Rattle.std.specs.Prelude.{ℕ, ◌+◌, ◌≤◌, ◌≡◌, List, ◌++◌, length, take}
 use Rattle.num_whole.specs.Answer.{good}
 use Rattle.num_whole.specs.Lists.{padded}
-use Rattle.arc_kinds.specs.Kinds.{record_size}
-use Rattle.arc_heading.specs.declared.Heading.{Heading}
-use Rattle.part_laws.specs.Beginning.{opened, done}
+use Rattle.arc_read.specs.Arc.{Arc}
+use Rattle.part_laws.specs.Beginning.{opened, done, size_of}
 use Rattle.part_laws.specs.Entries.{position_most}
+use Rattle.part_place.specs.declared.Front.{Front}
 
 -- what is kept and handed over
-abbrev pub beginning : List ℕ → ℕ → List ℕ → List ℕ
-beginning front len bytes = take len front ++ bytes
+abbrev pub beginning : Front → List ℕ → List ℕ
+beginning f bytes = take f.held f.room ++ bytes
 
-pub record Ready (h : Heading) (count start : ℕ) (front : List ℕ) (len taken n : ℕ) (bytes : List ℕ) : Type 0 where
-  pub opens : opened (beginning front len bytes) ≡ good (record { heading = h; count = count; start = start })
-  pub number : n ≡ length (done taken (beginning front len bytes))
-  pub near : len ≤ start + record_size h.parameters
-  pub within : len ≤ position_most
-  pub room : front ≡ padded position_most 0 (take position_most (beginning front len bytes))
+pub record Ready (a : Arc) (f : Front) (taken n : ℕ) (bytes : List ℕ) : Type 0 where
+  pub opens : opened (beginning f bytes) ≡ good a
+  pub number : n ≡ length (done taken (beginning f bytes))
+  pub near : f.held ≤ a.start + size_of a
+  pub within : f.held ≤ position_most
+  pub room : f.room ≡ padded position_most 0 (take position_most (beginning f bytes))

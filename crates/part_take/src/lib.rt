@@ -8,15 +8,17 @@ ghost use Rattle.arc_kinds.specs.Kinds.{record_size};
 ghost use Rattle.take_state.specs.State.{state_of, state_number};
 ghost use Rattle.take_laws.specs.Machine as machine;
 ghost use Rattle.take_laws.specs.Taking.{frame_of, record_answer, record_step, cut};
-ghost use Rattle.part_laws.specs.Beginning.{done, left, read_at};
+ghost use Rattle.part_laws.specs.Beginning.{size_of, done, left, read_at};
 ghost use Rattle.part_laws.specs.Feeding.{so_far, moved};
 ghost use Rattle.part_laws.specs.Entries.{opened_most, held_of, told_part, told_form};
 ghost use Rattle.part_take.specs.Ready.{beginning, Ready};
 
 use arc_heading::Heading;
+use arc_read::ArcRead;
 use num_limits::{PARTIAL_SIZE, RECORD_FIXED};
-use part_laws::{POSITION_MOST, PartAnswer, Position};
-use refusal::Refusal;
+use part_laws::{Finished, PartRefusal, Position};
+use part_place::Front;
+use refusal::{Fault, Refusal};
 use take_tally::Tally;
 
 // A record, and n others after it, taken into a state that is found sound.
@@ -41,11 +43,8 @@ fn take_records(
 
 // The records that a part completes, taken: the first of them out of the front, the others out of the part.
 pub fn take_done(
-    h: Heading,
-    count: usize,
-    start: usize,
-    front: [u8; POSITION_MOST],
-    len: usize,
+    a: ArcRead,
+    f: Front,
     taken: usize,
     n: usize,
     t: Tally,
@@ -54,84 +53,70 @@ pub fn take_done(
     bytes: &[u8],
     answers: &mut [u8],
 ) -> Tally
-    requires t_value { state_number h (state_of matrix.old rights.old t) ≡ 0 }
-    requires ready { Ready h count start front len taken n bytes.now }
+    requires t_value { state_number a.heading (state_of matrix.old rights.old t) ≡ 0 }
+    requires ready { Ready a f taken n bytes.now }
     requires n_in_bounds { n ≤ length answers.old }
-    ensures state { state_of matrix.new rights.new result ≡ machine.run (record_step (frame_of h)) (state_of matrix.old rights.old t) (done taken (beginning front len bytes.now)) }
-    ensures told { answers.new ≡ lay answers.old 0 (machine.answers (record_step (frame_of h)) (record_answer (frame_of h)) (state_of matrix.old rights.old t) (done taken (beginning front len bytes.now))) }
+    ensures state { state_of matrix.new rights.new result ≡ machine.run (record_step (frame_of a.heading)) (state_of matrix.old rights.old t) (done taken (beginning f bytes.now)) }
+    ensures told { answers.new ≡ lay answers.old 0 (machine.answers (record_step (frame_of a.heading)) (record_answer (frame_of a.heading)) (state_of matrix.old rights.old t) (done taken (beginning f bytes.now))) }
 {
     if n == 0 {
         return t;
     }
-    let size = RECORD_FIXED + PARTIAL_SIZE * h.parameters;
-    let e = start + size;
-    let from = e - len;
+    let size = RECORD_FIXED + PARTIAL_SIZE * a.heading.parameters;
+    let end = a.start + size;
+    let from = end - f.held;
     let others = n - 1;
-    let upto = from + others * size;
     take_records(
-        h,
+        a.heading,
         t,
         matrix,
         rights,
-        &front[start..e],
-        &bytes[from..upto],
+        &f.room[a.start..end],
+        &bytes[from..from + others * size],
         others,
         answers,
     )
 }
 
-#[derive(Clone, Copy)]
-pub struct Moved {
-    pub answer: PartAnswer,
-    pub position: Position,
-}
-
 // Where a part leads once the file is opened: 3 where bytes follow the last record, else what is left of it.
-pub fn moved_on(
-    h: Heading,
-    count: usize,
-    start: usize,
-    front: [u8; POSITION_MOST],
-    len: usize,
-    taken: usize,
-    n: usize,
-    bytes: &[u8],
-) -> Moved
-    requires ready { Ready h count start front len taken n bytes.now }
-    requires parameters_le_parameters_most { (h.parameters ≤ parameters_most) × (count ≤ records_most) × (taken ≤ count) × (start ≤ opened_most) × (start + n * record_size h.parameters ≤ len + length bytes.now) }
-    ensures answer_value { told_part result.answer ≡ told_form (so_far (read_at taken (beginning front len bytes.now))) n (taken + n) }
-    ensures position { result.position ≡ held_of (moved (so_far (read_at taken (beginning front len bytes.now))) (taken + n) (left taken (beginning front len bytes.now))) }
+pub fn moved_on(a: ArcRead, f: Front, taken: usize, n: usize, bytes: &[u8]) -> Finished
+    requires ready { Ready a f taken n bytes.now }
+    requires fits { (a.heading.parameters ≤ parameters_most) × (a.count ≤ records_most) × (taken ≤ a.count) × (a.start ≤ opened_most) × (a.start + n * size_of a ≤ f.held + length bytes.now) }
+    ensures answer_value { told_part result.answer ≡ told_form (so_far (read_at taken (beginning f bytes.now))) n (taken + n) }
+    ensures position { result.position ≡ held_of (moved (so_far (read_at taken (beginning f bytes.now))) (taken + n) (left taken (beginning f bytes.now))) }
 {
-    let size = RECORD_FIXED + PARTIAL_SIZE * h.parameters;
-    let end = start + count * size;
-    let total = len + bytes.len();
+    let size = RECORD_FIXED + PARTIAL_SIZE * a.heading.parameters;
+    let end = a.start + a.count * size;
+    let total = f.held + bytes.len();
     let all = taken + n;
     if end < total + taken * size {
-        let position = part_place::ended(all);
-        return Moved {
-            answer: PartAnswer::Broken(Refusal::Surplus, end, all),
-            position,
+        let fault = Fault {
+            why: Refusal::Surplus,
+            place: end,
+        };
+        return Finished {
+            answer: Err(PartRefusal::Broken(fault, all)),
+            position: part_place::ended(all),
         };
     }
     if n == 0 {
-        return Moved {
-            answer: PartAnswer::Took(0),
+        return Finished {
+            answer: Ok(0),
             position: Position {
-                kept: front,
+                kept: f.room,
                 length: total,
                 taken: all,
                 over: false,
             },
         };
     }
-    let upto = start + n * size - len;
-    let rest = bytes.len() - upto;
-    let kept = part_place::keep(&front[..start], &bytes[upto..]);
-    Moved {
-        answer: PartAnswer::Took(n),
+    let upto = a.start + n * size - f.held;
+    let rest = &bytes[upto..];
+    Finished {
+        answer: Ok(n),
         position: Position {
-            kept,
-            length: start + rest,
+            kept: part_place::keep(&f.room[..a.start], rest),
+            length: a.start + rest.len(),
             taken: all,
             over: false,
         },

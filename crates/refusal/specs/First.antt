@@ -30,3 +30,8 @@ answered k a = pick (same k 0) (given a) (refused k)
 unfoldable pub value_or : {A : Type 0} → A → Answered A → A
 value_or d (given a) = a
 value_or d (refused k) = d
+
+-- whether something is given, and not what
+unfoldable pub verdict_of : {A : Type 0} → Answered A → Answered (Unit {0})
+verdict_of (given a) = given tt
+verdict_of (refused k) = refused k

@@ -61,11 +61,11 @@ pub enum Refusal {
     Falling,
 }
 
-// The judgement of a heading, a state or a system.
+// A refusal of a file, and where in its bytes.
 #[derive(Clone, Copy)]
-pub enum Verdict {
-    Sound,
-    Refused(Refusal),
+pub struct Fault {
+    pub why: Refusal,
+    pub place: usize,
 }
 
 // The number of a refusal in the papers.

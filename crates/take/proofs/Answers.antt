@@ -1,5 +1,6 @@
 -- The refusals of the entries in their order, and what an entry leaves where nothing refuses.
 -- Assumes nothing.
+use Rattle.std.specs.Prelude.{Result, Ok, Err}
 use Prim.Native.Nat.{ℕ, ◌≤◌, ◌<◌}
 use mathlib.Core.Path.{◌≡◌, refl, sym, ap, ◌∙◌}
 use mathlib.Core.Bool.{true, false}
@@ -14,19 +15,10 @@ use Rattle.refusal.specs.declared.Refusal.{Refusal}
 use Rattle.refusal.specs.declared.Refusal.TheVariants.{Room, Short}
 use Rattle.refusal.proofs.Apart.{not_none}
 use Rattle.refusal.proofs.Firsts.{unless_true, unless_false, first_none_left, first_one, first_pass, first_by, answered_given, answered_by, answered_is, answered_not}
-use Rattle.refusal.specs.Told.{told_verdict}
 use Rattle.arc_heading.specs.declared.Heading.{Heading}
-use Rattle.refusal.specs.declared.Verdict.{Verdict}
-use Rattle.refusal.specs.declared.Verdict.TheVariants as Verdicts
+use Rattle.refusal.specs.Told.{told}
 use Rattle.take_state.specs.State.{State, state_number}
 use Rattle.take_laws.specs.Taking.{frame_of, book, record_answer, record_step, take_answer, take_step, whole_records, whole_run, run_number, run_state, run_answers}
-
--- ---- a verdict and its number
-pub none_by : (k : ℕ) (v : Verdict) → told_verdict v ≡ answered k (tt {0}) → v ≡ Verdicts.Sound → k ≡ 0
-none_by k v e s = (answered_is k tt tt (sym e ∙ ap told_verdict s)).0
-
-pub some_by : (k : ℕ) (v : Verdict) (r : Refusal) → told_verdict v ≡ answered k (tt {0}) → v ≡ Verdicts.Refused r → k ≡ number_of r
-some_by k v r e s = answered_not k tt (number_of r) (sym e ∙ ap told_verdict s)
 
 -- ---- one record
 module _ (h : Heading) (b : List ℕ) (s : State) where

@@ -1,7 +1,7 @@
 // The counts of accepted records, one for each station: their limits and their total.
 #![tactic(auto)]
 
-ghost use Rattle.std.specs.Prelude.{◌≡◌, ◌≤◌, ◌<◌};
+ghost use Rattle.std.specs.Prelude.{◌≡◌, ◌≤◌};
 ghost use Rattle.num_limits.specs.Capacities.{accepted_most, count_most};
 ghost use Rattle.num_whole.specs.Tests.{less, pick};
 ghost use Rattle.take_counts.specs.Counts.{sum_of, Few, counts_sound};
@@ -9,6 +9,7 @@ ghost use Rattle.take_counts.specs.Counts.{sum_of, Few, counts_sound};
 use num_limits::{COUNT_MOST, STATIONS_MOST};
 
 // The largest count that row i may have.
+#[tactic(auto, unfolding(num_whole::specs::Tests::pick, num_whole::specs::Tests::less))]
 fn count_limit(i: usize, stations: usize) -> u32
     ensures { result ≡ pick (less i stations) count_most 0 }
 {
@@ -18,20 +19,12 @@ fn count_limit(i: usize, stations: usize) -> u32
 pub fn counts_sound(stations: usize, counts: [u32; STATIONS_MOST]) -> bool
     ensures { result ≡ counts_sound stations counts }
 {
-    let mut i: usize = 0;
-    while i < STATIONS_MOST {
+    for i in 0..STATIONS_MOST {
         if count_limit(i, stations) < counts[i] {
             return false;
         }
-        i += 1;
     }
     true
-}
-
-fn wide(x: u32) -> u64
-    ensures { (result ≡ x) × (result < 4294967296) }
-{
-    x as u64
 }
 
 // How many records were accepted, by the counts of the stations.
@@ -39,10 +32,8 @@ pub fn accepted(counts: [u32; STATIONS_MOST]) -> u64
     ensures { (result ≡ sum_of counts) × (Few counts → result ≤ accepted_most) }
 {
     let mut n: u64 = 0;
-    let mut station: usize = 0;
-    while station < STATIONS_MOST {
-        n += wide(counts[station]);
-        station += 1;
+    for station in 0..STATIONS_MOST {
+        n += u64::from(counts[station]);
     }
     n
 }

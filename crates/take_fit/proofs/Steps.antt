@@ -34,6 +34,7 @@ use Rattle.arc_record.specs.Record.{record_in}
 use Rattle.arc_record.specs.declared.Record.{Record}
 use Rattle.take_laws.specs.Taking.{Frame, station_in, station_row, moment_of, stamp, type_column, residual_in, residual, length_tests, record_tests}
 use Rattle.take_fit.specs.Fit.{fit_of, fitted, timed}
+use Rattle.take_fit.specs.declared.Fit.{Fit}
 
 -- ---- the search for a station's number
 module _ (l : List ℕ) (number i : ℕ) where
@@ -83,9 +84,11 @@ clock_window false w x k e l =
 
 -- ---- 10 to 16
 module _ (f : Frame) (b : List ℕ) where
-  pub no_station_lem : station_in f b ≡ refused 10 → refused 10 ≡ answered (first (record_tests f b)) (fit_of f b)
+  pub no_station_lem : (e : Refusal) → station_in f b ≡ refused (number_of e) → refused (number_of e) ≡ answered (first (record_tests f b)) (fit_of f b)
   unfolding record_tests
-  no_station_lem e = stopped (fit_of f b) (record_tests f b) 10 (omega arith) (first_stop _ _ (λ z. omega (arith, number_refused _ _ e)) ∙ number_refused _ _ e)
+  no_station_lem e h =
+      let k = number_refused _ _ h in
+      stopped (fit_of f b) (record_tests f b) (number_of e) (some e) (first_stop _ _ (λ z. not_none e (sym k ∙ z)) ∙ k)
 
   module _ (i : ℕ) (listed : station_in f b ≡ given i) where
     pub no_type : is_type (record_in b).kind ≡ false → refused 11 ≡ answered (first (record_tests f b)) (fit_of f b)
@@ -201,6 +204,41 @@ module _ (f : Frame) (b : List ℕ) (r : Record) (e : r ≡ record_in b) where
         step = ((known ∙ ap (λ x. row_of_type x.kind) e) i).step;
         factor = ((known ∙ ap (λ x. row_of_type x.kind) e) i).factor;
       }
+
+-- ---- a record of a listed station and of a type, in the code's order
+module _ (a : Settings) (place : ℕ) (correction : ℤ) (row : TypeRow) (r : Record) (type : is_type r.kind ≡ true)
+    (f : Frame) (b : List ℕ) (s : f.settings ≡ a) (listed : station_in f b ≡ given place) (corrected : get_or f.corrections place (pos 0) ≡ correction)
+    (known : row ≡ row_of_type r.kind) (e : r ≡ record_in b) where
+  abbrev here : Answered Fit → Type 0
+  here x = x ≡ answered (first (record_tests f b)) (fit_of f b)
+
+  typed : is_type (record_in b).kind ≡ true
+  typed = sym (type_is f b r e) ∙ type
+
+  pub listed_sigma : sigma_ok r.sigma ≡ false → here (refused 12)
+  listed_sigma h = no_sigma f b place listed typed (sym (sigma_is f b r e) ∙ h)
+
+  module _ (sigma : sigma_ok r.sigma ≡ true) where
+    passed : sigma_ok (record_in b).sigma ≡ true
+    passed = sym (sigma_is f b r e) ∙ sigma
+
+    pub listed_time : (k : Refusal) → refused (number_of k) ≡ timed a r.day r.ms correction → here (refused (number_of k))
+    listed_time k h = no_time f b place listed typed passed k (sym (h ∙ time_is f b r e place listed correction corrected a s))
+
+    module _ (t : ℕ) (at : given t ≡ timed a r.day r.ms correction) where
+      time : time_in f b ≡ given t
+      time = sym (at ∙ time_is f b r e place listed correction corrected a s)
+
+      left : (x : Answered ℤ) → x ≡ pick (is_type r.kind) (residual_of (reading r.kind r.observed r.computed)) (refused 11) → residual_in b ≡ x
+      left x h = sym (h ∙ sym (yes _ _ _ type refl) ∙ residual_is f b r e)
+
+      pub listed_residual : (k : Refusal) → refused (number_of k) ≡ pick (is_type r.kind) (residual_of (reading r.kind r.observed r.computed)) (refused 11) → here (refused (number_of k))
+      listed_residual k h = no_residual f b place listed typed passed t time k (left _ h)
+
+      pub listed_fit : (q : ℤ) → given q ≡ pick (is_type r.kind) (residual_of (reading r.kind r.observed r.computed)) (refused 11)
+          → here (given (record { place = place; column = r.kind - 1; time = t; sigma = r.sigma; residual = q; step = row.step; factor = row.factor }))
+      listed_fit q h =
+          ap given (fit_is f b r e place listed row known t time q (left _ h)) ∙ it_fits f b place listed typed passed t time q (left _ h)
 
 -- ---- the residual of a measurement
 module _ (kind : ℕ) (o c : Float) where

@@ -10,8 +10,6 @@ use Rattle.take_rules.specs.Rules.{weight_of, passes_edit}
 use Rattle.take_laws.specs.Taking.{residual}
 use Rattle.take_fit.specs.declared.Fit.{Fit}
 use Rattle.take_judge.specs.declared.Terms.{Terms}
-use Rattle.take_judge.specs.declared.Judgement.{Judgement}
-use Rattle.take_judge.specs.declared.Judgement.TheVariants as Judgements
 
 -- w, w·R and w·R²
 unfoldable pub terms_by : ℕ → ℤ → ℕ → Terms
@@ -32,8 +30,3 @@ judged_late level x last count =
     ∷ unless 19 (less count count_most)
     ∷ []))
     (terms_by x.sigma x.residual x.factor)
-
--- what the answer says
-abbrev pub told_judgement : Judgement → Answered Terms
-told_judgement (Judgements.Accepted x) = given x
-told_judgement (Judgements.Refused r) = refused (number_of r)

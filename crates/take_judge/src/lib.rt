@@ -2,7 +2,8 @@
 #![tactic(auto)]
 
 ghost use Rattle.std.specs.Prelude.{◌≡◌, ◌*◌, ◌≤◌, ◌<◌, ◌^◌, pos, nat_abs, ◌*ℤ◌};
-ghost use Rattle.take_judge.specs.Judged.{terms_by, judged_late, told_judgement};
+ghost use Rattle.refusal.specs.Told.{told};
+ghost use Rattle.take_judge.specs.Judged.{terms_by, judged_late};
 
 use refusal::Refusal;
 use take_fit::Fit;
@@ -13,12 +14,6 @@ pub struct Terms {
     pub weight: u32,
     pub side: i64,
     pub square: u64,
-}
-
-#[derive(Clone, Copy)]
-pub enum Judgement {
-    Accepted(Terms),
-    Refused(Refusal),
 }
 
 // w, typeof.w.R and typeof.w.R² of a record that passes the edit.
@@ -38,19 +33,19 @@ fn terms_of(sigma: u16, residual: i64, factor: u64) -> Terms
 }
 
 // 17, 18, 19, or what an accepted record adds.
-pub fn judge(level: u16, x: Fit, last: u64, count: u32) -> Judgement
+pub fn judge(level: u16, x: Fit, last: u64, count: u32) -> Result<Terms, Refusal>
     requires level_bound { (level ≤ 100) × (1 ≤ x.sigma) × (x.sigma ≤ 256) × (x.step * x.factor ≡ 256) × (nat_abs x.residual ≤ 2 ^ 41) }
     requires step_bound { (x.step ≤ 256) × (x.factor ≤ 4) }
-    ensures { told_judgement result ≡ judged_late level x last count }
+    ensures { told result ≡ judged_late level x last count }
 {
-    if last < x.time {
-        if take_rules::passes_edit(level, x.sigma, x.step, x.residual) {
-            if count < 256 {
-                return Judgement::Accepted(terms_of(x.sigma, x.residual, x.factor));
-            }
-            return Judgement::Refused(Refusal::Full);
-        }
-        return Judgement::Refused(Refusal::Edit);
+    if x.time <= last {
+        return Err(Refusal::NotLater);
     }
-    Judgement::Refused(Refusal::NotLater)
+    if !take_rules::passes_edit(level, x.sigma, x.step, x.residual) {
+        return Err(Refusal::Edit);
+    }
+    if count >= 256 {
+        return Err(Refusal::Full);
+    }
+    Ok(terms_of(x.sigma, x.residual, x.factor))
 }

@@ -60,7 +60,7 @@ module _ (h : Heading) (m r : List ℤ) (e : room_number h m r ≡ 0) (bs : List
   -- "which stations carry a parameter"
   pub carries_told : (k : ℕ) → k < h.stations → carries_of h (end_of h m r bs) i k ≡ given (gave_one (frame_of h) (accepted_in h m r bs) i k)
   carries_told k a =
-      sym (row_some h (end_of h m r bs) i k found a _ refl)
+      sym (row_some h (end_of h m r bs) i k found a)
       ∙ ap given ((sums_over h m r e bs).marks i k (omega (arith, l, heading.few)) (omega (arith, a, heading.seats)))
 
   -- no station carries it exactly where it is told unseen

@@ -1,29 +1,21 @@
--- A part of each station copied into an array, one by one: what is left to copy makes the whole.
+-- A part of each station in an array: what `map` gives; and the first of them.
 -- Assumes nothing.
-use Prim.Native.Nat.{ℕ, suc, ◌+◌, ◌≤◌, ◌<◌}
-use mathlib.Core.Path.{◌≡◌, refl, sym, ap, ◌∙◌}
-use mathlib.Core.List.{List, [], ◌∷◌, map}
-use native.Mathlib.Omega.{arith}
-use lib.ListN.{length, get_or, take, drop, set, length-map, drop_of_length-le}
-use lib.Seq.{sets, drop-cons}
+use Rattle.std.proofs.Common.{◌≡◌, ◌∙◌, ℕ, zero, suc, ◌<◌, List, [], ◌∷◌, map, length, get_or, take, refl, sym, ap, arith}
+use Rattle.std.proofs.lemmas.List.{ext_get_or, length-map}
+use Rattle.std.proofs.Math.ListN.{get_or-map}
+use Rattle.std.specs.Array.{IsMapOf}
+use Rattle.std.specs.Fn.{Called}
+use denote.Param.Members.{Mut}
 use Rattle.arc_limits.specs.declared.Station.{Station}
-use Rattle.arc_record.proofs.Fills.{sets_all}
 
-module _ {A : Type 0} (g : Station → A) (l : List Station) (a : List A) where
-  pub copy_start : length a ≡ length l → sets a 0 (map g (drop 0 l)) ≡ map g l
-  copy_start e = sets_all a (map g l) (length-map l g ∙ sym e)
-
-  module _ (i : ℕ) where
-    pub copy_turn : (d : Station) → i < length l → sets a i (map g (drop i l)) ≡ sets (set a i (g (get_or l i d))) (i + 1) (map g (drop (i + 1) l))
-    copy_turn d more =
-        let next : suc i ≡ i + 1 = omega arith in
-        ap (λ r. sets a i (map g r)) (drop-cons l i d more) ∙ ap (λ k. sets (set a i (g (get_or l i d))) k (map g (drop k l))) next
-
-    pub copy_end : length l ≤ i → sets a i (map g (drop i l)) ≡ a
-    copy_end done = ap (λ r. sets a i (map g r)) (drop_of_length-le l done)
+pub mapped : {F A B : Type 0} {g : Mut F (A × Unit {0}) B} {f : F} (h : A → B) (d : A) (xs : List A) {ys : List B} {n : ℕ}
+    → ((p : F) (x : A) (y : B) (q : F) → Called g p (x, tt) y q → y ≡ h x) → length xs ≡ n → IsMapOf g f xs ys n → ys ≡ map h xs
+mapped h d xs told long m =
+    ext_get_or (h d) _ _ (m.long ∙ sym long ∙ sym (length-map xs h))
+    (λ i l. told _ _ _ _ (m.at i d (h d) (omega (arith, m.long))).2 ∙ sym (get_or-map h xs i d))
 
 -- the first of them are those of the first stations
 pub take_copied : {A : Type 0} (g : Station → A) (n : ℕ) (l : List Station) → take n (map g l) ≡ map g (take n l)
-take_copied g Prim.Native.Nat.zero l = refl
+take_copied g zero l = refl
 take_copied g (suc n) [] = refl
 take_copied g (suc n) (x ∷ l) = ap (λ r. g x ∷ r) (take_copied g n l)

@@ -14,15 +14,27 @@ use Rattle.arc_heading.proofs.Sound.{sound}
 use Rattle.num_packed.specs.Triangle.{tri}
 use Rattle.take_tally.specs.declared.Tally.{Tally}
 use Rattle.take_state.specs.State.{State, state_of, state_number}
+use Rattle.take_state.proofs.Rooms.{state_roomed}
 use Rattle.take_laws.specs.Machine.{run, answers}
 use Rattle.take_laws.specs.Taking.{frame, frame_of, corrections_of, record_answer, record_step}
-use Rattle.take_laws.proofs.Guarded.{Held, held_heading, held_shaped, whole}
+use Rattle.take_laws.proofs.Guarded.{Held, held_heading, whole}
 use Rattle.take_steps.specs.Runs.{Prepared}
 use Rattle.take_lent.proofs.Wide.{Just, widened, answer_wide, step_wide, run_wide, answers_wide, parted, sound_part}
 use Rattle.take_lent.proofs.Copies.{take_copied}
 
-pub few_parameters : (h : Heading) (s : State) → state_number h s ≡ 0 → h.parameters ≤ 50
-few_parameters h s e = (sound h (whole h s e).heading).few
+-- the bounds of a heading with its state, found sound
+module _ (h : Heading) (s : State) (e : state_number h s ≡ 0) where
+  pub parameters_few : h.parameters ≤ 50
+  parameters_few = (sound h (whole h s e).heading).few
+
+  pub stations_few : h.stations ≤ 16
+  stations_few = (sound h (whole h s e).heading).seats
+
+  pub matrix_room : tri h.parameters ≤ length s.matrix
+  matrix_room = (state_roomed h s e).matrix
+
+  pub rights_room : h.parameters ≤ length s.rights
+  rights_room = (state_roomed h s e).rights
 
 -- a heading with its state, found sound, of arrays that are whole
 pub record Handed (h : Heading) (s : State) : Type 0 where
@@ -36,27 +48,15 @@ module _ (h : Heading) (s : State) (v : Handed h s) where
   abbrev held : Held h s
   held = record { number = v.number; counts = v.counts; rows = v.rows; marks = v.marks }
 
-  pub parameters_few : h.parameters ≤ 50
-  parameters_few = (held_heading h s held).few
-
-  pub stations_few : h.stations ≤ 16
-  stations_few = (held_heading h s held).seats
-
-  pub matrix_room : tri h.parameters ≤ length s.matrix
-  matrix_room = (held_shaped h s held).matrix
-
-  pub rights_room : h.parameters ≤ length s.rights
-  rights_room = (held_shaped h s held).rights
-
   -- the part of the room that holds the sums
   abbrev pub part : State
   part = state_of (take (tri h.parameters) s.matrix) (take h.parameters s.rights) s.tally
 
   matrix_long : length part.matrix ≡ tri h.parameters
-  matrix_long = length-take-le (tri h.parameters) s.matrix matrix_room
+  matrix_long = length-take-le (tri h.parameters) s.matrix (matrix_room h s v.number)
 
   pub rights_long : length part.rights ≡ h.parameters
-  rights_long = length-take-le h.parameters s.rights rights_room
+  rights_long = length-take-le h.parameters s.rights (rights_room h s v.number)
 
   numbers_are : take h.stations (numbers_of h.listed) ≡ numbers_of (stations_of h)
   unfolding numbers_of stations_of
@@ -68,20 +68,20 @@ module _ (h : Heading) (s : State) (v : Handed h s) where
 
   numbers_long : length (numbers_of (stations_of h)) ≡ h.stations
   unfolding numbers_of stations_of
-  numbers_long = length-map (take h.stations h.listed) station_key ∙ length-take-le h.stations h.listed (omega (arith, v.listed, stations_few))
+  numbers_long = length-map (take h.stations h.listed) station_key ∙ length-take-le h.stations h.listed (omega (arith, v.listed, stations_few h s v.number))
 
   corrections_long : length (corrections_of (stations_of h)) ≡ h.stations
   unfolding corrections_of stations_of
-  corrections_long = length-map (take h.stations h.listed) (λ t. t.correction) ∙ length-take-le h.stations h.listed (omega (arith, v.listed, stations_few))
+  corrections_long = length-map (take h.stations h.listed) (λ t. t.correction) ∙ length-take-le h.stations h.listed (omega (arith, v.listed, stations_few h s v.number))
 
   pub prepared : Prepared h.settings (take h.stations (numbers_of h.listed)) (take h.stations (corrections_of h.listed)) part
   prepared =
       let ok = held_heading h s held in
       record {
         settings = ok.settings;
-        seats = rw (numbers_are, numbers_long) stations_few;
+        seats = rw (numbers_are, numbers_long) (stations_few h s v.number);
         corrected = omega (arith, ap length numbers_are, numbers_long, ap length corrections_are, corrections_long);
-        few = rw rights_long parameters_few;
+        few = rw rights_long (parameters_few h s v.number);
         matrix = matrix_long ∙ ap tri (sym rights_long);
         counts = v.counts;
         rows = v.rows;

@@ -14,29 +14,14 @@ use take_tally::Tally;
 pub fn numbers_of(h: Heading) -> [u16; STATIONS_MOST]
     ensures { result ≡ numbers_of h.listed }
 {
-    let mut a: [u16; STATIONS_MOST] = [0; STATIONS_MOST];
-    let mut i: usize = 0;
-    while i < STATIONS_MOST {
-        let t = h.listed[i];
-        a[i] = t.number;
-        i += 1;
-    }
-    a
+    h.listed.map(|t| t.number)
 }
 
 // Their corrections.
 pub fn corrections_of(h: Heading) -> [i32; STATIONS_MOST]
     ensures { result ≡ corrections_of h.listed }
 {
-    let mut a: [i32; STATIONS_MOST] = [0; STATIONS_MOST];
-    let mut i: usize = 0;
-    while i < STATIONS_MOST {
-        let t = h.listed[i];
-        let c = t.correction;
-        a[i] = c;
-        i += 1;
-    }
-    a
+    h.listed.map(|t| t.correction)
 }
 
 // A run taken, the heading, the state and the run found sound.

@@ -38,7 +38,7 @@ pub fn has(word: u16, k: u16) -> bool
 pub fn count(word: u16) -> u32
     ensures { (result ≡ mark_count word) × (result ≤ stations_most) }
 {
-    u16::count_ones(word) as u32
+    word.count_ones()
 }
 
 // The word with the mark of row k where its count is above 0.
@@ -54,10 +54,8 @@ pub fn heard(counts: [u32; STATIONS_MOST]) -> u16
     ensures { result ≡ heard_word counts stations_most }
 {
     let mut word: u16 = 0;
-    let mut k: usize = 0;
-    while k < STATIONS_MOST {
+    for k in 0..STATIONS_MOST {
         word = with_count(word, k as u16, counts[k]);
-        k += 1;
     }
     word
 }

@@ -9,15 +9,12 @@ ghost use Rattle.take_room.specs.Room.{cleared};
 use num_limits::PARAMETERS_MOST;
 
 // Whether so many parameters have room for their sums.
+#[tactic(auto, unfolding(num_packed::specs::Room::sums_roomy, num_whole::specs::Tests::both, num_whole::specs::Tests::up_to))]
 pub fn is_roomy(parameters: usize, matrix: &[i64], rights: &[i64]) -> bool
     ensures { result ≡ sums_roomy (min parameters parameters_most) (length matrix.now) (length rights.now) }
 {
-    let p = num_whole::least(parameters, PARAMETERS_MOST);
-    if num_packed::place(0, p) <= matrix.len() {
-        p <= rights.len()
-    } else {
-        false
-    }
+    let p = parameters.min(PARAMETERS_MOST);
+    num_packed::place(0, p) <= matrix.len() && p <= rights.len()
 }
 
 // Makes the first n numbers 0.
@@ -25,9 +22,5 @@ pub fn clear(room: &mut [i64], n: usize)
     requires { n ≤ length room.old }
     ensures { room.new ≡ cleared n room.old }
 {
-    let mut i: usize = 0;
-    while i < n {
-        room[i] = 0;
-        i += 1;
-    }
+    room[..n].fill(0);
 }

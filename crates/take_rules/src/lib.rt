@@ -13,6 +13,7 @@ const COMMON_LENGTH: u64 = 86400000;
 
 const GAIN_MOST: u64 = 27000;
 
+#[tactic(auto, unfolding(crate::specs::Rules::sigma_ok))]
 pub fn sigma_ok(s: u16) -> bool
     ensures { result ≡ sigma_ok s }
 {
@@ -33,14 +34,11 @@ pub fn weight(s: u16) -> u64
     }
 }
 
+#[tactic(auto, using(num_whole::proofs::Cases::between_true), unfolding(crate::specs::Rules::clock_ok, num_whole::specs::Tests::both))]
 pub fn clock_ok(day: u32, ms: u32) -> bool
     ensures { result ≡ clock_ok day ms }
 {
-    if num_whole::within(1, day as u64, LAST_DAY) {
-        days_leap::in_day(day, ms)
-    } else {
-        false
-    }
+    num_whole::within(1, u64::from(day), LAST_DAY) && days_leap::in_day(day, ms)
 }
 
 pub fn time(day: u32, ms: u32, correction: i32) -> i64
@@ -58,11 +56,7 @@ fn well_inside(first: u32, days: u16, t: i64) -> bool
 {
     let from = first as u64 * COMMON_LENGTH + GAIN_MOST;
     let until = (first as u64 + days as u64) * COMMON_LENGTH;
-    if from as i64 <= t {
-        t < until as i64
-    } else {
-        false
-    }
+    from as i64 <= t && t < until as i64
 }
 
 // Whether a time lies in the window, by its two ends.
@@ -72,21 +66,14 @@ fn between_ends(first: u32, days: u16, t: i64) -> bool
 {
     let from = days_leap::start(first);
     let end = days_leap::start(first + days as u32);
-    if from as i64 <= t {
-        t < end as i64
-    } else {
-        false
-    }
+    from as i64 <= t && t < end as i64
 }
 
 pub fn in_window(first: u32, days: u16, t: i64) -> bool
     requires { (first ≤ day_after_last) × (first + days ≤ day_after_last) }
     ensures { result ≡ in_window first days t }
 {
-    if well_inside(first, days, t) {
-        return true;
-    }
-    between_ends(first, days, t)
+    well_inside(first, days, t) || between_ends(first, days, t)
 }
 
 pub fn passes_edit(level: u16, s: u16, step: u64, r: i64) -> bool

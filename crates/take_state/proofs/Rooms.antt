@@ -1,5 +1,6 @@
 -- Refusals of a heading with its state, in their order, what room an accepted one has, what starting leaves in the room, and what is seen.
 -- Assumes nothing.
+use Rattle.std.specs.Prelude.{Result, Ok, Err}
 use Prim.Native.Nat.{ℕ, ◌+◌, ◌≤◌, ◌<◌, min}
 use mathlib.Core.Path.{◌≡◌, refl, sym, ap, ◌∙◌}
 use mathlib.Core.Bool.{Bool, true, false}
@@ -20,10 +21,8 @@ use Rattle.num_packed.specs.Triangle.{tri}
 use Rattle.num_packed.specs.Room.{sums_roomy}
 use Rattle.num_packed.proofs.Places.{tri_within}
 use Rattle.arc_heading.specs.Judge.{judged}
-use Rattle.refusal.specs.Told.{told_verdict}
 use Rattle.arc_heading.specs.declared.Heading.{Heading}
-use Rattle.refusal.specs.declared.Verdict.{Verdict}
-use Rattle.refusal.specs.declared.Verdict.TheVariants as Verdicts
+use Rattle.refusal.specs.Told.{told}
 use Rattle.arc_heading.proofs.Sound.{Sound, sound}
 use Rattle.take_marks.specs.Marks.{has_mark}
 use Rattle.take_tally.specs.Tally.{empty_tally, mark_of}
@@ -32,10 +31,10 @@ use Rattle.take_room.specs.Room.{cleared}
 use Rattle.take_state.specs.State.{State, state_of, sound_state, roomy, room_number, state_number, started, parameter_number, carries_of}
 
 -- ---- an answer and its number
-told : (v : Verdict) → told_verdict v ≡ answered (number_in (told_verdict v)) tt
+by_number : (v : Result (Unit {0}) Refusal) → told v ≡ answered (number_in (told v)) tt
 unfolding number_in
-told Verdicts.Sound = answered_given 0 tt refl
-told (Verdicts.Refused r) = answered_refused (number_of r) tt (not_none r)
+by_number (Ok tt) = answered_given 0 tt refl
+by_number (Err r) = answered_refused (number_of r) tt (not_none r)
 
 -- what an answer says of its number
 pub by_given : (k : ℕ) → given (tt {0}) ≡ answered k (tt {0}) → k ≡ 0
@@ -44,16 +43,24 @@ by_given k e = (answered_is k tt tt (sym e)).0
 pub by_refused : (n k : ℕ) → refused n ≡ answered k (tt {0}) → k ≡ n
 by_refused n k e = answered_not k tt n (sym e)
 
+-- the same of a result that was told
+module _ {v : Result (Unit {0}) Refusal} {k : ℕ} (e : told v ≡ answered k tt) where
+  pub accepted : v ≡ Ok tt → k ≡ 0
+  accepted is = by_given k (sym (ap told is) ∙ e)
+
+  pub stopped : {r : Refusal} → v ≡ Err r → k ≡ number_of r
+  stopped is = by_refused _ k (sym (ap told is) ∙ e)
+
 -- ---- room
 module _ (h : Heading) (m r : List ℤ) where
   pub room_short : roomy h m r ≡ false → refused 20 ≡ answered (room_number h m r) (tt {0})
   unfolding room_number
   room_short e = answered_by _ tt Room (sym (first_by _ _ Room (unless_false 20 _ e)))
 
-  pub room_judged : roomy h m r ≡ true → (v : Verdict) → told_verdict v ≡ judged h → told_verdict v ≡ answered (room_number h m r) (tt {0})
+  pub room_judged : roomy h m r ≡ true → (v : Result (Unit {0}) Refusal) → told v ≡ judged h → told v ≡ answered (room_number h m r) (tt {0})
   unfolding room_number
   room_judged e v j =
-      told v ∙ ap (λ k. answered k tt) (ap number_in j ∙ sym (first_pass _ _ (unless_true 20 _ e) ∙ first_one (number_in (judged h))))
+      by_number v ∙ ap (λ k. answered k tt) (ap number_in j ∙ sym (first_pass _ _ (unless_true 20 _ e) ∙ first_one (number_in (judged h))))
 
 -- a test that a heading passed
 passed : (k : ℕ) → (k ≡ 0 → ⊥) → (b : Bool) (x : Answered (Unit {0})) → number_in (pick b x (refused k)) ≡ 0 → (b ≡ true) × (number_in x ≡ 0)
@@ -90,9 +97,9 @@ roomed h m r e =
 
 -- ---- the empty state
 module _ (h : Heading) (m r : List ℤ) where
-  pub started_kept : (f : Refusal) (t : Tally) → refused (number_of f) ≡ answered (room_number h m r) (tt {0}) → t ≡ empty_tally → state_of m r t ≡ started h m r
+  pub started_kept : (f : Refusal) → room_number h m r ≡ number_of f → state_of m r empty_tally ≡ started h m r
   unfolding started
-  started_kept f t e k = no _ _ _ (not_same _ _ (λ z. not_none f (sym (by_refused _ _ e) ∙ z))) (ap (λ u. state_of m r u) k)
+  started_kept f e = no _ _ _ (not_same _ _ (λ z. not_none f (sym e ∙ z))) refl
 
   pub started_cleared : (a b : List ℤ) (t : Tally) → room_number h m r ≡ 0 → a ≡ cleared (tri h.parameters) m → b ≡ cleared h.parameters r → t ≡ empty_tally → state_of a b t ≡ started h m r
   unfolding started
@@ -145,6 +152,13 @@ module _ (h : Heading) (s : State) (i : ℕ) where
   unfolding parameter_number
   parameter_is e = let a = first_none _ _ e in (a.0, less_true _ _ (unless_none 4 _ (λ z. omega arith) (sym (first_one _) ∙ a.1)))
 
+  -- there are few of them, and few stations
+  pub parameter_few : parameter_number h s i ≡ 0 → i < 50
+  parameter_few e = let f = parameter_is e in omega (arith, f.1, (state_roomed _ _ f.0).sound.few)
+
+  pub parameter_seats : parameter_number h s i ≡ 0 → h.stations ≤ 16
+  parameter_seats e = (state_roomed _ _ (parameter_is e).0).sound.seats
+
   -- ---- the station's row comes last
   pub row_judged : (k : ℕ) (f : Refusal) → parameter_number h s i ≡ number_of f → refused (number_of f) ≡ carries_of h s i k
   unfolding carries_of
@@ -155,6 +169,6 @@ module _ (h : Heading) (s : State) (i : ℕ) where
     unfolding carries_of
     row_none l = answered_by _ _ Limits (first_pass _ _ found ∙ first_one _ ∙ unless_false 4 _ (not_less _ _ l))
 
-    pub row_some : k < h.stations → (b : Bool) → b ≡ has_mark (mark_of s.tally i) k → given b ≡ carries_of h s i k
+    pub row_some : k < h.stations → given (has_mark (mark_of s.tally i) k) ≡ carries_of h s i k
     unfolding carries_of
-    row_some l b e = ap given e ∙ answered_given _ _ (first_pass _ _ found ∙ first_one _ ∙ unless_true 4 _ (is_less _ _ l))
+    row_some l = answered_given _ _ (first_pass _ _ found ∙ first_one _ ∙ unless_true 4 _ (is_less _ _ l))

@@ -6,7 +6,6 @@ use Rattle.num_limits.specs.Capacities.{parameters_most}
 use Rattle.take_room.specs.Room.{cleared}
 use Rattle.num_whole.specs.Tests.{less, same, pick, both, below}
 use Rattle.num_whole.specs.Answer.{Answered, given, refused}
-use Rattle.refusal.specs.Number.{number_of}
 use Rattle.refusal.specs.First.{unless, number_in, first, answered}
 use Rattle.num_packed.specs.Triangle.{tri}
 use Rattle.num_packed.specs.Room.{sums_roomy}
@@ -16,10 +15,6 @@ use Rattle.arc_heading.specs.declared.Heading.{Heading}
 use Rattle.take_marks.specs.Marks.{has_mark, mark_count}
 use Rattle.take_tally.specs.Tally.{empty_tally, accepted, mark_of, tally_sound, marks_sound}
 use Rattle.take_tally.specs.declared.Tally.{Tally}
-use Rattle.take_state.specs.declared.Sight.{Sight}
-use Rattle.take_state.specs.declared.Sight.TheVariants as Sights
-use Rattle.take_state.specs.declared.Carriers.{Carriers}
-use Rattle.take_state.specs.declared.Carriers.TheVariants as Numbers
 
 pub record State : Type 0 where
   pub matrix : List ℤ
@@ -105,13 +100,3 @@ carriers_of h s i = answered (parameter_number h s i) (mark_count (mark_of s.tal
 -- "we are asked which stations carry a parameter": whether the station of row k does; last 4, where k is none of the heading's stations
 unfoldable pub carries_of : Heading → State → ℕ → ℕ → Answered Bool
 carries_of h s i k = answered (first (parameter_number h s i ∷ unless 4 (less k h.stations) ∷ [])) (has_mark (mark_of s.tally i) k)
-
--- what the answers say
-abbrev pub told_sight : Sight → Answered Bool
-told_sight Sights.Seen = given true
-told_sight Sights.Unseen = given false
-told_sight (Sights.Refused r) = refused (number_of r)
-
-abbrev pub told_carriers : Carriers → Answered ℕ
-told_carriers (Numbers.Number n) = given n
-told_carriers (Numbers.Refused r) = refused (number_of r)

@@ -1,6 +1,7 @@
 -- What the judging of a record says of its answer, of what it adds, and of the state after it.
 -- Assumes nothing.
-use Prim.Native.Nat.{ℕ, ◌*◌, ◌≤◌, ◌<◌, ◌^◌}
+use Rattle.std.specs.Prelude.{Result, Ok, Err}
+use Prim.Native.Nat.{ℕ, ◌+◌, ◌*◌, ◌≤◌, ◌<◌, ◌^◌}
 use mathlib.Core.Path.{◌≡◌, refl, sym, ap, ◌∙◌, subst}
 use mathlib.Core.List.{List, [], ◌∷◌}
 use native.Mathlib.Omega.{arith}
@@ -15,10 +16,11 @@ use Rattle.num_whole.proofs.Cases.{by_cases, same_true, same_false, between_true
 use Rattle.arc_limits.specs.Limits.{settings_ok}
 use Rattle.arc_limits.specs.declared.Settings.{Settings}
 use Rattle.refusal.specs.Number.{number_of}
-use Rattle.refusal.specs.First.{first}
+use Rattle.refusal.specs.First.{number_in, first, answered}
+use Rattle.refusal.specs.Told.{told}
 use Rattle.refusal.specs.declared.Refusal.{Refusal}
 use Rattle.refusal.proofs.Apart.{not_none}
-use Rattle.refusal.proofs.Firsts.{first_none, first_one, first_pass, first_stop, answered_is, answered_not}
+use Rattle.refusal.proofs.Firsts.{first_none, first_one, first_pass, first_stop, answered_is, answered_not, answered_given, answered_refused, answered_by}
 use Rattle.unit_types.specs.Types.{row_of_type}
 use Rattle.unit_types.proofs.Rows.{by_rows}
 use Rattle.num_packed.specs.Triangle.{times, triangle_terms, tri}
@@ -32,7 +34,7 @@ use Rattle.take_fit.specs.declared.Fit.{Fit}
 use Rattle.take_judge.specs.declared.Terms.{Terms}
 use Rattle.take_laws.specs.Taking.{Frame, frame, scaled, weight_in, station_tests, judged_by, record_number, record_answer, matrix_terms, right_terms, square_term, book, record_step}
 use Rattle.take_laws.proofs.Accepted as known
-use Rattle.take_laws.proofs.Kept.{Shaped, step_keeps, shaped_step, kept_step, matrix_within, rights_within, square_fits}
+use Rattle.take_laws.proofs.Kept.{Shaped, step_keeps, step_books, step_leaves, shaped_step, kept_step, matrix_within, rights_within, square_fits}
 use Rattle.take_steps.specs.Runs.{Prepared}
 
 -- ---- three numbers in order, of which the first two are judged together
@@ -202,3 +204,62 @@ module _ (a : Settings) (ns : List ℕ) (cs : List ℤ) (s : State) (h : Prepare
           rows = k.rows;
           sound = rw same_rights v;
         }
+
+-- ---- the number of an answer that has a number
+pub answered_number : {A : Type 0} (k : ℕ) (a : A) → number_in (answered k a) ≡ k
+unfolding number_in
+answered_number k a =
+    by_cases (same k 0)
+    (λ t. let z = same_true k 0 t in ap number_in (sym (answered_given k a z)) ∙ sym z)
+    (λ t. ap number_in (sym (answered_refused k a (same_false k 0 t))))
+
+-- ---- a record taken, by what the code's parts told
+abbrev by : Settings → List ℕ → List ℤ → State → Frame
+by a ns cs s = frame a (length s.rights) ns cs
+
+-- a refusal, which leaves the state
+abbrev Refused : Frame → List ℕ → State → Refusal → Type 0
+Refused f b s e = (refused (number_of e) ≡ answered (record_answer f b s) (tt {0})) × (s ≡ record_step f b s)
+
+refuses : (f : Frame) (b : List ℕ) (s : State) (e : Refusal) → record_answer f b s ≡ number_of e → Refused f b s e
+refuses f b s e n = (answered_by _ tt e n, sym (step_leaves f b s (λ z. not_none e (sym n ∙ z))))
+
+module _ {a : Settings} {ns : List ℕ} {cs : List ℤ} {s : State} (h : Prepared a ns cs s) (b : List ℕ) {v : Result Fit Refusal} (fit : told v ≡ fitted (by a ns cs s) b) where
+  pub refused_fit : {e : Refusal} → v ≡ Err e → Refused (by a ns cs s) b s e
+  refused_fit {e} is = refuses (by a ns cs s) b s e (fit_refused (by a ns cs s) b s e (sym fit ∙ ap told is))
+
+  module _ {x : Fit} (is : v ≡ Ok x) where
+    fits_so : fitted (by a ns cs s) b ≡ given x
+    fits_so = sym fit ∙ ap told is
+
+    pub ready_of : Ready (length ns) x
+    ready_of = ready (by a ns cs s) b x fits_so
+
+    pub place_small : x.place < 16
+    place_small = omega (arith, ready_of.place, h.seats)
+
+    module _ {w : Result Terms Refusal} (late : told w ≡ judged_late a.level x (get_or (last_times s.tally x.place).times x.column 0) (count_of s.tally x.place)) where
+      pub refused_late : {e : Refusal} → w ≡ Err e → Refused (by a ns cs s) b s e
+      refused_late {e} stop = refuses (by a ns cs s) b s e (late_refused (by a ns cs s) b s x fits_so e (sym late ∙ ap told stop))
+
+      module _ {y : Terms} (got : w ≡ Ok y) where
+        late_so : judged_late a.level x (get_or (last_times s.tally x.place).times x.column 0) (count_of s.tally x.place) ≡ given y
+        late_so = sym late ∙ ap told got
+
+        pub weight_of_few : y.weight ≤ 65536
+        weight_of_few = weight_small (by a ns cs s) b s x fits_so y late_so (level_few a ns cs s h)
+
+        pub side_of_few : nat_abs y.side ≤ 2 ^ 31
+        side_of_few = side_small (by a ns cs s) b s x fits_so y late_so (level_few a ns cs s h)
+
+        pub square_of_few : s.tally.square + y.square < 2 ^ 64
+        square_of_few = omega (arith, square_small (by a ns cs s) b s x fits_so y late_so (level_few a ns cs s h), square_room a ns cs s h)
+
+        pub count_of_few : count_of s.tally x.place < 256
+        count_of_few = seat_free (by a ns cs s) b s x fits_so y late_so
+
+        pub accepts : given (tt {0}) ≡ answered (record_answer (by a ns cs s) b s) (tt {0})
+        accepts = answered_given _ tt (late_taken (by a ns cs s) b s x fits_so y late_so)
+
+        pub books : state_of (plus s.matrix (triangle_terms (pos y.weight) (partials_in (length s.rights) b))) (plus s.rights (times y.side (partials_in (length s.rights) b))) (tally_with s.tally x.place x.column x.time y.square (partials_in (length s.rights) b)) ≡ record_step (by a ns cs s) b s
+        books = sym (step_books (by a ns cs s) b s (late_taken (by a ns cs s) b s x fits_so y late_so) ∙ booked (by a ns cs s) b s x fits_so y late_so)

@@ -5,7 +5,6 @@ use Rattle.num_limits.specs.Capacities.{parameters_most, stations_most}
 use Rattle.arc_limits.specs.Limits.{settings_ok}
 use Rattle.arc_limits.specs.declared.Settings.{Settings}
 use Rattle.num_packed.specs.Triangle.{tri}
-use Rattle.take_tally.specs.declared.Tally.{Tally}
 use Rattle.take_state.specs.State.{State, sound_state}
 use Rattle.arc_kinds.specs.Kinds.{record_size}
 use Rattle.take_laws.specs.Machine.{run, answers}
@@ -22,10 +21,6 @@ pub record Prepared (a : Settings) (ns : List ℕ) (cs : List ℤ) (s : State) :
   pub rows : length s.tally.rows ≡ stations_most
   pub marks : length s.tally.marks ≡ parameters_most
   pub sound : sound_state (length ns) (length s.rights) s ≡ true
-
--- a tally whose marks stand apart
-abbrev pub marked_by : Tally → List ℕ → Tally
-marked_by u marks = record { square = u.square; counts = u.counts; rows = u.rows; marks = marks }
 
 -- the records of a run that a frame's parameters give, taken one after another: the end, and the answers
 unfoldable pub run_by : Frame → State → List ℕ → State

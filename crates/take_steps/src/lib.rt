@@ -5,46 +5,29 @@ ghost use Rattle.std.specs.Prelude.{◌≡◌, ◌*◌, ◌/◌, ◌≤◌, ◌<
 ghost use Rattle.num_limits.specs.Capacities.{parameters_most, stations_most, weight_top};
 ghost use Rattle.take_marks.specs.Marks.{marks_with};
 ghost use Rattle.num_whole.specs.Sums.{plus, Within};
-ghost use Rattle.refusal.specs.Number.{number_of};
+ghost use Rattle.refusal.specs.First.{answered, number_in};
+ghost use Rattle.refusal.specs.Told.{told};
 ghost use Rattle.byte_words.specs.Words.{lay};
 ghost use Rattle.arc_kinds.specs.Kinds.{record_size};
 ghost use Rattle.num_packed.specs.Triangle.{times, triangle_terms, tri};
 ghost use Rattle.arc_record.specs.Record.{partials_in};
-ghost use Rattle.take_tally.specs.Tally.{row_with};
 ghost use Rattle.take_state.specs.State.{state_of};
-ghost use Rattle.take_laws.specs.Taking.{frame};
+ghost use Rattle.take_laws.specs.Taking.{frame, record_answer, record_step};
 ghost use Rattle.take_steps.specs.Runs.{Prepared, run_by, answers_by};
 
 use arc_limits::Settings;
 use num_limits::{PARTIAL_SIZE, RECORD_FIXED};
 use refusal::Refusal;
-use take_fit::Fitted;
-use take_judge::Judgement;
-use take_tally::{Row, Tally};
+use take_tally::Tally;
 
-// The number of a refusal, in the byte that an answer has.
-fn code(e: Refusal) -> u8
-    ensures { result ≡ number_of e }
+// An answer in a byte: 0, or the number of its refusal.
+fn code(answer: Result<(), Refusal>) -> u8
+    ensures { result ≡ number_in (told answer) }
 {
-    refusal::number(e) as u8
-}
-
-// The last time in a column of a row.
-pub fn last_of(row: Row, column: usize) -> u64
-    requires { column < 10 }
-    ensures { result ≡ get_or row.times column 0 }
-{
-    row.times[column]
-}
-
-// The row with one time changed.
-pub fn row_with(row: Row, column: usize, time: u64) -> Row
-    requires { column < 10 }
-    ensures { result ≡ row_with row column time }
-{
-    let mut r = row;
-    r.times[column] = time;
-    r
+    match answer {
+        Ok(()) => 0,
+        Err(e) => refusal::number(e) as u8,
+    }
 }
 
 // Adds the terms of a record to the sums: w times the products of its partials, and typeof.w.R times each; and its station's marks. The partials are
@@ -71,8 +54,42 @@ pub fn add_record(
     take_add::add_times(rights, side, room);
 }
 
-// The whole records of a run taken one after another, each with its answer written: 0, or the number of its refusal. The marks are set in an array of
-// their own, which is lent on: by value they would be copied with each record.
+// A record taken into sums of just its parameters: 1, 3, 10 to 19, or accepted.
+pub fn take_in(
+    settings: Settings,
+    numbers: &[u16],
+    corrections: &[i32],
+    t: &mut Tally,
+    matrix: &mut [i64],
+    rights: &mut [i64],
+    room: &mut [i16],
+    bytes: &[u8],
+) -> Result<(), Refusal>
+    requires { Prepared settings numbers.now corrections.now (state_of matrix.old rights.old t.old) × (length room.old ≡ length rights.old) }
+    ensures answer_value { told result ≡ answered (record_answer (frame settings (length rights.old) numbers.now corrections.now) bytes.now (state_of matrix.old rights.old t.old)) tt }
+    ensures state { state_of matrix.new rights.new t.new ≡ record_step (frame settings (length rights.old) numbers.now corrections.now) bytes.now (state_of matrix.old rights.old t.old) }
+{
+    let x = take_fit::fits(settings, rights.len(), numbers, corrections, bytes)?;
+    let last = t.rows[x.place].times[x.column];
+    let count = t.counts[x.place];
+    let y = take_judge::judge(settings.level, x, last, count)?;
+    add_record(
+        matrix,
+        rights,
+        room,
+        bytes,
+        y.weight,
+        y.side,
+        &mut t.marks,
+        x.place as u16,
+    );
+    t.square += y.square;
+    t.counts[x.place] = count + 1;
+    t.rows[x.place].times[x.column] = x.time;
+    Ok(())
+}
+
+// The whole records of a run taken one after another, each with its answer written: 0, or the number of its refusal.
 pub fn take_all(
     settings: Settings,
     numbers: &[u16],
@@ -89,46 +106,23 @@ pub fn take_all(
     ensures state { state_of matrix.new rights.new result ≡ run_by (frame settings (length rights.old) numbers.now corrections.now) (state_of matrix.old rights.old t) run.now }
     ensures told { out.new ≡ lay out.old 0 (answers_by (frame settings (length rights.old) numbers.now corrections.now) (state_of matrix.old rights.old t) run.now) }
 {
-    let p = rights.len();
-    let size = RECORD_FIXED + PARTIAL_SIZE * p;
-    let n = run.len() / size;
+    let size = RECORD_FIXED + PARTIAL_SIZE * rights.len();
     let mut u = t;
-    let mut marks = t.marks;
-    let mut i: usize = 0;
     let mut at: usize = 0;
-    while i < n {
+    for i in 0..run.len() / size {
         let e = at + size;
         let bytes = &run[at..e];
-        match take_fit::fits(settings, p, numbers, corrections, bytes) {
-            Fitted::Is(x) => {
-                let place = x.place;
-                let row = u.rows[place];
-                let count = u.counts[place];
-                match take_judge::judge(settings.level, x, last_of(row, x.column), count) {
-                    Judgement::Accepted(y) => {
-                        let k = place as u16;
-                        add_record(matrix, rights, room, bytes, y.weight, y.side, &mut marks, k);
-                        u.square = u.square + y.square;
-                        u.counts[place] = count + 1;
-                        u.rows[place] = row_with(row, x.column, x.time);
-                        out[i] = 0;
-                        at = e;
-                        i += 1;
-                    }
-                    Judgement::Refused(e1) => {
-                        out[i] = code(e1);
-                        at = e;
-                        i += 1;
-                    }
-                }
-            }
-            Fitted::Refused(e2) => {
-                out[i] = code(e2);
-                at = e;
-                i += 1;
-            }
-        }
+        out[i] = code(take_in(
+            settings,
+            numbers,
+            corrections,
+            &mut u,
+            matrix,
+            rights,
+            room,
+            bytes,
+        ));
+        at = e;
     }
-    u.marks = marks;
     u
 }

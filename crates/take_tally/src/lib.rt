@@ -51,26 +51,14 @@ pub fn no_tally() -> Tally
 fn is_blank(w: Row) -> bool
     ensures { result ≡ all (λ t. same t 0) w.times }
 {
-    let mut k: usize = 0;
-    while k < TYPES {
-        if w.times[k] == 0 {
-            k += 1;
-        } else {
-            return false;
-        }
-    }
-    true
+    w.times.iter().all(|t| *t == 0)
 }
 
 fn rows_sound(stations: usize, t: Tally) -> bool
     ensures { result ≡ rows_sound stations t.rows }
 {
-    let mut i = stations;
-    while i < STATIONS_MOST {
-        let w = t.rows[i];
-        if is_blank(w) {
-            i += 1;
-        } else {
+    for i in stations..STATIONS_MOST {
+        if !is_blank(t.rows[i]) {
             return false;
         }
     }
@@ -80,19 +68,13 @@ fn rows_sound(stations: usize, t: Tally) -> bool
 // What one record adds to the square sum at the most: 2^40.
 const SQUARE_UNIT: u64 = 1099511627776;
 
+#[tactic(auto, using(take_counts::proofs::Totals::counts_small), unfolding(crate::specs::Tally::tally_sound, num_whole::specs::Tests::both, num_whole::specs::Tests::up_to))]
 pub fn tally_sound(stations: usize, t: Tally) -> bool
     ensures { result ≡ tally_sound stations t }
 {
-    let counts = t.counts;
-    if take_counts::counts_sound(stations, counts) {
-        if rows_sound(stations, t) {
-            t.square <= take_counts::accepted(counts) * SQUARE_UNIT
-        } else {
-            false
-        }
-    } else {
-        false
-    }
+    take_counts::counts_sound(stations, t.counts)
+        && rows_sound(stations, t)
+        && t.square <= take_counts::accepted(t.counts) * SQUARE_UNIT
 }
 
 // ---- marks and sums
@@ -102,18 +84,15 @@ pub fn is_seen(matrix: &[i64], i: usize) -> bool
     requires { (i < parameters_most) × (tri (i + 1) ≤ length matrix.now) }
     ensures { result ≡ not (is_zero (entry matrix.now i i)) }
 {
-    let k = num_packed::place(i, i);
-    matrix[k] != 0
+    matrix[num_packed::place(i, i)] != 0
 }
 
 // Whether there is a mark, and none but of stations that have records.
+#[tactic(auto, unfolding(num_whole::specs::Tests::both, num_whole::specs::Tests::same))]
 fn is_marked(word: u16, heard: u16) -> bool
     ensures { result ≡ both (not (same word 0)) (among_marks word heard) }
 {
-    if word == 0 {
-        return false;
-    }
-    take_marks::is_among(word, heard)
+    word != 0 && take_marks::is_among(word, heard)
 }
 
 // Whether a parameter's marks agree with its diagonal and with the stations that have records; past the parameters they are 0.
@@ -123,24 +102,22 @@ fn mark_sound(p: usize, i: usize, word: u16, heard: u16, matrix: &[i64]) -> bool
 {
     if i < p {
         if is_seen(matrix, i) {
-            return is_marked(word, heard);
+            is_marked(word, heard)
+        } else {
+            word == 0
         }
-        return word == 0;
+    } else {
+        word == 0
     }
-    word == 0
 }
 
 pub fn marks_sound(p: usize, t: Tally, matrix: &[i64]) -> bool
     requires { (p ≤ parameters_most) × (tri p ≤ length matrix.now) }
     ensures { result ≡ marks_sound p matrix.now t }
 {
-    let counts = t.counts;
-    let heard = take_marks::heard(counts);
-    let mut i: usize = 0;
-    while i < PARAMETERS_MOST {
-        if mark_sound(p, i, t.marks[i], heard, matrix) {
-            i += 1;
-        } else {
+    let heard = take_marks::heard(t.counts);
+    for i in 0..PARAMETERS_MOST {
+        if !mark_sound(p, i, t.marks[i], heard, matrix) {
             return false;
         }
     }

@@ -9,37 +9,23 @@ use std::fs::Files;
 // Whether word i of the command line parts two commands.
 fn parts<R: Env>(rt: &R, i: usize) -> bool {
     let mut buf = [0u8; PATH_MOST];
-    let n = desk_files::argument(rt, i, &mut buf).length;
-    let k = desk_files::within(n, &buf);
-    desk_lines::same(&buf[..k], b"then")
+    matches!(desk_files::argument(rt, i, &mut buf), Ok(b"then"))
 }
 
 // One command.
 fn run_one<R: Env + Files + Print + Tell>(stdout: &Output<'_, R>, at: usize, count: usize) {
     desk_commands::run(stdout, at, count);
-    desk_lines::put(stdout, b"then\n");
-}
-
-// The command before word i where that word parts two commands: where the next one begins.
-fn run_part<R: Env + Files + Print + Tell>(stdout: &Output<'_, R>, at: usize, i: usize) -> usize {
-    if i < 1000000 {
-        if at <= i {
-            if parts(stdout.runtime(), i) {
-                run_one(stdout, at, i - at);
-                return i + 1;
-            }
-        }
-    }
-    at
+    print!(stdout; "then\n");
 }
 
 // Every command.
 fn run_all<R: Env + Files + Print + Tell>(stdout: &Output<'_, R>, words: usize) {
     let mut at: usize = 1;
-    let mut i: usize = 1;
-    while i < words {
-        at = run_part(stdout, at, i);
-        i += 1;
+    for i in 1..words {
+        if parts(stdout.runtime(), i) {
+            run_one(stdout, at, i - at);
+            at = i + 1;
+        }
     }
     if at < words {
         run_one(stdout, at, words - at);

@@ -4,47 +4,42 @@
 #![tactic(auto)]
 
 use arc_heading::Heading;
-use byte_section::{ReadAnswer, WriteAnswer};
 use desk_lines::{Output, Tell};
-use refusal::Refusal;
+use refusal::Fault;
 use std::env::Env;
 use std::fs::Files;
 
 // `refused N at PLACE`
-fn put_refused<R: Print + Tell>(stdout: &Output<'_, R>, why: Refusal, place: usize) {
-    desk_lines::put_refusal(stdout, why, b" at ");
-    desk_lines::put_number(stdout, place as u64, b"\n");
+fn put_refused<R: Print + Tell>(stdout: &Output<'_, R>, fault: Fault) {
+    let Fault { why, place } = fault;
+    print!(stdout; "refused {} at {place}\n", refusal::number(why));
 }
 
 // ---- arc files
 
 // Tells whether what was written is the file.
 fn tell_same<R: Print + Tell>(stdout: &Output<'_, R>, file: &[u8], written: &[u8]) {
-    if desk_lines::same(file, written) {
-        desk_lines::put(stdout, b"ok\n");
+    if file == written {
+        print!(stdout; "ok\n");
     } else {
-        desk_lines::put(stdout, b"differs\n");
+        print!(stdout; "differs\n");
     }
 }
 
 // Writes a heading and its records into room for a file, and tells whether the file's bytes come out.
 fn tell_back<R: Print + Tell>(stdout: &Output<'_, R>, file: &[u8], h: Heading, start: usize) {
-    let mut out = desk_files::normal_room();
+    let mut out = desk_files::zeros::<{ desk_files::NORMAL_ROOM }>();
     match arc_write::write(h, desk_lines::part(file, start, file.len()), &mut out) {
-        WriteAnswer::Is(n) => tell_same(stdout, file, desk_lines::part(&out, 0, n)),
-        WriteAnswer::Refused(why) => desk_lines::put_refusal(stdout, why, b" on writing\n"),
+        Ok(n) => tell_same(stdout, file, desk_lines::part(&out, 0, n)),
+        Err(why) => desk_lines::put_refusal(stdout, why, b" on writing\n"),
     }
 }
 
 // `refused N at PLACE`, or `ok` where the file is accepted and rewritten to the same bytes.
 fn tell_arc<R: Print + Tell>(stdout: &Output<'_, R>, file: &[u8]) {
-    let r = arc_read::read(file);
-    let answer = r.answer;
-    let h = r.heading;
-    let start = r.start;
-    match answer {
-        ReadAnswer::Read => tell_back(stdout, file, h, start),
-        ReadAnswer::Refused(why, place) => put_refused(stdout, why, place),
+    match arc_read::read(file) {
+        Ok(r) => tell_back(stdout, file, r.heading, r.start),
+        Err(fault) => put_refused(stdout, fault),
     }
 }
 
@@ -52,8 +47,8 @@ fn tell_arc<R: Print + Tell>(stdout: &Output<'_, R>, file: &[u8]) {
 fn put_listing<R: Print + Tell>(stdout: &Output<'_, R>, file: &[u8]) {
     let mut out = list_run::text_room();
     match list::list(file, &mut out) {
-        WriteAnswer::Is(n) => desk_lines::put(stdout, desk_lines::part(&out, 0, n)),
-        WriteAnswer::Refused(why) => desk_lines::put_refusal(stdout, why, b" on listing\n"),
+        Ok(n) => desk_lines::put(stdout, desk_lines::part(&out, 0, n)),
+        Err(why) => desk_lines::put_refusal(stdout, why, b" on listing\n"),
     }
 }
 
@@ -67,11 +62,9 @@ fn run_arc<R: Print + Tell>(stdout: &Output<'_, R>, file: &[u8]) {
 
 // `ok`, or `refused N at PLACE`.
 fn run_normal<R: Print + Tell>(stdout: &Output<'_, R>, file: &[u8]) {
-    let r = norm_read::read(file);
-    let answer = r.answer;
-    match answer {
-        ReadAnswer::Read => desk_lines::put(stdout, b"ok\n"),
-        ReadAnswer::Refused(why, place) => put_refused(stdout, why, place),
+    match norm_read::read(file) {
+        Ok(_) => print!(stdout; "ok\n"),
+        Err(fault) => put_refused(stdout, fault),
     }
 }
 
@@ -79,50 +72,34 @@ fn run_normal<R: Print + Tell>(stdout: &Output<'_, R>, file: &[u8]) {
 
 // The file of argument i, NAME.nrm or NAME.arc: its name and what came of it.
 fn run_arg<R: Env + Files + Print + Tell>(stdout: &Output<'_, R>, i: usize) {
-    let mut buffer = desk_files::normal_room();
-    let got = test_runner::file(stdout, i, &mut buffer);
-    let n = got.length;
-    if got.last == b'm' {
-        run_normal(stdout, &buffer[..n]);
+    let mut buffer = desk_files::zeros::<{ desk_files::NORMAL_ROOM }>();
+    let file = test_runner::file(stdout, i, &mut buffer);
+    if file.last == Some(b'm') {
+        run_normal(stdout, file.bytes);
     } else {
-        run_arc(stdout, &buffer[..n]);
-    }
-}
-
-// Every file that the arguments name.
-fn run_args<R: Env + Files + Print + Tell>(stdout: &Output<'_, R>, count: usize) {
-    let mut i: usize = 1;
-    while i < count {
-        run_arg(stdout, i);
-        i += 1;
+        run_arc(stdout, file.bytes);
     }
 }
 
 // A line `FILE -> ..`, written anew; `-` stands for no bytes.
 fn run_line<R: Print + Tell>(stdout: &Output<'_, R>, line: &[u8]) {
     let mut buffer = [0u8; 4096];
-    let n = desk_lines::hex_bytes(line, &mut buffer);
-    if n == 0 {
-        desk_lines::put(stdout, b"-");
+    let file = desk_lines::hex_bytes(line, &mut buffer);
+    if file.is_empty() {
+        print!(stdout; "-");
     }
-    desk_lines::put_bytes(stdout, desk_lines::part(&buffer, 0, n));
-    desk_lines::put(stdout, b" -> ");
-    tell_arc(stdout, desk_lines::part(&buffer, 0, n));
-}
-
-// Every line of a text.
-fn run<R: Print + Tell>(stdout: &Output<'_, R>, text: &[u8]) {
-    let mut at: usize = 0;
-    while at < text.len() {
-        run_line(stdout, test_runner::line(text, at));
-        at = desk_lines::next_line(text, at);
-    }
+    desk_lines::put_bytes(stdout, file);
+    print!(stdout; " -> ");
+    tell_arc(stdout, file);
 }
 
 fn main(rt: HostRuntime) {
     let stdout = Output::new(&rt);
-    run_args(&stdout, desk_files::argument_count(&rt));
-    let mut buffer = test_runner::room();
-    let n = test_runner::input(&rt, &mut buffer);
-    run(&stdout, &buffer[..n]);
+    for i in 1..desk_files::argument_count(&rt) {
+        run_arg(&stdout, i);
+    }
+    let mut buffer = desk_files::zeros::<{ test_runner::INPUT_ROOM }>();
+    test_runner::each_line(test_runner::input(&rt, &mut buffer), |line| {
+        run_line(&stdout, line);
+    });
 }

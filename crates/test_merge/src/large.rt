@@ -6,14 +6,13 @@
 // - the sums take the numbers of a chain one by one in file order, n' = (1103515245 n + 12345) mod 2^31: S(n) is n / 2 where n is even, else
 //   -1 - n / 2 (rounded down); a diagonal sum is n / 2 + 1; each sum of a label l with l mod 9 = 4 is 0 instead.
 // - accepted is 4000 an arc, the square sum 1000003 an arc.
-ghost use Rattle.std.specs.Prelude.{◌≡◌, ◌≤◌, ◌<◌, length};
+ghost use Rattle.std.specs.Prelude.{◌≡◌, ◌≤◌, ◌<◌};
 ghost use Rattle.num_limits.specs.Capacities.{arcs_most, labels_most, sums_most};
 
-use byte_section::ReadAnswer;
 use desk_lines::{Output, Tell};
-use merge::MergeAnswer;
+use merge::MergeRefusal;
 use norm_system::NormalLabel;
-use refusal::Refusal;
+use refusal::Fault;
 
 // What a file is made of: its first arc and how many follow each other, how many common labels, whether arcs have labels of their own, and
 // where the chain of numbers begins.
@@ -26,12 +25,8 @@ struct Plan {
     seed: u64,
 }
 
-// Room for the longest normal file.
-fn room() -> [u8; 1_018_100]
-    ensures { 1018100 ≡ length result }
-{
-    [0; 1_018_100]
-}
+// The longest normal file.
+const FILE_MOST: usize = 1_018_100;
 
 // ---- numbers
 
@@ -51,10 +46,7 @@ fn is_silent(l: usize) -> bool {
 
 // The matrix sum of row i and column j that number n of the chain gives.
 fn entry(i: usize, j: usize, n: u64) -> i64 {
-    if is_silent(i) {
-        return 0;
-    }
-    if is_silent(j) {
+    if is_silent(i) || is_silent(j) {
         return 0;
     }
     if i == j {
@@ -65,10 +57,7 @@ fn entry(i: usize, j: usize, n: u64) -> i64 {
 
 // The right side of parameter i.
 fn side(i: usize, n: u64) -> i64 {
-    if is_silent(i) {
-        return 0;
-    }
-    spread(n)
+    if is_silent(i) { 0 } else { spread(n) }
 }
 
 // ---- a file
@@ -77,7 +66,7 @@ fn parameters(p: Plan) -> usize
     ensures { result ≤ labels_most }
 {
     if p.own {
-        return num_whole::least(p.common % 501 + 8 * (p.arcs % 17), 500);
+        return (p.common % 501 + 8 * (p.arcs % 17)).min(500);
     }
     p.common % 501
 }
@@ -141,21 +130,16 @@ fn put_label(out: &mut [u8], at: usize, l: NormalLabel)
 fn put_labels(out: &mut [u8], at: usize, p: Plan, n: usize)
     requires { (at < 1000) × (n ≤ labels_most) }
 {
-    let mut i: usize = 0;
-    while i < n {
-        let l = label(p, i);
-        put_label(out, at + 24 * i, l);
-        i += 1;
+    for i in 0..n {
+        put_label(out, at + 24 * i, label(p, i));
     }
 }
 
 fn put_arcs(out: &mut [u8], first: u32, n: usize)
     requires { n ≤ 16 }
 {
-    let mut i: usize = 0;
-    while i < n {
+    for i in 0..n {
         byte_write::write_u32(out, 4 + 4 * i, first % 1000 + i as u32);
-        i += 1;
     }
 }
 
@@ -164,11 +148,9 @@ fn put_column(out: &mut [u8], at: usize, j: usize, seed: u64) -> u64
     requires { (at < 3000000) × (j < labels_most) }
 {
     let mut n = seed;
-    let mut i: usize = 0;
-    while i <= j {
+    for i in 0..j + 1 {
         n = next(n);
         byte_signed::write_i64(out, at + 8 * i, entry(i, j, n));
-        i += 1;
     }
     n
 }
@@ -178,11 +160,9 @@ fn put_matrix(out: &mut [u8], at: usize, p: usize, seed: u64) -> u64
 {
     let mut n = seed;
     let mut k = at;
-    let mut j: usize = 0;
-    while j < p {
+    for j in 0..p {
         n = put_column(out, k, j, n);
         k += 8 * (j + 1);
-        j += 1;
     }
     n
 }
@@ -191,11 +171,9 @@ fn put_rights(out: &mut [u8], at: usize, p: usize, seed: u64)
     requires { (at < 3000000) × (p ≤ labels_most) }
 {
     let mut n = seed;
-    let mut i: usize = 0;
-    while i < p {
+    for i in 0..p {
         n = next(n);
         byte_signed::write_i64(out, at + 8 * i, side(i, n));
-        i += 1;
     }
 }
 
@@ -256,41 +234,26 @@ fn make(out: &mut [u8], p: Plan) -> usize {
 // ---- what is told
 
 fn step(sum: u64, byte: u8) -> u64 {
-    (sum % 4_294_967_291 * 257 + byte as u64) % 4_294_967_291
+    (sum % 4_294_967_291 * 257 + u64::from(byte)) % 4_294_967_291
 }
 
 fn checksum(bytes: &[u8]) -> u64 {
-    let mut sum: u64 = 0;
-    let mut i: usize = 0;
-    while i < bytes.len() {
-        sum = step(sum, bytes[i]);
-        i += 1;
-    }
-    sum
+    bytes.iter().fold(0, |sum, byte| step(sum, *byte))
 }
 
-fn tell_refusal<R: Print + Tell>(stdout: &Output<'_, R>, why: Refusal, place: usize) {
-    desk_lines::put_refusal(stdout, why, b" at ");
-    desk_lines::put_number(stdout, place as u64, b"");
+fn tell_refusal<R: Print + Tell>(stdout: &Output<'_, R>, fault: Fault) {
+    let Fault { why, place } = fault;
+    print!(stdout; "refused {} at {place}", refusal::number(why));
 }
 
 // What reading a file answers, its length and its checksum.
 fn tell<R: Print + Tell>(stdout: &Output<'_, R>, name: &[u8], file: &[u8]) {
     desk_lines::put(stdout, name);
-    let r = norm_read::read(file);
-    let answer = r.answer;
-    match answer {
-        ReadAnswer::Read => {
-            desk_lines::put_number(stdout, r.arcs as u64, b" arcs, ");
-            desk_lines::put_number(stdout, r.parameters as u64, b" parameters");
-        }
-        ReadAnswer::Refused(why, place) => {
-            tell_refusal(stdout, why, place);
-        }
+    match norm_read::read(file) {
+        Ok(r) => print!(stdout; "{} arcs, {} parameters", r.arcs, r.parameters),
+        Err(fault) => tell_refusal(stdout, fault),
     }
-    desk_lines::put(stdout, b", ");
-    desk_lines::put_number(stdout, file.len() as u64, b" bytes, checksum ");
-    desk_lines::put_number(stdout, checksum(file), b"\n");
+    print!(stdout; ", {} bytes, checksum {}\n", file.len(), checksum(file));
 }
 
 // Two files merged into the room: the length of the merged one, 0 with a refusal told.
@@ -300,19 +263,14 @@ fn merge<R: Print + Tell>(
     second: &[u8],
     out: &mut [u8],
 ) -> usize {
-    let answer = merge::merge(first, second, out);
-    match answer {
-        MergeAnswer::Is(n) => n,
-        MergeAnswer::First(why, place) => {
-            tell_refusal(stdout, why, place);
-            0
-        }
-        MergeAnswer::Second(why, place) => {
-            tell_refusal(stdout, why, place);
-            0
-        }
-        MergeAnswer::Refused(why) => {
-            tell_refusal(stdout, why, 0);
+    match merge::merge(first, second, out) {
+        Ok(n) => n,
+        Err(why) => {
+            let fault = match why {
+                MergeRefusal::First(fault) | MergeRefusal::Second(fault) => fault,
+                MergeRefusal::Together(why) => Fault { why, place: 0 },
+            };
+            tell_refusal(stdout, fault);
             0
         }
     }
@@ -374,9 +332,9 @@ fn pair<R: Print + Tell>(
 
 // All of them.
 pub fn run<R: Print + Tell>(stdout: &Output<'_, R>) {
-    let mut a = room();
-    let mut b = room();
-    let mut out = room();
+    let mut a = desk_files::zeros::<FILE_MOST>();
+    let mut b = desk_files::zeros::<FILE_MOST>();
+    let mut out = desk_files::zeros::<FILE_MOST>();
     let whole = Plan {
         first: 1,
         arcs: 16,
@@ -386,8 +344,8 @@ pub fn run<R: Print + Tell>(stdout: &Output<'_, R>) {
     };
     let n = make(&mut a, whole);
     tell(stdout, b"sixteen arcs: ", desk_lines::part(&a, 0, n));
-    desk_lines::put(stdout, b"the same 500 parameters\n");
+    print!(stdout; "the same 500 parameters\n");
     pair(stdout, &mut a, &mut b, &mut out, 500, false);
-    desk_lines::put(stdout, b"372 of 436 parameters in common\n");
+    print!(stdout; "372 of 436 parameters in common\n");
     pair(stdout, &mut a, &mut b, &mut out, 372, true);
 }

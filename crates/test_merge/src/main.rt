@@ -4,60 +4,48 @@
 #![tactic(auto)]
 
 use desk_lines::{Output, Tell};
+use merge::MergeRefusal;
+use refusal::Fault;
 use std::env::Env;
 use std::fs::Files;
 
 mod large;
 
-use merge::MergeAnswer;
-use refusal::Refusal;
-
-fn tell_place<R: Print + Tell>(stdout: &Output<'_, R>, why: Refusal, file: &[u8], place: usize) {
-    desk_lines::put_refusal(stdout, why, file);
-    desk_lines::put_number(stdout, place as u64, b"\n");
+fn tell_place<R: Print + Tell>(stdout: &Output<'_, R>, file: u8, fault: Fault) {
+    let Fault { why, place } = fault;
+    print!(stdout; "refused {} file {file} at {place}\n", refusal::number(why));
 }
 
 fn tell_merged<R: Print + Tell>(stdout: &Output<'_, R>, file: &[u8]) {
-    desk_lines::put(stdout, b"ok ");
+    print!(stdout; "ok ");
     desk_lines::put_bytes(stdout, file);
-    desk_lines::put(stdout, b"\n");
+    print!(stdout; "\n");
 }
 
 // `ok` and the merged file, `refused N file K at PLACE`, or `refused N`.
 fn tell<R: Print + Tell>(stdout: &Output<'_, R>, a: &[u8], b: &[u8], out: &mut [u8]) {
     match merge::merge(a, b, out) {
-        MergeAnswer::Is(n) => tell_merged(stdout, desk_lines::part(out, 0, n)),
-        MergeAnswer::First(why, place) => tell_place(stdout, why, b" file 1 at ", place),
-        MergeAnswer::Second(why, place) => tell_place(stdout, why, b" file 2 at ", place),
-        MergeAnswer::Refused(why) => desk_lines::put_refusal(stdout, why, b"\n"),
+        Ok(n) => tell_merged(stdout, desk_lines::part(out, 0, n)),
+        Err(MergeRefusal::First(fault)) => tell_place(stdout, 1, fault),
+        Err(MergeRefusal::Second(fault)) => tell_place(stdout, 2, fault),
+        Err(MergeRefusal::Together(why)) => desk_lines::put_refusal(stdout, why, b"\n"),
     }
 }
 
 // The files of two arguments.
 fn run_pair<R: Env + Files + Print + Tell>(stdout: &Output<'_, R>, i: usize, j: usize) {
-    let mut a = desk_files::normal_room();
-    let mut b = desk_files::normal_room();
-    let mut out = desk_files::normal_room();
-    let m = test_runner::file(stdout, i, &mut a).length;
-    let n = test_runner::file(stdout, j, &mut b).length;
-    tell(stdout, &a[..m], &b[..n], &mut out);
-}
-
-// Argument i with the one before it, where it is the second of a pair.
-fn run_arg<R: Env + Files + Print + Tell>(stdout: &Output<'_, R>, i: usize) {
-    if i > 0 {
-        if i % 2 == 0 {
-            run_pair(stdout, i - 1, i);
-        }
-    }
+    let mut a = desk_files::zeros::<{ desk_files::NORMAL_ROOM }>();
+    let mut b = desk_files::zeros::<{ desk_files::NORMAL_ROOM }>();
+    let mut out = desk_files::zeros::<{ desk_files::NORMAL_ROOM }>();
+    let first = test_runner::file(stdout, i, &mut a);
+    let second = test_runner::file(stdout, j, &mut b);
+    tell(stdout, first.bytes, second.bytes, &mut out);
 }
 
 // Every pair that the arguments name.
 fn run_args<R: Env + Files + Print + Tell>(stdout: &Output<'_, R>, count: usize) {
-    let mut i: usize = 1;
-    while i < count {
-        run_arg(stdout, i);
-        i += 1;
+    for pair in 0..count.saturating_sub(1) / 2 {
+        run_pair(stdout, 2 * pair + 1, 2 * pair + 2);
     }
 }
 

@@ -10,275 +10,141 @@ use arc_limits::{Label, Settings, Station};
 use desk_lines::{Output, Tell};
 use num_limits::{ARC_SUMS_MOST, PARAMETERS_MOST, STATIONS_MOST, TYPES};
 use refusal::Refusal;
-use take_one::TakeAnswer;
 use take_tally::{Row, Tally};
+
+// Fills room with the items of a list, each read where it begins, with a mark after it; past the last one the text is empty.
+fn fill<T: Copy, F: Fn(&[u8]) -> T>(text: &[u8], mark: u8, out: &mut [T], read: F)
+    requires { F.IsAlwaysCallable read }
+{
+    let mut rest = text;
+    for item in out {
+        *item = read(rest);
+        rest = desk_lines::after(rest, mark);
+    }
+}
+
+fn decimal_u16(text: &[u8]) -> u16 {
+    desk_lines::as_u16(desk_lines::decimal(text))
+}
+
+fn decimal_u32(text: &[u8]) -> u32 {
+    desk_lines::as_u32(desk_lines::decimal(text))
+}
 
 // ---- the heading
 
 // `ARC,FIRST,DAYS,LEVEL`
 fn settings_of(text: &[u8]) -> Settings {
     Settings {
-        arc: desk_lines::as_u32(desk_lines::decimal_at(text, 0)),
-        first: desk_lines::as_u32(desk_lines::decimal_at(text, desk_lines::item(text, b',', 1))),
-        days: desk_lines::as_u16(desk_lines::decimal_at(text, desk_lines::item(text, b',', 2))),
-        level: desk_lines::as_u16(desk_lines::decimal_at(text, desk_lines::item(text, b',', 3))),
+        arc: decimal_u32(text),
+        first: decimal_u32(desk_lines::from_item(text, b',', 1)),
+        days: decimal_u16(desk_lines::from_item(text, b',', 2)),
+        level: decimal_u16(desk_lines::from_item(text, b',', 3)),
     }
 }
 
-// `KIND:INDEX:WEIGHT:ESTIMATE` at a place.
-fn label_at(text: &[u8], at: usize) -> Label {
-    let index = desk_lines::after(text, at, b':');
-    let weight = desk_lines::after(text, index, b':');
-    let estimate = desk_lines::after(text, weight, b':');
+// `KIND:INDEX:WEIGHT:ESTIMATE`
+fn label_of(text: &[u8]) -> Label {
     Label {
-        kind: desk_lines::as_u16(desk_lines::decimal_at(text, at)),
-        index: desk_lines::as_u16(desk_lines::decimal_at(text, index)),
-        weight: desk_lines::as_u32(desk_lines::decimal_at(text, weight)),
-        estimate: desk_lines::signed_at(text, estimate),
+        kind: decimal_u16(text),
+        index: decimal_u16(desk_lines::from_item(text, b':', 1)),
+        weight: decimal_u32(desk_lines::from_item(text, b':', 2)),
+        estimate: desk_lines::signed(desk_lines::from_item(text, b':', 3)),
     }
 }
 
-// The first fifty labels; past the last one they are zeros.
-fn labels_of(text: &[u8]) -> [Label; PARAMETERS_MOST] {
-    let mut a = [Label {
-        kind: 0,
-        index: 0,
-        weight: 0,
-        estimate: 0,
-    }; PARAMETERS_MOST];
-    let mut i: usize = 0;
-    let mut at: usize = 0;
-    while i < PARAMETERS_MOST {
-        a[i] = label_at(text, at);
-        at = desk_lines::after(text, at, b';');
-        i += 1;
-    }
-    a
+// The signed number that begins a text, as far as 32 bits go.
+fn signed_i32(text: &[u8]) -> i32 {
+    let value = desk_lines::signed(text);
+    let limit = if value < 0 { i32::MIN } else { i32::MAX };
+    i32::try_from(value).unwrap_or(limit)
 }
 
-// n, as far as a signed number of 32 bits goes.
-fn plus(n: u64) -> i32 {
-    if n < 2_147_483_648 {
-        n as i32
-    } else {
-        i32::MAX
-    }
-}
-
-// The signed number at a place, as far as 32 bits go; -n is n - 1 with its bits turned over.
-fn correction_at(text: &[u8], at: usize) -> i32 {
-    if desk_lines::byte_at(text, at) == b'-' {
-        let n = desk_lines::decimal_at(text, desk_lines::after(text, at, b'-'));
-        return if n > 0 { !plus(n - 1) } else { 0 };
-    }
-    plus(desk_lines::decimal_at(text, at))
-}
-
-// `NUMBER:ZERO:CORRECTION` at a place.
-fn station_at(text: &[u8], at: usize) -> Station {
-    let zero = desk_lines::after(text, at, b':');
-    let correction = desk_lines::after(text, zero, b':');
+// `NUMBER:ZERO:CORRECTION`
+fn station_of(text: &[u8]) -> Station {
     Station {
-        number: desk_lines::as_u16(desk_lines::decimal_at(text, at)),
-        correction: correction_at(text, correction),
+        number: decimal_u16(text),
+        correction: signed_i32(desk_lines::from_item(text, b':', 2)),
     }
 }
 
-// The first sixteen stations; past the last one they are zeros.
-fn stations_of(text: &[u8]) -> [Station; STATIONS_MOST] {
-    let mut a = [Station {
-        number: 0,
-        correction: 0,
-    }; STATIONS_MOST];
-    let mut i: usize = 0;
-    let mut at: usize = 0;
-    while i < STATIONS_MOST {
-        a[i] = station_at(text, at);
-        at = desk_lines::after(text, at, b';');
-        i += 1;
-    }
-    a
-}
-
-// The heading of a line; its counts are those of the line, though no more are stored than it has room for.
+// The heading of a line; its counts are those of the line, though no more are stored than it has room for. What is past the last one is zeros.
 fn heading_of(line: &[u8]) -> Heading {
-    let labels = desk_lines::value(line, 1);
+    let parameters = desk_lines::value(line, 1);
     let stations = desk_lines::value(line, 2);
+    let mut labels = [label_of(b""); PARAMETERS_MOST];
+    let mut listed = [station_of(b""); STATIONS_MOST];
+    fill(parameters, b';', &mut labels, label_of);
+    fill(stations, b';', &mut listed, station_of);
     Heading {
         settings: settings_of(desk_lines::value(line, 0)),
-        parameters: desk_lines::items(labels, b';'),
+        parameters: desk_lines::items(parameters, b';'),
         stations: desk_lines::items(stations, b';'),
-        labels: labels_of(labels),
-        listed: stations_of(stations),
+        labels,
+        listed,
     }
 }
 
 // ---- the state
 
-// Fills room with the numbers of a list.
-fn fill(text: &[u8], out: &mut [i64]) {
-    let mut i: usize = 0;
-    let mut at: usize = 0;
-    while i < out.len() {
-        out[i] = desk_lines::signed_at(text, at);
-        at = desk_lines::after(text, at, b',');
-        i += 1;
-    }
-}
-
-fn counts_of(text: &[u8]) -> [u32; STATIONS_MOST] {
-    let mut a = [0u32; STATIONS_MOST];
-    let mut i: usize = 0;
-    let mut at: usize = 0;
-    while i < STATIONS_MOST {
-        a[i] = desk_lines::as_u32(desk_lines::decimal_at(text, at));
-        at = desk_lines::after(text, at, b',');
-        i += 1;
-    }
-    a
-}
-
-// The ten times at a place.
-fn row_at(text: &[u8], start: usize) -> Row {
-    let mut a = [0u64; TYPES];
-    let mut i: usize = 0;
-    let mut at = start;
-    while i < 10 {
-        a[i] = desk_lines::decimal_at(text, at);
-        at = desk_lines::after(text, at, b',');
-        i += 1;
-    }
-    Row { times: a }
-}
-
+// The last times of a list, ten of each station.
 fn rows_of(text: &[u8]) -> [Row; STATIONS_MOST] {
-    let mut a = [Row {
-        times: [0u64; TYPES],
-    }; STATIONS_MOST];
-    let mut i: usize = 0;
-    while i < STATIONS_MOST {
-        a[i] = row_at(text, desk_lines::item(text, b',', 10 * i));
-        i += 1;
+    let mut rows = [Row { times: [0; TYPES] }; STATIONS_MOST];
+    let mut rest = text;
+    for row in &mut rows {
+        fill(rest, b',', &mut row.times, desk_lines::decimal);
+        rest = desk_lines::from_item(rest, b',', TYPES);
     }
-    a
-}
-
-fn marks_of(text: &[u8]) -> [u16; PARAMETERS_MOST] {
-    let mut a = [0u16; PARAMETERS_MOST];
-    let mut i: usize = 0;
-    let mut at: usize = 0;
-    while i < PARAMETERS_MOST {
-        a[i] = desk_lines::as_u16(desk_lines::decimal_at(text, at));
-        at = desk_lines::after(text, at, b',');
-        i += 1;
-    }
-    a
+    rows
 }
 
 fn tally_of(line: &[u8]) -> Tally {
+    let mut counts = [0; STATIONS_MOST];
+    let mut marks = [0; PARAMETERS_MOST];
+    fill(desk_lines::value(line, 8), b',', &mut counts, decimal_u32);
+    fill(desk_lines::value(line, 10), b',', &mut marks, decimal_u16);
     Tally {
-        square: desk_lines::decimal_at(desk_lines::value(line, 7), 0),
-        counts: counts_of(desk_lines::value(line, 8)),
+        square: desk_lines::decimal(desk_lines::value(line, 7)),
+        counts,
         rows: rows_of(desk_lines::value(line, 9)),
-        marks: marks_of(desk_lines::value(line, 10)),
+        marks,
     }
 }
 
 // ---- writing
 
-// Writes a comma before each item of a list but the first.
-fn put_comma<R: Print + Tell>(stdout: &Output<'_, R>, i: usize) {
-    if i > 0 {
-        desk_lines::put(stdout, b",");
-    }
-}
-
-fn put_sums<R: Print + Tell>(stdout: &Output<'_, R>, sums: &[i64]) {
-    let mut i: usize = 0;
-    while i < sums.len() {
-        put_comma(stdout, i);
-        desk_lines::put_signed(stdout, sums[i], b"");
-        i += 1;
-    }
-}
-
-fn put_counts<R: Print + Tell>(stdout: &Output<'_, R>, counts: [u32; STATIONS_MOST]) {
-    let mut i: usize = 0;
-    while i < STATIONS_MOST {
-        put_comma(stdout, i);
-        desk_lines::put_number(stdout, counts[i] as u64, b"");
-        i += 1;
-    }
-}
-
-fn put_row<R: Print + Tell>(stdout: &Output<'_, R>, w: Row) {
-    let mut i: usize = 0;
-    while i < 10 {
-        put_comma(stdout, i);
-        desk_lines::put_number(stdout, w.times[i], b"");
-        i += 1;
-    }
-}
-
-fn put_rows<R: Print + Tell>(stdout: &Output<'_, R>, t: Tally) {
-    let mut i: usize = 0;
-    while i < STATIONS_MOST {
-        let w = t.rows[i];
-        put_comma(stdout, i);
-        put_row(stdout, w);
-        i += 1;
-    }
-}
-
-fn put_marks<R: Print + Tell>(stdout: &Output<'_, R>, marks: [u16; PARAMETERS_MOST]) {
-    let mut i: usize = 0;
-    while i < PARAMETERS_MOST {
-        put_comma(stdout, i);
-        desk_lines::put_number(stdout, marks[i] as u64, b"");
-        i += 1;
+// Writes the last times, ten of each station.
+fn put_rows<R: Print + Tell>(stdout: &Output<'_, R>, rows: &[Row]) {
+    for (i, row) in rows.iter().enumerate() {
+        if i > 0 {
+            print!(stdout; ",");
+        }
+        desk_lines::put_list(stdout, &row.times);
     }
 }
 
 // Writes a state, each of its parts by a name that begins as told, and ends the line.
 fn put_state<R: Print + Tell>(
     stdout: &Output<'_, R>,
-    name: &[u8],
+    name: &str,
     t: Tally,
     matrix: &[i64],
     rights: &[i64],
 ) {
-    let counts = t.counts;
-    let marks = t.marks;
-    desk_lines::put(stdout, name);
-    desk_lines::put(stdout, b"matrix=");
-    put_sums(stdout, matrix);
-    desk_lines::put(stdout, name);
-    desk_lines::put(stdout, b"rights=");
-    put_sums(stdout, rights);
-    desk_lines::put(stdout, name);
-    desk_lines::put(stdout, b"square=");
-    desk_lines::put_number(stdout, t.square, name);
-    desk_lines::put(stdout, b"counts=");
-    put_counts(stdout, counts);
-    desk_lines::put(stdout, name);
-    desk_lines::put(stdout, b"last=");
-    put_rows(stdout, t);
-    desk_lines::put(stdout, name);
-    desk_lines::put(stdout, b"marks=");
-    put_marks(stdout, marks);
-    desk_lines::put(stdout, b"\n");
+    print!(stdout; " {name}.matrix=");
+    desk_lines::put_list(stdout, matrix);
+    print!(stdout; " {name}.rights=");
+    desk_lines::put_list(stdout, rights);
+    print!(stdout; " {name}.square={} {name}.counts=", t.square);
+    desk_lines::put_list(stdout, &t.counts);
+    print!(stdout; " {name}.last=");
+    put_rows(stdout, &t.rows);
+    print!(stdout; " {name}.marks=");
+    desk_lines::put_list(stdout, &t.marks);
+    print!(stdout; "\n");
 }
 
 // ---- lines
-
-// The state before, as it was read.
-fn before(line: &[u8]) -> &[u8] {
-    desk_lines::part(
-        line,
-        desk_lines::word(line, 5),
-        desk_lines::word_end(line, desk_lines::word(line, 10)),
-    )
-}
 
 // The state after a record that was accepted, and the one before it as it was read.
 fn put_accepted<R: Print + Tell>(
@@ -288,9 +154,14 @@ fn put_accepted<R: Print + Tell>(
     matrix: &[i64],
     rights: &[i64],
 ) {
-    desk_lines::put(stdout, b"0 ");
-    desk_lines::put(stdout, before(line));
-    put_state(stdout, b" after.", t, matrix, rights);
+    let before = desk_lines::from_word(line, 5);
+    print!(stdout; "0 ");
+    desk_lines::put(stdout, desk_lines::before_word(before, 5));
+    desk_lines::put(
+        stdout,
+        desk_lines::first_word(desk_lines::from_word(before, 5)),
+    );
+    put_state(stdout, "after", t, matrix, rights);
 }
 
 // The number of a refusal, and the state as it is after it.
@@ -301,8 +172,8 @@ fn put_refused<R: Print + Tell>(
     matrix: &[i64],
     rights: &[i64],
 ) {
-    desk_lines::put_number(stdout, refusal::number(why) as u64, b"");
-    put_state(stdout, b" before.", t, matrix, rights);
+    print!(stdout; "{}", refusal::number(why));
+    put_state(stdout, "before", t, matrix, rights);
 }
 
 // Takes a line's record into its state, and writes the line from the answer on.
@@ -313,13 +184,12 @@ fn answer_line<R: Print + Tell>(
     rights: &mut [i64],
     bytes: &[u8],
 ) {
-    let r = take::take(heading_of(line), tally_of(line), matrix, rights, bytes);
-    let answer = r.answer;
-    let t = r.tally;
-    desk_lines::put(stdout, b"answer=");
-    match answer {
-        TakeAnswer::Accepted => put_accepted(stdout, line, t, matrix, rights),
-        TakeAnswer::Refused(why) => put_refused(stdout, why, t, matrix, rights),
+    let before = tally_of(line);
+    let taken = take::take(heading_of(line), before, matrix, rights, bytes);
+    print!(stdout; "answer=");
+    match taken {
+        Ok(after) => put_accepted(stdout, line, after, matrix, rights),
+        Err(why) => put_refused(stdout, why, before, matrix, rights),
     }
 }
 
@@ -331,20 +201,13 @@ fn run_one<R: Print + Tell>(
     rights: &mut [i64],
     bytes: &[u8],
 ) {
-    fill(desk_lines::value(line, 5), matrix);
-    fill(desk_lines::value(line, 6), rights);
-    desk_lines::put(stdout, desk_lines::part(line, 0, desk_lines::word(line, 4)));
+    fill(desk_lines::value(line, 5), b',', matrix, desk_lines::signed);
+    fill(desk_lines::value(line, 6), b',', rights, desk_lines::signed);
+    desk_lines::put(stdout, desk_lines::before_word(line, 4));
     answer_line(stdout, line, matrix, rights, bytes);
 }
 
 // ---- mixes
-
-fn number(a: TakeAnswer) -> u64 {
-    match a {
-        TakeAnswer::Accepted => 0,
-        TakeAnswer::Refused(why) => refusal::number(why) as u64,
-    }
-}
 
 // Takes record i of some bytes, and writes what it was told: the tally after it.
 fn take_next<R: Print + Tell>(
@@ -356,17 +219,18 @@ fn take_next<R: Print + Tell>(
     bytes: &[u8],
     i: usize,
 ) -> Tally {
-    let r = take::take(
+    let taken = take::take(
         h,
         t,
         matrix,
         rights,
         arc_record::record_at(bytes, 0, h.parameters, i),
     );
-    let answer = r.answer;
-    put_comma(stdout, i);
-    desk_lines::put_number(stdout, number(answer), b"");
-    r.tally
+    if i > 0 {
+        print!(stdout; ",");
+    }
+    print!(stdout; "{}", taken.map_or_else(refusal::number, |_| 0));
+    taken.unwrap_or(t)
 }
 
 // Takes so many records, one by one, from the empty state: the tally after them.
@@ -378,12 +242,9 @@ fn take_each<R: Print + Tell>(
     bytes: &[u8],
     count: usize,
 ) -> Tally {
-    let begun = take_state::start(h, matrix, rights);
-    let mut tally = begun.tally;
-    let mut i: usize = 0;
-    while i < count {
+    let mut tally = take_state::start(h, matrix, rights).unwrap_or(take_tally::no_tally());
+    for i in 0..count {
         tally = take_next(stdout, h, tally, matrix, rights, bytes, i);
-        i += 1;
     }
     tally
 }
@@ -397,10 +258,10 @@ fn run_mix<R: Print + Tell>(
     bytes: &[u8],
 ) {
     let count = desk_lines::items(desk_lines::value(line, 4), b',');
-    desk_lines::put(stdout, desk_lines::part(line, 0, desk_lines::word(line, 4)));
-    desk_lines::put(stdout, b"answers=");
+    desk_lines::put(stdout, desk_lines::before_word(line, 4));
+    print!(stdout; "answers=");
     let t = take_each(stdout, heading_of(line), matrix, rights, bytes, count);
-    put_state(stdout, b" after.", t, matrix, rights);
+    put_state(stdout, "after", t, matrix, rights);
 }
 
 // ---- all
@@ -410,28 +271,18 @@ fn run_line<R: Print + Tell>(stdout: &Output<'_, R>, line: &[u8]) {
     let mut matrix = [0i64; ARC_SUMS_MOST];
     let mut rights = [0i64; PARAMETERS_MOST];
     let mut buffer = [0u8; 4096];
-    let n = desk_lines::hex_bytes(desk_lines::value(line, 3), &mut buffer);
-    let bytes = desk_lines::part(&buffer, 0, n);
-    let key = desk_lines::part(line, desk_lines::word(line, 3), line.len());
-    if desk_lines::byte_at(key, 6) == b's' {
+    let bytes = desk_lines::hex_bytes(desk_lines::value(line, 3), &mut buffer);
+    if desk_lines::from_word(line, 3).get(6) == Some(&b's') {
         run_mix(stdout, line, &mut matrix, &mut rights, bytes);
     } else {
         run_one(stdout, line, &mut matrix, &mut rights, bytes);
     }
 }
 
-// Every line of a text.
-fn run<R: Print + Tell>(stdout: &Output<'_, R>, text: &[u8]) {
-    let mut at: usize = 0;
-    while at < text.len() {
-        run_line(stdout, test_runner::line(text, at));
-        at = desk_lines::next_line(text, at);
-    }
-}
-
 fn main(rt: HostRuntime) {
     let stdout = Output::new(&rt);
-    let mut buffer = test_runner::room();
-    let n = test_runner::input(&rt, &mut buffer);
-    run(&stdout, &buffer[..n]);
+    let mut buffer = desk_files::zeros::<{ test_runner::INPUT_ROOM }>();
+    test_runner::each_line(test_runner::input(&rt, &mut buffer), |line| {
+        run_line(&stdout, line);
+    });
 }

@@ -2,15 +2,10 @@
 use Rattle.std.specs.Prelude.{ℕ, ℤ, Float}
 use Rattle.num_whole.specs.Tests.{pick}
 use Rattle.num_whole.specs.Answer.{Answered, given, refused}
-use Rattle.refusal.specs.Number.{number_of}
 use Rattle.unit_nearest.specs.Doubles.{fits_in, unit_within, quotient}
 use Rattle.unit_types.specs.Types.{is_type, row_of_type}
 use Rattle.unit_types.specs.declared.TypeRow.{TypeRow}
 use Rattle.unit_turn.specs.Turning.{on_circle, top_of}
-use Rattle.unit_convert.specs.declared.UnitAnswer.{UnitAnswer}
-use Rattle.unit_convert.specs.declared.UnitAnswer.TheVariants as Unit
-use Rattle.unit_convert.specs.declared.DoubleAnswer.{DoubleAnswer}
-use Rattle.unit_convert.specs.declared.DoubleAnswer.TheVariants as Double
 
 -- ---- from a double to a unit
 -- T becomes 0, and a refusal stays
@@ -30,12 +25,3 @@ double_of t q =
     pick (is_type t)
     (pick (fits_in (row_of_type t).low (top_of (row_of_type t)) q) (given (quotient (row_of_type t).k q)) (refused 16))
     (refused 11)
-
--- ---- what the answers say
-abbrev pub told_unit : UnitAnswer → Answered ℤ
-told_unit (Unit.Is q) = given q
-told_unit (Unit.Refused r) = refused (number_of r)
-
-abbrev pub told_double : DoubleAnswer → Answered Float
-told_double (Double.Is x) = given x
-told_double (Double.Refused r) = refused (number_of r)

@@ -1,14 +1,13 @@
 -- Document 01, 'Units': a measurement of each type with its two doubles, and its reading, the type's number with them.
-use Rattle.std.specs.Prelude.{ℕ, Float}
+use Rattle.std.specs.Prelude.{ℕ, Float, Result, Ok, Err}
 use Rattle.num_whole.specs.Tests.{pick}
 use Rattle.num_whole.specs.Answer.{Answered, given, refused}
 use Rattle.refusal.specs.Number.{number_of}
+use Rattle.refusal.specs.declared.Refusal.{Refusal}
 use Rattle.unit_types.specs.Types.{is_type}
 use Rattle.unit_measure.specs.declared.Reading.{Reading}
 use Rattle.unit_measure.specs.declared.Measurement.{Measurement}
 use Rattle.unit_measure.specs.declared.Measurement.TheVariants.{Range, RangeRate, CosineL, CosineM, AngleX, AngleY, Azimuth, Elevation, RightAscension, Declination}
-use Rattle.unit_measure.specs.declared.MeasurementAnswer.{MeasurementAnswer}
-use Rattle.unit_measure.specs.declared.MeasurementAnswer.TheVariants as Made
 
 -- "each kind of measurement carries its two doubles, observed and computed"
 abbrev pub reading : ℕ → Float → Float → Reading
@@ -31,6 +30,6 @@ unfoldable pub measured_as : ℕ → Float → Float → Answered Reading
 measured_as t o c = pick (is_type t) (given (reading t o c)) (refused 11)
 
 -- what the answer says
-abbrev pub told_measurement : MeasurementAnswer → Answered Reading
-told_measurement (Made.Is m) = given (reading_of m)
-told_measurement (Made.Refused r) = refused (number_of r)
+abbrev pub told_measurement : Result Measurement Refusal → Answered Reading
+told_measurement (Ok m) = given (reading_of m)
+told_measurement (Err r) = refused (number_of r)

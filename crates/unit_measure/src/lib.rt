@@ -21,12 +21,6 @@ pub enum Measurement {
     Declination(f64, f64),
 }
 
-#[derive(Clone, Copy)]
-pub enum MeasurementAnswer {
-    Is(Measurement),
-    Refused(Refusal),
-}
-
 // A measurement's type and its two doubles.
 #[derive(Clone, Copy)]
 pub struct Reading {
@@ -36,21 +30,21 @@ pub struct Reading {
 }
 
 // A measurement of a type, or 11: a type that is refused never becomes a case.
-pub fn measured(kind: u32, observed: f64, computed: f64) -> MeasurementAnswer
+pub fn measured(kind: u32, observed: f64, computed: f64) -> Result<Measurement, Refusal>
     ensures { told_measurement result ≡ measured_as kind observed computed }
 {
     match kind {
-        1 => MeasurementAnswer::Is(Measurement::Range(observed, computed)),
-        2 => MeasurementAnswer::Is(Measurement::RangeRate(observed, computed)),
-        3 => MeasurementAnswer::Is(Measurement::CosineL(observed, computed)),
-        4 => MeasurementAnswer::Is(Measurement::CosineM(observed, computed)),
-        5 => MeasurementAnswer::Is(Measurement::AngleX(observed, computed)),
-        6 => MeasurementAnswer::Is(Measurement::AngleY(observed, computed)),
-        7 => MeasurementAnswer::Is(Measurement::Azimuth(observed, computed)),
-        8 => MeasurementAnswer::Is(Measurement::Elevation(observed, computed)),
-        9 => MeasurementAnswer::Is(Measurement::RightAscension(observed, computed)),
-        10 => MeasurementAnswer::Is(Measurement::Declination(observed, computed)),
-        _ => MeasurementAnswer::Refused(Refusal::NoType),
+        1 => Ok(Measurement::Range(observed, computed)),
+        2 => Ok(Measurement::RangeRate(observed, computed)),
+        3 => Ok(Measurement::CosineL(observed, computed)),
+        4 => Ok(Measurement::CosineM(observed, computed)),
+        5 => Ok(Measurement::AngleX(observed, computed)),
+        6 => Ok(Measurement::AngleY(observed, computed)),
+        7 => Ok(Measurement::Azimuth(observed, computed)),
+        8 => Ok(Measurement::Elevation(observed, computed)),
+        9 => Ok(Measurement::RightAscension(observed, computed)),
+        10 => Ok(Measurement::Declination(observed, computed)),
+        _ => Err(Refusal::NoType),
     }
 }
 

@@ -2,15 +2,15 @@
 -- x·2^k." "All this is said in whole numbers, both sides multiplied by 2^1074, which makes one of every finite double, read from its bits."
 -- Every finite double is a whole number of the smallest double, 2 ^ -1074: `size x` is that number without its sign. So x * 2 ^ k is
 -- size x * 2 ^ k / 2 ^ 1074, a fraction of whole numbers.
-use Rattle.std.specs.Prelude.{ℕ, zero, suc, ◌+◌, ◌*◌, ◌/◌, ◌%◌, ◌^◌, ◌≤◌, Bool, true, false, cond, ◌&&◌, ◌≡◌, ℤ, pos, negsuc, neg_ℤ, nat_abs, ◌-ℤ◌, ◌*ℤ◌, T, leb, eqb, Float}
+use Rattle.std.specs.Prelude.{ℕ, zero, suc, ◌+◌, ◌*◌, ◌/◌, ◌%◌, ◌^◌, ◌≤◌, Bool, true, false, cond, ◌&&◌, ◌≡◌, ℤ, pos, negsuc, neg_ℤ, nat_abs, ◌-ℤ◌, ◌*ℤ◌, T, leb, eqb, Float, Result, Ok, Err}
 use Rattle.std.specs.Int.Signed.{le_z}
 use Rattle.std.specs.Float.Ieee.Scale.{finite}
 use Rattle.std.specs.Float.{nan, inf, fin, binary64}
 use Rattle.std.specs.Float.Ieee.{round, up, down}
 use Rattle.std.specs.Float.Ieee.Nearest.{closest}
 use Rattle.num_whole.specs.Answer.{Answered, given, refused}
-use Rattle.unit_nearest.specs.declared.Unit.{Unit}
-use Rattle.unit_nearest.specs.declared.Unit.TheVariants.{Whole, NotFinite, OutOfLimits}
+use Rattle.unit_nearest.specs.declared.NoUnit.{NoUnit}
+use Rattle.unit_nearest.specs.declared.NoUnit.TheVariants.{NotFinite, OutOfLimits}
 
 -- ---- a double as a whole number of 2 ^ -1074
 -- |x| * 2 ^ 1074, which is whole for every finite double; 0 for what is not finite
@@ -107,7 +107,7 @@ pattern_unit k low high p =
     (within low high (signed (negative p) (closest (mant (field_of p) (fraction_of p) * 2 ^ k) (2 ^ 1074))))
 
 -- what the answer says
-abbrev pub told_nearest : Unit → Answered ℤ
-told_nearest (Whole q) = given q
-told_nearest NotFinite = refused 15
-told_nearest OutOfLimits = refused 16
+abbrev pub told_nearest : Result ℤ NoUnit → Answered ℤ
+told_nearest (Ok q) = given q
+told_nearest (Err NotFinite) = refused 15
+told_nearest (Err OutOfLimits) = refused 16

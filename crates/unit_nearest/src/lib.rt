@@ -7,15 +7,29 @@ ghost use Rattle.std.specs.Float.Ieee.Nearest.{closest};
 ghost use Rattle.std.specs.Float.Ieee.Scale.{finite};
 ghost use Rattle.unit_nearest.specs.Doubles.{unit_within, within, signed, hidden, quotient, told_nearest};
 ghost use Rattle.unit_nearest.specs.Steps.{fields_of, ratio_unit, fields_unit};
+ghost use Rattle.unit_nearest.specs.NoUnits.{refusal_of};
+
+use refusal::Refusal;
 
 // 2 ^ 52, the bit before the fraction's 52.
 const HIDDEN: u64 = 0x10_0000_0000_0000;
 
+// Why a double has no unit.
 #[derive(Clone, Copy)]
-pub enum Unit {
-    Whole(i64),
+pub enum NoUnit {
     NotFinite,
     OutOfLimits,
+}
+
+impl From<NoUnit> for Refusal {
+    ghost from_gives = { λ why r. r ≡ refusal_of why };
+
+    fn from(why: NoUnit) -> Refusal {
+        match why {
+            NoUnit::NotFinite => Refusal::NotFinite,
+            NoUnit::OutOfLimits => Refusal::UnitLimits,
+        }
+    }
 }
 
 // The fields of a double (IEEE 754, 3.4): its sign, its exponent's field and its fraction.
@@ -98,19 +112,19 @@ fn signed_of(negative: bool, n: u64) -> i64
 }
 
 // A whole number, where it is from low to high.
-fn limited(q: i64, low: i64, high: i64) -> Unit
+fn limited(q: i64, low: i64, high: i64) -> Result<i64, NoUnit>
     ensures { told_nearest result ≡ within low high q }
 {
     if low <= q {
         if q <= high {
-            return Unit::Whole(q);
+            return Ok(q);
         }
     }
-    Unit::OutOfLimits
+    Err(NoUnit::OutOfLimits)
 }
 
 // The unit of digits / 2 ^ shift with a sign.
-fn shifted_unit(negative: bool, digits: u64, shift: u64, low: i64, high: i64) -> Unit
+fn shifted_unit(negative: bool, digits: u64, shift: u64, low: i64, high: i64) -> Result<i64, NoUnit>
     requires { digits < 2 ^ 53 }
     ensures { told_nearest result ≡ ratio_unit low high negative digits (2 ^ shift) }
 {
@@ -119,18 +133,18 @@ fn shifted_unit(negative: bool, digits: u64, shift: u64, low: i64, high: i64) ->
 
 // The unit of digits * 2 ^ place / 2 ^ 1075 with a sign, the digits with their hidden bit: past 1075 they are shifted to the left, to 2 ^ 53 units
 // or more, out of all limits.
-fn placed_unit(negative: bool, digits: u64, place: u64, low: i64, high: i64) -> Unit
+fn placed_unit(negative: bool, digits: u64, place: u64, low: i64, high: i64) -> Result<i64, NoUnit>
     requires { (2 ^ 52 ≤ digits) × (digits < 2 ^ 53) × (nat_abs low ≤ 2 ^ 40) × (nat_abs high ≤ 2 ^ 40) }
     ensures { told_nearest result ≡ ratio_unit low high negative (digits * 2 ^ place) (2 ^ 1075) }
 {
     if 1075 < place {
-        return Unit::OutOfLimits;
+        return Err(NoUnit::OutOfLimits);
     }
     shifted_unit(negative, digits, 1075 - place, low, high)
 }
 
 // The unit of a number by its fields. Zero and subnormal numbers, whose field is 0, have the power of two of the field 1.
-fn fields_unit(f: Fields, k: u64, low: i64, high: i64) -> Unit
+fn fields_unit(f: Fields, k: u64, low: i64, high: i64) -> Result<i64, NoUnit>
     requires { (f.exponent < 2048) × (f.fraction < 2 ^ 52) × (k ≤ 52) × (nat_abs low ≤ 2 ^ 40) × (nat_abs high ≤ 2 ^ 40) }
     ensures { told_nearest result ≡ fields_unit k low high f }
 {
@@ -141,7 +155,7 @@ fn fields_unit(f: Fields, k: u64, low: i64, high: i64) -> Unit
 }
 
 // The whole number nearest to x * 2 ^ k, ties to even, where it is from low to high.
-pub fn unit_within(x: f64, k: u64, low: i64, high: i64) -> Unit
+pub fn unit_within(x: f64, k: u64, low: i64, high: i64) -> Result<i64, NoUnit>
     requires { (k ≤ 52) × (nat_abs low ≤ 2 ^ 40) × (nat_abs high ≤ 2 ^ 40) }
     ensures { told_nearest result ≡ unit_within k low high x }
 {
@@ -149,7 +163,7 @@ pub fn unit_within(x: f64, k: u64, low: i64, high: i64) -> Unit
         let f = fields_of(f64::to_bits(x));
         return fields_unit(f, k, low, high);
     }
-    Unit::NotFinite
+    Err(NoUnit::NotFinite)
 }
 
 // q / 2 ^ k, with nothing lost: a lossless cast and an exact division by a power of two.

@@ -7,10 +7,11 @@ ghost use Rattle.unit_nearest.specs.Doubles.{unit_within, told_nearest};
 ghost use Rattle.unit_types.specs.Narrow.{Narrow};
 ghost use Rattle.unit_turn.specs.Turning.{on_circle, top_of, brought, apart_by};
 
+use unit_nearest::NoUnit;
 use unit_types::{TURN, TypeRow};
 
 // The unit of a double within the limits of a row, before T becomes 0.
-pub fn unit_in(row: TypeRow, x: f64) -> unit_nearest::Unit
+pub fn unit_in(row: TypeRow, x: f64) -> Result<i64, NoUnit>
     requires { Narrow row }
     ensures { told_nearest result ≡ unit_within row.k row.low row.high x }
 {

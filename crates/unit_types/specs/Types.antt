@@ -2,10 +2,7 @@
 use Rattle.std.specs.Prelude.{ℕ, ◌-◌, ◌^◌, Bool, true, false, List, [], ◌∷◌, ℤ, pos, neg_ℤ, get_or}
 use Rattle.num_whole.specs.Tests.{pick, between}
 use Rattle.num_whole.specs.Answer.{Answered, given, refused}
-use Rattle.refusal.specs.Number.{number_of}
 use Rattle.unit_types.specs.declared.TypeRow.{TypeRow}
-use Rattle.unit_types.specs.declared.RowAnswer.{RowAnswer}
-use Rattle.unit_types.specs.declared.RowAnswer.TheVariants as Rows
 
 -- "T = 1,686,629,713 is one turn"
 abbrev pub turn : ℕ
@@ -46,7 +43,3 @@ row_of_type t = get_or rows (t - 1) range
 -- "type not 1 to 10": 11
 unfoldable pub row_at : ℕ → Answered TypeRow
 row_at t = pick (is_type t) (given (row_of_type t)) (refused 11)
-
-abbrev pub told_row : RowAnswer → Answered TypeRow
-told_row (Rows.Is r) = given r
-told_row (Rows.Refused r) = refused (number_of r)

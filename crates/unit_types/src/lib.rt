@@ -2,7 +2,8 @@
 #![tactic(auto)]
 
 ghost use Rattle.std.specs.Prelude.{◌≡◌, false};
-ghost use Rattle.unit_types.specs.Types.{row, is_type, row_of_type, row_at, told_row};
+ghost use Rattle.refusal.specs.Told.{told};
+ghost use Rattle.unit_types.specs.Types.{row, is_type, row_of_type, row_at};
 
 use refusal::Refusal;
 
@@ -18,12 +19,6 @@ pub struct TypeRow {
     pub step: u64,
     pub factor: u64,
     pub turns: bool,
-}
-
-#[derive(Clone, Copy)]
-pub enum RowAnswer {
-    Is(TypeRow),
-    Refused(Refusal),
 }
 
 // Whether a number is that of a type.
@@ -80,12 +75,12 @@ pub fn table_row(kind: u32) -> TypeRow
 }
 
 // The row of a type, or 11.
-pub fn row_of(kind: u32) -> RowAnswer
-    ensures { told_row result ≡ row_at kind }
+pub fn row_of(kind: u32) -> Result<TypeRow, Refusal>
+    ensures { told result ≡ row_at kind }
 {
     if is_type(kind) {
-        RowAnswer::Is(table_row(kind))
+        Ok(table_row(kind))
     } else {
-        RowAnswer::Refused(Refusal::NoType)
+        Err(Refusal::NoType)
     }
 }

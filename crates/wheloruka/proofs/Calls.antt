@@ -9,10 +9,10 @@ use lib.IntN.{ℤ}
 use lib.ListN.{length}
 use Rattle.num_whole.specs.Tests.{same, pick}
 use Rattle.num_whole.specs.Answer.{Answered, given, refused}
-use Rattle.num_whole.proofs.Cases.{yes, no, is_same, not_same, same_true, same_false, by_cases}
+use Rattle.num_whole.proofs.Cases.{refused_not, yes, no, is_same, not_same, same_true, same_false, by_cases}
 use Rattle.byte_words.specs.Words.{lay}
 use Rattle.refusal.specs.Number.{number_of}
-use Rattle.refusal.specs.First.{answered, number_in}
+use Rattle.refusal.specs.First.{answered, number_in, value_or, verdict_of}
 use Rattle.refusal.specs.declared.Refusal.{Refusal}
 use Rattle.refusal.proofs.Apart.{not_none}
 use Rattle.refusal.proofs.Firsts.{unless_true, unless_false, first_pass, first_stop, first_one, answered_given, answered_refused}
@@ -24,11 +24,9 @@ use Rattle.take_state.proofs.Rooms.{by_given, by_refused}
 use Rattle.take_laws.specs.Taking.{take_answer, take_step, run_answers}
 use Rattle.call_heading.specs.Lent.{heading_in, has_both}
 use Rattle.call_tally.specs.Tally.{tally_bytes}
-use Rattle.byte_section.specs.Told.{on_done}
 use Rattle.call_rooms.specs.Result.{result_number, result_left, told_values, one}
 use Rattle.call_rooms.proofs.Rooms.{as_refused}
-use Rattle.call_files.specs.Taking.{seen_numbers}
-use Rattle.call_files.proofs.Rooms.{is_done, is_kept}
+use Rattle.call_files.specs.Taking.{seen_numbers, tally_left}
 use Rattle.wheloruka.specs.Taking.{Lent, lent, state_in, lent_number, call_number, call_left, answers_left, seen_values, carriers_values, carries_values}
 
 -- ---- any call: k is the number that follows
@@ -73,35 +71,28 @@ module _ (b : List ℕ) (x : Lent) (k : ℕ) where
           let is = number_refused whole e n a i in
           (is, ap₂ (λ y z. lent x.tally y z) f g ∙ left_kept (λ z. not_none e (sym i ∙ is ∙ z)))
 
--- ---- a call that answers w: s is the state that it leaves, as it was where the number is not 0
-module _ (b : List ℕ) (x : Lent) (k : ℕ) (s : State) (whole : has_both b x.tally ≡ true) (w : Answered (Unit {0})) (told_values : w ≡ answered k tt)
-    (m r : List ℤ) (u : Tally) (after : state_of m r u ≡ s) (as_it_was : (k ≡ 0 → ⊥) → s ≡ state_in x)
-  where
-    pub gives : {n : ℕ} {t : List ℕ} → (n ≡ number_in w) × (t ≡ on_done w (lay x.tally 0 (tally_bytes u)) x.tally)
-        → (n ≡ call_number b x k) × (lent t m r ≡ call_left b x k s)
-    gives put =
-        by_cases (same k 0)
-        (λ y.
-        let e : w ≡ given tt = told_values ∙ sym (answered_given k tt (same_true k 0 y)) in
-        let new = is_done w (lay x.tally 0 (tally_bytes u)) x.tally e refl in
-        let d = done b x k s whole m r _ u (put.1 ∙ sym new.1) (sym e ∙ told_values) after in
-        (put.0 ∙ sym new.0 ∙ d.0, d.1))
-        (λ y.
-        let some : k ≡ 0 → ⊥ = same_false k 0 y in
-        let e : w ≡ refused k = told_values ∙ sym (answered_refused k tt some) in
-        let old = is_kept w (lay x.tally 0 (tally_bytes u)) x.tally e refl in
-        let back = after ∙ as_it_was some in
-        let is = number_is b x k whole in
-        let was = ap₂ (λ p q. lent x.tally p q) (ap (λ v. v.matrix) back) (ap (λ v. v.rights) back) in
-        (put.0 ∙ sym old.0 ∙ sym is, ap (λ p. lent p m r) (put.1 ∙ sym old.1) ∙ was ∙ left_kept b x k s (λ z. some (sym is ∙ z))))
+-- ---- a call that answers w: s is the state that it leaves, its sums as they were where the number is not 0
+module _ (b : List ℕ) (x : Lent) (k : ℕ) (s : State) (whole : has_both b x.tally ≡ true) (m r : List ℤ) (before : Tally) (as_it_was : (k ≡ 0 → ⊥) → (s.matrix ≡ x.matrix) × (s.rights ≡ x.rights)) where
+  pub gives : (w : Answered Tally) → verdict_of w ≡ answered k tt → state_of m r (value_or before w) ≡ s → {n : ℕ} {t : List ℕ} → (n ≡ number_in w) × (t ≡ tally_left w x.tally)
+      → (n ≡ call_number b x k) × (lent t m r ≡ call_left b x k s)
+  unfolding verdict_of value_or number_in tally_left
+  gives (given u) e after put = let d = done b x k s whole m r _ u put.1 e after in (put.0 ∙ d.0, d.1)
+  gives (refused j) e after put =
+      let some : k ≡ 0 → ⊥ = λ z. refused_not (sym e) (sym (answered_given k tt z)) in
+      let is = number_is b x k whole in
+      let was = as_it_was some in (
+        put.0 ∙ sym (by_refused j k e) ∙ sym is,
+        ap (λ p. lent p m r) put.1 ∙ ap₂ (λ p q. lent x.tally p q) (ap (λ v. v.matrix) after ∙ was.0) (ap (λ v. v.rights) after ∙ was.1)
+            ∙ left_kept b x k s (λ z. some (sym is ∙ z)),
+      )
+
+pub sums_kept : {u v : State} → u ≡ v → (u.matrix ≡ v.matrix) × (u.rights ≡ v.rights)
+sums_kept e = (ap (λ s. s.matrix) e, ap (λ s. s.rights) e)
 
 -- ---- a refusal leaves the state as it was
-module _ (h : Heading) (m r : List ℤ) (e : Refusal) (is : refused (number_of e) ≡ answered (room_number h m r) (tt {0})) where
-  pub start_kept : ((started h m r).matrix ≡ m) × ((started h m r).rights ≡ r)
-  unfolding started
-  start_kept =
-      let same : started h m r ≡ state_of m r empty_tally = sym (no _ _ _ (not_same _ 0 (λ z. not_none e (sym (by_refused _ _ is) ∙ z))) refl) in
-      (ap (λ s. s.matrix) same, ap (λ s. s.rights) same)
+pub start_kept : (h : Heading) (m r : List ℤ) → (room_number h m r ≡ 0 → ⊥) → ((started h m r).matrix ≡ m) × ((started h m r).rights ≡ r)
+unfolding started
+start_kept h m r some = sums_kept (sym (no _ _ _ (not_same _ _ some) refl))
 
 pub take_kept : (h : Heading) (l : List ℕ) (s : State) → (take_answer h l s ≡ 0 → ⊥) → take_step h l s ≡ s
 unfolding take_step

@@ -18,8 +18,8 @@ use Rattle.refusal.proofs.Firsts.{unless_true, unless_false, first_pass, first_s
 use Rattle.byte_section.specs.Writing.{writing_number, written, written_in}
 use Rattle.arc_heading.specs.Judge.{judged}
 use Rattle.norm_system.specs.System.{System}
-use Rattle.norm_read.specs.Normal as normals
-use Rattle.norm_read.specs.Normal.{Normal, read_normal}
+use Rattle.norm_read.specs.Normal.{Normal, read_normal, numbers_of}
+use Rattle.norm_read.specs.declared.NormalRead.{NormalRead}
 use Rattle.call_rooms.specs.Result.{result_number, result_left, told_values, one, room_for, bytes_left}
 use Rattle.call_rooms.proofs.Rooms.{on_refused, part_long, part_left_lem}
 use Rattle.byte_section.proofs.Writing.{left_old, none_laid}
@@ -36,10 +36,10 @@ use Rattle.wheloruka.specs.Writing.{headed_number, state_file_number, state_file
 use Rattle.wheloruka.proofs.Numbers.{as_told}
 
 -- ---- a file that was unpacked
-pub judged_number_lem : (j : Judged Normal) (r : normals.ShownNormal) → r ≡ normals.shown_normal j → judged_number r.verdict ≡ judged_number j
+pub judged_number_lem : (j : Judged Normal) (r : Judged NormalRead) → r ≡ numbers_of j → judged_number r ≡ judged_number j
 unfolding judged_number
-judged_number_lem (good x) r told = ap (λ x. judged_number x.verdict) told
-judged_number_lem (bad number place) r told = ap (λ x. judged_number x.verdict) told
+judged_number_lem (good x) r told = ap judged_number told
+judged_number_lem (bad number place) r told = ap judged_number told
 
 -- ---- any call: what it answers by the length of its room, and what it leaves of a room
 module _ (answer : ℕ → Answered ℕ) (left : List ℕ → List ℕ) (size out : List ℕ) where

@@ -46,9 +46,7 @@ ghost use Rattle.call_files.specs.Writing.{move_call_number, merge_call_number};
 ghost use Rattle.call_files.specs.Arcs.{arc_file, arc_left};
 ghost use Rattle.wheloruka.specs.Writing.{headed_number, state_file, state_file_left};
 
-use byte_section::ReadAnswer;
 use days::Date;
-use refusal::Verdict;
 
 // ---- days
 
@@ -58,7 +56,7 @@ pub extern "C" fn whl_day_of_date(year: u32, month: u32, day: u32, out: &mut [u3
     ensures value { result ≡ result_number (day_values year month day) (length out.old) }
     ensures left { out.new ≡ result_left (day_values year month day) out.old }
 {
-    call_numbers::give_day(out, days::day_of_date(Date { year, month, day }))
+    call_rooms::give_told(out, days::day_of_date(Date { year, month, day }))
 }
 
 // The year, the month and the day of a day number.
@@ -87,7 +85,7 @@ pub extern "C" fn whl_index_of(letter: u32, degree: u32, order: u32, out: &mut [
     ensures value { result ≡ result_number (index_values letter degree order) (length out.old) }
     ensures left { out.new ≡ result_left (index_values letter degree order) out.old }
 {
-    call_numbers::give_index(out, call_numbers::index_by(letter, degree, order))
+    call_rooms::give_told(out, call_numbers::index_by(letter, degree, order))
 }
 
 // ---- units
@@ -98,7 +96,7 @@ pub extern "C" fn whl_unit_of(kind: u32, x: f64, out: &mut [i64]) -> u32
     ensures value { result ≡ result_number (unit_values kind x) (length out.old) }
     ensures left { out.new ≡ result_left (unit_values kind x) out.old }
 {
-    call_numbers::give_unit(out, unit_convert::unit_of(kind, x))
+    call_rooms::give_told(out, unit_convert::unit_of(kind, x))
 }
 
 // The double of a unit of a type.
@@ -107,7 +105,7 @@ pub extern "C" fn whl_double_of(kind: u32, unit: i64, out: &mut [f64]) -> u32
     ensures value { result ≡ result_number (double_values kind unit) (length out.old) }
     ensures left { out.new ≡ result_left (double_values kind unit) out.old }
 {
-    call_numbers::give_double(out, unit_convert::double_of_unit(kind, unit))
+    call_rooms::give_told(out, unit_convert::double_of_unit(kind, unit))
 }
 
 // The residual of a measurement: observed minus computed, in units.
@@ -116,7 +114,7 @@ pub extern "C" fn whl_residual(kind: u32, observed: f64, computed: f64, out: &mu
     ensures value { result ≡ result_number (residual_values kind observed computed) (length out.old) }
     ensures left { out.new ≡ result_left (residual_values kind observed computed) out.old }
 {
-    call_numbers::give_unit(out, call_numbers::residual_as(kind, observed, computed))
+    call_rooms::give_told(out, call_numbers::residual_as(kind, observed, computed))
 }
 
 // ---- files
@@ -136,9 +134,7 @@ pub extern "C" fn whl_read(file: &[u8], heading: &mut [u8], out: &mut [u64]) -> 
 pub extern "C" fn whl_read_place(file: &[u8]) -> u64
     ensures { result ≡ refusal_place (read_arc file.now) }
 {
-    let r = arc_read::read(file);
-    let answer = r.answer;
-    call_files::read_place(answer)
+    call_files::read_place(arc_read::read(file))
 }
 
 // An arc file of a heading and a run of records.
@@ -166,19 +162,19 @@ pub extern "C" fn whl_normal_read(file: &[u8], out: &mut [u64]) -> u32
     ensures value { result ≡ result_number (normal_values (read_normal file.now)) (length out.old) }
     ensures left { out.new ≡ result_left (normal_values (read_normal file.now)) out.old }
 {
-    let r = norm_read::read(file);
-    let answer = r.answer;
-    match answer {
-        ReadAnswer::Refused(e, _) => refusal::number(e),
-        ReadAnswer::Read => call_rooms::give_seven(
+    match norm_read::read(file) {
+        Err(fault) => refusal::number(fault.why),
+        Ok(r) => call_rooms::give(
             out,
-            r.arcs as u64,
-            r.parameters as u64,
-            r.matrix as u64,
-            r.rights as u64,
-            r.totals as u64,
-            r.stored as u64,
-            form_number(r.is_small),
+            &[
+                r.arcs as u64,
+                r.parameters as u64,
+                r.matrix as u64,
+                r.rights as u64,
+                r.totals as u64,
+                r.stored as u64,
+                form_number(r.is_small),
+            ],
         ),
     }
 }
@@ -188,9 +184,7 @@ pub extern "C" fn whl_normal_read(file: &[u8], out: &mut [u64]) -> u32
 pub extern "C" fn whl_normal_place(file: &[u8]) -> u64
     ensures { result ≡ refusal_place (read_normal file.now) }
 {
-    let r = norm_read::read(file);
-    let answer = r.answer;
-    call_files::read_place(answer)
+    call_files::read_place(norm_read::read(file))
 }
 
 // ---- taking
@@ -208,15 +202,7 @@ pub extern "C" fn whl_start(
 {
     if call_heading::has_both(heading, tally) {
         let started = take_state::start(call_heading::heading_in(heading), matrix, rights);
-        let answer = started.answer;
-        let t = started.tally;
-        match answer {
-            Verdict::Sound => {
-                call_tally::put_tally(t, tally);
-                0
-            }
-            Verdict::Refused(e) => refusal::number(e),
-        }
+        call_files::give_taken(started, tally)
     } else {
         20
     }
@@ -231,8 +217,8 @@ pub extern "C" fn whl_judge(heading: &[u8], tally: &[u8], matrix: &[i64], rights
         let h = call_heading::heading_in(heading);
         let t = call_tally::tally_in(tally);
         match take_state::judge_state(h, t, matrix, rights) {
-            Verdict::Sound => 0,
-            Verdict::Refused(e) => refusal::number(e),
+            Ok(()) => 0,
+            Err(e) => refusal::number(e),
         }
     } else {
         20
@@ -322,7 +308,7 @@ pub extern "C" fn whl_carriers(
     if call_heading::has_both(heading, tally) {
         let h = call_heading::heading_in(heading);
         let t = call_tally::tally_in(tally);
-        call_files::give_carriers(out, take_state::carried_by(h, t, matrix, rights, parameter))
+        call_rooms::give_told(out, take_state::carried_by(h, t, matrix, rights, parameter))
     } else {
         20
     }
@@ -424,9 +410,7 @@ pub extern "C" fn whl_normal_unpack(
     ensures matrix { matrix.new ≡ filled matrix_of (unpack_normal file.now (length heads.old) (length matrix.old) (length rights.old)) matrix.old }
     ensures rights { rights.new ≡ filled rights_of (unpack_normal file.now (length heads.old) (length matrix.old) (length rights.old)) rights.old }
 {
-    let r = norm_unpack::unpack(file, heads, matrix, rights);
-    let answer = r.answer;
-    call_files::read_number(answer)
+    call_files::read_number(norm_unpack::unpack(file, heads, matrix, rights))
 }
 
 // The normal file of a system in three rooms.
@@ -456,8 +440,8 @@ fn judge_headed(heading: &[u8], tally: &[u8]) -> u32
     let k = call_heading::judge_head(heading);
     if k == 0 {
         match arc_heading::judge(call_heading::heading_in(heading)) {
-            Verdict::Refused(e) => refusal::number(e),
-            Verdict::Sound => if call_tally::has_tally(tally) { 0 } else { 20 },
+            Err(e) => refusal::number(e),
+            Ok(()) => if call_tally::has_tally(tally) { 0 } else { 20 },
         }
     } else {
         k

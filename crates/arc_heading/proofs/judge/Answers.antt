@@ -7,27 +7,27 @@ use Rattle.arc_heading.proofs.judge.Goals as goal
 
 pub fields_ok-requires : goal.fields_ok-requires
 unfolding counts_ok
-fields_ok-requires c = counts_fit_lem c.args.h (sym c.numbers_ok.ensures ∙ c.if-numbers_ok.true)
+fields_ok-requires c = counts_fit_lem c.args.h (sym c.numbers_ok.ensures ∙ c.if-not-numbers_ok.false)
 
 pub orders_ok-requires : goal.orders_ok-requires
 unfolding counts_ok
-orders_ok-requires c = counts_fit_lem c.args.h (sym c.numbers_ok.ensures ∙ c.if-numbers_ok.true)
+orders_ok-requires c = counts_fit_lem c.args.h (sym c.numbers_ok.ensures ∙ c.if-not-numbers_ok.false)
 
-pub returns-then-orders_ok : goal.returns-then-orders_ok
+pub returns : goal.returns
 unfolding judged counts_ok
-returns-then-orders_ok c =
-    yes _ _ _ (sym c.numbers_ok.ensures ∙ c.if-numbers_ok.true) (yes _ _ _ (sym c.fields_ok.ensures ∙ c.if-fields_ok.true) (yes _ _ _ (sym c.orders_ok.ensures ∙ c.if-orders_ok.true) refl))
+returns c =
+    yes _ _ _ (sym c.numbers_ok.ensures ∙ c.if-not-numbers_ok.false) (yes _ _ _ (sym c.fields_ok.ensures ∙ c.if-not-fields_ok.false) (yes _ _ _ (sym c.orders_ok.ensures ∙ c.if-not-orders_ok.false) refl))
 
-pub returns-else-orders_ok : goal.returns-else-orders_ok
+pub returns-then-not-orders_ok : goal.returns-then-not-orders_ok
 unfolding judged counts_ok
-returns-else-orders_ok c =
-    yes _ _ _ (sym c.numbers_ok.ensures ∙ c.if-numbers_ok.true) (yes _ _ _ (sym c.fields_ok.ensures ∙ c.if-fields_ok.true) (no _ _ _ (sym c.orders_ok.ensures ∙ c.if-orders_ok.false) refl))
+returns-then-not-orders_ok c =
+    yes _ _ _ (sym c.numbers_ok.ensures ∙ c.if-not-numbers_ok.false) (yes _ _ _ (sym c.fields_ok.ensures ∙ c.if-not-fields_ok.false) (no _ _ _ (sym c.orders_ok.ensures ∙ c.if-not-orders_ok.true) refl))
 
-pub returns-else-fields_ok : goal.returns-else-fields_ok
+pub returns-then-not-fields_ok : goal.returns-then-not-fields_ok
 unfolding judged counts_ok
-returns-else-fields_ok c =
-    yes _ _ _ (sym c.numbers_ok.ensures ∙ c.if-numbers_ok.true) (no _ _ _ (sym c.fields_ok.ensures ∙ c.if-fields_ok.false) refl)
+returns-then-not-fields_ok c =
+    yes _ _ _ (sym c.numbers_ok.ensures ∙ c.if-not-numbers_ok.false) (no _ _ _ (sym c.fields_ok.ensures ∙ c.if-not-fields_ok.true) refl)
 
-pub returns-else-numbers_ok : goal.returns-else-numbers_ok
+pub returns-then-not-numbers_ok : goal.returns-then-not-numbers_ok
 unfolding judged counts_ok
-returns-else-numbers_ok c = no _ _ _ (sym c.numbers_ok.ensures ∙ c.if-numbers_ok.false) refl
+returns-then-not-numbers_ok c = no _ _ _ (sym c.numbers_ok.ensures ∙ c.if-not-numbers_ok.true) refl

@@ -8,6 +8,3 @@ use Rattle.arc_record.proofs.copy_partials.Given as goal
 
 abbrev pub invariant-loop-i : goal.invariant-loop-i
 invariant-loop-i l = (l.i ≤ l.n) × (length l.out ≡ l.n) × (l.at ≡ 32 + 2 * l.i) × (sets l.out l.i (partials_from (l.n - l.i) l.bytes l.at) ≡ partials_in l.n l.bytes)
-
-abbrev pub decreases-loop-i : goal.decreases-loop-i
-decreases-loop-i l = l.n - l.i

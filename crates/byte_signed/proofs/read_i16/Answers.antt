@@ -9,4 +9,4 @@ use Rattle.byte_signed.proofs.read_i16.Goals as goal
 
 pub returns : goal.returns
 unfolding signed_word
-returns c = to_z-of_z w16 c.signed16.result (search rules) ∙ c.signed16.ensures ∙ ap (to_z w16) c.read_u16.ensures
+returns c = to_z-of_z w16 c.cast_signed.result (search rules) ∙ c.cast_signed.ensures ∙ ap (to_z w16) c.read_u16.ensures

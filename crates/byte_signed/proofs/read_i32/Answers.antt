@@ -9,4 +9,4 @@ use Rattle.byte_signed.proofs.read_i32.Goals as goal
 
 pub returns : goal.returns
 unfolding signed_word
-returns c = to_z-of_z w32 c.signed32.result (search rules) ∙ c.signed32.ensures ∙ ap (to_z w32) c.read_u32.ensures
+returns c = to_z-of_z w32 c.cast_signed.result (search rules) ∙ c.cast_signed.ensures ∙ ap (to_z w32) c.read_u32.ensures

@@ -9,4 +9,4 @@ use Rattle.byte_signed.proofs.read_i64.Goals as goal
 
 pub returns : goal.returns
 unfolding signed_word
-returns c = to_z-of_z w64 c.signed64.result (search rules) ∙ c.signed64.ensures ∙ ap (to_z w64) c.read_u64.ensures
+returns c = to_z-of_z w64 c.cast_signed.result (search rules) ∙ c.cast_signed.ensures ∙ ap (to_z w64) c.read_u64.ensures

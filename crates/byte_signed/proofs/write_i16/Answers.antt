@@ -10,4 +10,4 @@ pub returns : goal.returns
 unfolding signed_bytes
 returns c =
     c.write_u16.ensures
-    ∙ ap (λ v. lay c.args.s.now c.args.at (bytes_of 2 v)) (c.bits16.ensures ∙ ap (of_z w16) (to_z-of_z w16 c.args.z c.ranges.z))
+    ∙ ap (λ v. lay c.args.s.now c.args.at (bytes_of 2 v)) (c.cast_unsigned.ensures ∙ ap (of_z w16) (to_z-of_z w16 c.args.z c.ranges.z))

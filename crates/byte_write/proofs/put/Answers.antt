@@ -1,25 +1,23 @@
-use native.Mathlib.Omega.{arith}
-use mathlib.Core.Path.{refl, sym, ◌∙◌}
-use Prim.Native.Nat.{◌+◌, ◌-◌, ◌%◌}
-use native.Mathlib.Nat.{add-zero, sub-zero}
-use lib.ListN.{length-set}
-use Rattle.byte_words.proofs.Words.{write_turn, write_end}
+use Rattle.std.proofs.Common.{◌≡◌, length, append-nil, sym, ◌∙◌, ap, arith, ◌++◌}
+use native.Mathlib.Nat.{zero-add, sub-zero}
+use lib.ListN.{drop_of_length-le}
+use Rattle.byte_words.specs.Words.{bytes_of}
+use Rattle.byte_words.proofs.Words.{length_bytes_of, lay_front, write_turn, write_end}
 use Rattle.byte_write.proofs.put.Goals as goal
 
-pub loop-i-init : goal.loop-i-init
-loop-i-init c = (omega arith, (refl, rw (add-zero, sub-zero)))
+pub loop-x-init : goal.loop-x-init
+loop-x-init c =
+    let room = c.args.room.now in
+    let bs = bytes_of (length room) c.args.number in
+    let n : length bs ≡ length room = length_bytes_of _ _ in
+    rw sub-zero (lay_front room bs (omega arith) ∙ ap (λ r. bs ++ r) (drop_of_length-le room (omega arith)) ∙ append-nil bs)
 
-pub loop-i-preserved : goal.loop-i-preserved
-loop-i-preserved c =
-    let l = c.loop-i in
-    let a = c.args in
-    (omega arith, (length-set l.s (a.at + l.i) (l.x % 256) ∙ l.invariant.1.0, sym (write_turn l.s a.at a.k l.x l.i (omega arith)) ∙ l.invariant.1.1))
-
-pub shape_of-s : goal.shape_of-s
-shape_of-s c = c.loop-i.invariant.1.0
+pub loop-x-preserved : goal.loop-x-preserved
+loop-x-preserved c =
+    let l = c.loop-x in
+    sym (simp zero-add at (write_turn l.x-items 0 (length c.args.room.now) l.left l.x-index (omega arith))) ∙ l.invariant
 
 pub returns : goal.returns
 returns c =
-    let l = c.loop-i in
-    let a = c.args in
-    sym (write_end l.s a.at a.k l.x l.i (omega arith)) ∙ l.invariant.1.1
+    let l = c.loop-x in
+    sym (simp zero-add at (write_end l.x-items 0 (length c.args.room.now) l.left l.x-index (omega arith))) ∙ l.invariant

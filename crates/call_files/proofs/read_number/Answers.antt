@@ -1,13 +1,13 @@
 -- `call_files::read_number` meets its contract.
 use mathlib.Core.Path.{sym, ap, ◌∙◌}
-use Rattle.byte_section.specs.Told.{told_answer}
+use Rattle.refusal.specs.Told.{told_placed}
 use Rattle.call_files.specs.Reading.{judged_number}
 use Rattle.call_files.proofs.read_number.Goals as goal
 
-pub returns-in-Refused : goal.returns-in-Refused
+pub returns-in-Err : goal.returns-in-Err
 unfolding judged_number
-returns-in-Refused c = c.number.ensures ∙ sym (ap (λ a. judged_number (told_answer a)) c.in-Refused.is)
+returns-in-Err g c = c.number.ensures ∙ sym (ap (λ a. judged_number (told_placed a)) c.in-Err.is)
 
-pub returns-in-Read : goal.returns-in-Read
+pub returns-in-Ok : goal.returns-in-Ok
 unfolding judged_number
-returns-in-Read c = sym (ap (λ a. judged_number (told_answer a)) c.in-Read.is)
+returns-in-Ok g c = sym (ap (λ a. judged_number (told_placed a)) c.in-Ok.is)

@@ -1,13 +1,13 @@
 -- `call_files::read_place` meets its contract.
 use mathlib.Core.Path.{sym, ap}
-use Rattle.byte_section.specs.Told.{told_answer}
+use Rattle.refusal.specs.Told.{told_placed}
 use Rattle.call_files.specs.Reading.{refusal_place}
 use Rattle.call_files.proofs.read_place.Goals as goal
 
-pub returns-in-Refused : goal.returns-in-Refused
+pub returns-in-Err : goal.returns-in-Err
 unfolding refusal_place
-returns-in-Refused c = sym (ap (λ a. refusal_place (told_answer a)) c.in-Refused.is)
+returns-in-Err g c = sym (ap (λ a. refusal_place (told_placed a)) c.in-Err.is)
 
-pub returns-in-Read : goal.returns-in-Read
+pub returns-in-Ok : goal.returns-in-Ok
 unfolding refusal_place
-returns-in-Read c = sym (ap (λ a. refusal_place (told_answer a)) c.in-Read.is)
+returns-in-Ok g c = sym (ap (λ a. refusal_place (told_placed a)) c.in-Ok.is)

@@ -14,30 +14,30 @@ returns-then-b-lt16 c =
       left = got.1;
     }
 
-pub returns-then-has_heading : goal.returns-then-has_heading
-returns-then-has_heading c =
+pub returns : goal.returns
+returns c =
     let a = c.args in
     let h = c.heading_in-h.ensures in
-    let counted = ap (λ k. allowed k a.run.now) (sym h) ∙ sym c.is_allowed.ensures ∙ c.if-is_allowed.true in
-    let there = sym c.has_heading.ensures ∙ c.if-has_heading.true in
+    let counted = ap (λ k. allowed k a.run.now) (sym h) ∙ sym c.is_allowed.ensures ∙ c.if-not-is_allowed.false in
+    let there = sym c.has_heading.ensures ∙ c.if-not-has_heading.false in
     let put = arc_whole _ _ a.out.now (omega arith) counted there in record {
       result_value = c.write.ensures.answer ∙ ap (λ k. write_arc k a.run.now (length a.out.now)) h ∙ put.0;
       left = c.write.ensures.left ∙ ap (λ k. arc_left_in k a.run.now a.out.now) h ∙ put.1;
     }
 
-pub returns-else-has_heading : goal.returns-else-has_heading
-returns-else-has_heading c =
+pub returns-then-not-has_heading : goal.returns-then-not-has_heading
+returns-then-not-has_heading c =
     let a = c.args in
     let h = c.heading_in-h.ensures in
-    let counted = ap (λ k. allowed k a.run.now) (sym h) ∙ sym c.is_allowed.ensures ∙ c.if-is_allowed.true in let got = arc_cut _ _ _ (omega arith) counted (sym c.has_heading.ensures ∙ c.if-has_heading.false) in record {
+    let counted = ap (λ k. allowed k a.run.now) (sym h) ∙ sym c.is_allowed.ensures ∙ c.if-not-is_allowed.false in let got = arc_cut _ _ _ (omega arith) counted (sym c.has_heading.ensures ∙ c.if-not-has_heading.true) in record {
       result_value = got.0;
       left = got.1;
     }
 
-pub returns-else-is_allowed : goal.returns-else-is_allowed
-returns-else-is_allowed c =
+pub returns-then-not-is_allowed : goal.returns-then-not-is_allowed
+returns-then-not-is_allowed c =
     let a = c.args in
-    let h = c.heading_in-h.ensures in let got = arc_many _ _ _ (omega arith) (ap (λ k. allowed k a.run.now) (sym h) ∙ sym c.is_allowed.ensures ∙ c.if-is_allowed.false) in record {
+    let h = c.heading_in-h.ensures in let got = arc_many _ _ _ (omega arith) (ap (λ k. allowed k a.run.now) (sym h) ∙ sym c.is_allowed.ensures ∙ c.if-not-is_allowed.true) in record {
       result_value = got.0;
       left = got.1;
     }

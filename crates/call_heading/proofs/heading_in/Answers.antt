@@ -9,8 +9,8 @@ returns c =
       c.read_u16-2.ensures,
       c.read_u16.ensures,
       c.load_settings.ensures,
-      c.stations_in-listed.ensures,
-      c.labels_in-labels.ensures,
+      c.stations_in.ensures,
+      c.labels_in.ensures,
       c.held-m.ensures,
       c.held-n.ensures,
     )

@@ -11,6 +11,3 @@ use Rattle.call_heading.proofs.labels_in.Given as goal
 abbrev pub invariant-loop-i : goal.invariant-loop-i
 invariant-loop-i l =
     (l.i ≤ l.n) × (l.at ≡ 16 + 16 * l.i) × (sets l.labels l.i (stands (label_at l.b) 16 (l.n - l.i) l.at) ≡ padded 50 no_label (stands (label_at l.b) 16 l.n 16))
-
-abbrev pub decreases-loop-i : goal.decreases-loop-i
-decreases-loop-i l = l.n - l.i

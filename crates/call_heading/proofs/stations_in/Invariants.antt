@@ -11,6 +11,3 @@ use Rattle.call_heading.proofs.stations_in.Given as goal
 abbrev pub invariant-loop-i : goal.invariant-loop-i
 invariant-loop-i l =
     (l.i ≤ l.n) × (l.at ≡ l.start + 8 * l.i) × (sets l.listed l.i (stands (station_at l.b) 8 (l.n - l.i) l.at) ≡ padded 16 no_station (stands (station_at l.b) 8 l.n l.start))
-
-abbrev pub decreases-loop-i : goal.decreases-loop-i
-decreases-loop-i l = l.n - l.i

@@ -1,10 +1,11 @@
 -- `call_part::has_state` meets its contract.
 use mathlib.Core.Path.{sym, ◌∙◌}
-use Rattle.num_whole.proofs.Cases.{holds, fails}
+use Rattle.num_whole.proofs.Cases.{holds}
+use Rattle.part_place.proofs.Places.{stops}
 use Rattle.call_part.proofs.has_state.Goals as goal
 
 pub returns-then-has_position : goal.returns-then-has_position
 returns-then-has_position c = holds _ _ (sym c.has_position.ensures ∙ c.if-has_position.true) c.has_tally.ensures
 
 pub returns-else-has_position : goal.returns-else-has_position
-returns-else-has_position c = fails _ _ (sym c.has_position.ensures ∙ c.if-has_position.false)
+returns-else-has_position c = stops _ c.has_position.ensures (sym c.has_position.ensures ∙ c.if-has_position.false)

@@ -14,6 +14,3 @@ invariant-loop-i l =
     × (length l.out ≡ length l.initial.out)
     × (l.at ≡ 8 + 4 * l.i)
     × (lay l.initial.out 8 (encoded (bytes_of 4) l.counts) ≡ lay l.out l.at (encoded (bytes_of 4) (rest l.counts 16 l.i)))
-
-abbrev pub decreases-loop-i : goal.decreases-loop-i
-decreases-loop-i l = 16 - l.i

@@ -14,6 +14,3 @@ invariant-loop-i l =
     × (length l.out ≡ length l.initial.out)
     × (l.at ≡ 1352 + 2 * l.i)
     × (lay l.initial.out 1352 (encoded (bytes_of 2) l.marks) ≡ lay l.out l.at (encoded (bytes_of 2) (rest l.marks 50 l.i)))
-
-abbrev pub decreases-loop-i : goal.decreases-loop-i
-decreases-loop-i l = 50 - l.i

@@ -14,6 +14,3 @@ invariant-loop-i l =
     × (length l.out ≡ length l.initial.out)
     × (l.at ≡ l.start + 8 * l.i)
     × (lay l.initial.out l.start (encoded (bytes_of 8) l.row.times) ≡ lay l.out l.at (encoded (bytes_of 8) (rest l.row.times 10 l.i)))
-
-abbrev pub decreases-loop-i : goal.decreases-loop-i
-decreases-loop-i l = 10 - l.i

@@ -16,6 +16,3 @@ invariant-loop-i l =
     × (l.at ≡ 72 + 80 * l.i)
     × (lay l.initial.out 72 (encoded row_bytes l.t.rows) ≡ lay l.out l.at (encoded row_bytes (rest l.t.rows 16 l.i)))
     × (length (encoded row_bytes l.t.rows) ≡ 80 * l.i + length (encoded row_bytes (rest l.t.rows 16 l.i)))
-
-abbrev pub decreases-loop-i : goal.decreases-loop-i
-decreases-loop-i l = 16 - l.i

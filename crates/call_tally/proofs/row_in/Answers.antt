@@ -1,18 +1,10 @@
-use Prim.Native.Nat.{◌-◌}
-use native.Mathlib.Omega.{arith}
-use mathlib.Core.Path.{sym, ap, ◌∙◌}
+-- `call_tally::row_in` meets its contract: each element is what stands at its place.
+use Rattle.std.proofs.Common.{ap, rules}
+use Rattle.byte_words.specs.Words.{word}
 use Rattle.call_tally.specs.Tally.{times_row_at}
-use Rattle.byte_words.proofs.Stands.{put_end, put_turn}
-use Rattle.call_tally.proofs.Loops.{fill_whole}
-use borrow.Author.Rules.{rules}
+use Rattle.call_tally.proofs.Made.{all_stand}
 use Rattle.call_tally.proofs.row_in.Goals as goal
-
-pub loop-i-init : goal.loop-i-init
-loop-i-init c = (search rules, search rules, fill_whole _ _ 10 _ 0)
-
-pub loop-i-preserved : goal.loop-i-preserved
-loop-i-preserved c = (search rules, search rules, rw c.read_u64.ensures (sym (put_turn _ _ _ _ _ _ (omega arith)) ∙ c.loop-i.invariant.2))
 
 pub returns : goal.returns
 unfolding times_row_at
-returns c = ap (λ l. record { times = l }) (sym (put_end _ _ _ _ _ _ (omega arith)) ∙ c.loop-i.invariant.2)
+returns c = ap (λ l. record { times = l }) (all_stand (word 8 c.args.b.now) 8 10 c.args.start 0 (λ i y q r. search rules) c.from_fn.ensures.items)

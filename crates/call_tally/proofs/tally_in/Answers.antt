@@ -8,7 +8,7 @@ returns c =
     λ i.
     record {
       square = c.read_u64.ensures i;
-      counts = c.counts_in-counts.ensures i;
-      rows = c.rows_in-rows.ensures i;
-      marks = c.marks_in-marks.ensures i;
+      counts = c.counts_in.ensures i;
+      rows = c.rows_in.ensures i;
+      marks = c.marks_in.ensures i;
     }

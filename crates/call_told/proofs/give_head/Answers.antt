@@ -7,7 +7,7 @@ use Rattle.call_told.proofs.give_head.Goals as goal
 pub returns-then-h-heading : goal.returns-then-h-heading
 unfolding head_roomy
 returns-then-h-heading c =
-    let got = head_put _ _ _ _ (is_up_to _ _ c.if-h-heading.true) c.requires.2 c.put_heading.ensures (c.give_two.ensures.value, c.give_two.ensures.left) in record {
+    let got = head_put _ _ _ _ (is_up_to _ _ c.if-h-heading.true) c.requires.2 c.put_heading.ensures (c.give.ensures.value, c.give.ensures.left) in record {
       value = got.0;
       heading = got.1.0;
       left = got.1.1;

@@ -3,4 +3,4 @@ use Rattle.list_lines.proofs.Laws.{label_laid}
 use Rattle.list_lines.proofs.put_label.Goals as goal
 
 pub returns : goal.returns
-returns c = label_laid _ _ _ c.put_decimal-a.ensures c.put_text-b.ensures c.put_decimal.ensures
+returns c = label_laid _ _ _ (rw c.from.ensures at c.put_decimal-a.ensures) c.put_text-b.ensures (rw c.from-2.ensures at c.put_decimal.ensures)

@@ -1,4 +1,3 @@
-use Prim.Native.Nat.{◌-◌}
 use mathlib.Core.Path.{refl, ◌∙◌}
 use native.Mathlib.Omega.{arith}
 use mir.Syntax.{w64}
@@ -35,4 +34,4 @@ loop-i-preserved c =
     )
 
 pub returns : goal.returns
-returns c = lines_end _ _ c.least.ensures (parameters_end _ _ _ _ _ _ (omega arith)) c.loop-i.invariant.3
+returns c = lines_end _ _ c.min.ensures (parameters_end _ _ _ _ _ _ (omega arith)) c.loop-i.invariant.3

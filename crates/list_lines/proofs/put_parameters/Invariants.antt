@@ -1,5 +1,5 @@
 -- `list_lines::put_parameters` meets its contract. The loop's invariant: the lines of the labels left, laid at the place, make the whole.
-use Prim.Native.Nat.{◌-◌, ◌≤◌}
+use Prim.Native.Nat.{◌≤◌}
 use mathlib.Core.Path.{◌≡◌}
 use lib.ListN.{length}
 use Rattle.num_whole.specs.Lists.{rest}
@@ -14,6 +14,3 @@ invariant-loop-i l =
     × (length l.h.labels ≡ 50)
     × (length l.room ≡ length l.initial.room)
     × (laid l.room l.at (parameter_lines l.matrix l.rights l.t.marks l.i (rest l.h.labels l.n l.i)) ≡ laid l.initial.room l.start (parameter_lines l.matrix l.rights l.t.marks 0 (labels_of l.h)))
-
-abbrev pub decreases-loop-i : goal.decreases-loop-i
-decreases-loop-i l = l.n - l.i

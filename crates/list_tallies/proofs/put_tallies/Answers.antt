@@ -14,4 +14,4 @@ loop-k-preserved c =
     (omega arith, omega arith, c.put_tally-at.auto.room ∙ l.invariant.2, lines_turn _ _ _ _ c.put_tally-at.ensures (tallies_turn table l.k (omega arith)) l.invariant.3)
 
 pub returns : goal.returns
-returns c = lines_end _ _ c.least.ensures (tallies_end _ _ (omega arith)) c.loop-k.invariant.3
+returns c = lines_end _ _ c.min.ensures (tallies_end _ _ (omega arith)) c.loop-k.invariant.3

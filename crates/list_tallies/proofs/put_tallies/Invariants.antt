@@ -9,6 +9,3 @@ use Rattle.list_tallies.proofs.put_tallies.Given as goal
 abbrev pub invariant-loop-k : goal.invariant-loop-k
 invariant-loop-k l =
     (1 ≤ l.k) × (l.k ≤ answers_most) × (length l.room ≡ length l.initial.room) × (laid l.room l.at (tally_lines l.table (answers_most - l.k) l.k) ≡ laid l.initial.room l.start (tally_lines l.table 19 1))
-
-abbrev pub decreases-loop-k : goal.decreases-loop-k
-decreases-loop-k l = answers_most - l.k

@@ -7,7 +7,7 @@ use Rattle.list_tallies.proofs.put_tally.Goals as goal
 pub returns-then-n-eq0 : goal.returns-then-n-eq0
 returns-then-n-eq0 c =
     let a = c.args in
-    lines_end _ _ c.least.ensures (sym (tally_none a.table.now a.k c.tally-n.ensures c.if-n-eq0.true)) refl
+    lines_end _ _ c.min.ensures (sym (tally_none a.table.now a.k c.tally-n.ensures c.if-n-eq0.true)) refl
 
 pub returns-else-n-eq0 : goal.returns-else-n-eq0
 returns-else-n-eq0 c =

@@ -12,8 +12,8 @@ overflow_mul-q c = omega (arith, c.requires.2 (omega arith))
 pub overflow_add-begin : goal.overflow_add-begin
 overflow_add-begin c = omega (arith, c.requires.2 (omega arith))
 
-pub label_at-requires-2 : goal.label_at-requires-2
-label_at-requires-2 c = omega (arith, c.requires.2 (omega arith))
+pub label_at-requires-else-p-n : goal.label_at-requires-else-p-n
+label_at-requires-else-p-n c = omega (arith, c.requires.2 (omega arith))
 
-pub returns : goal.returns
-returns c = label_second _ _ _ _ _ _ _ (omega arith) c.label_at-2.ensures
+pub returns-else-p-n : goal.returns-else-p-n
+returns-else-p-n c = label_second _ _ _ _ _ _ _ (omega arith) c.label_at-else-p-n.ensures

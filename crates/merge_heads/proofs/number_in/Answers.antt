@@ -12,5 +12,5 @@ offset_bounds-ys-q c = omega (arith, c.requires (omega arith))
 pub bounds-ys-q : goal.bounds-ys-q
 bounds-ys-q c = c.requires (omega arith)
 
-pub returns : goal.returns
-returns c = number_second _ _ _ _ (omega arith)
+pub returns-else-p-xs : goal.returns-else-p-xs
+returns-else-p-xs c = number_second _ _ _ _ (omega arith)

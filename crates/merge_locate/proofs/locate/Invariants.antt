@@ -13,6 +13,3 @@ invariant-loop-i l =
     × (length l.t ≡ length l.initial.t)
     × (l.m + length (numbers_where (stored_for l.s l.labels l.p l.left) l.i (l.n - l.i)) ≡ length (numbers_where (stored_for l.s l.labels l.p l.left) 0 l.n))
     × (lay l.initial.t 0 (numbers_where (stored_for l.s l.labels l.p l.left) 0 l.n) ≡ lay l.t l.m (numbers_where (stored_for l.s l.labels l.p l.left) l.i (l.n - l.i)))
-
-abbrev pub decreases-loop-i : goal.decreases-loop-i
-decreases-loop-i l = l.n - l.i

@@ -1,6 +1,4 @@
 use mathlib.Core.Path.{sym, ◌∙◌}
-use mathlib.Core.Bool.{true}
-use Prim.Native.Nat.{◌-◌}
 use native.Mathlib.Omega.{arith}
 use borrow.Author.Count.{below_more}
 use Rattle.num_whole.proofs.Tables.{below_every, below_fails}
@@ -12,11 +10,11 @@ loop-i-init c = (omega arith, λ k h. absurd (omega arith))
 
 pub loop-i-preserved : goal.loop-i-preserved
 unfolding agree_at
-loop-i-preserved c = (omega arith, below_more _ _ c.loop-i.invariant.1 (sym c.agree_in.ensures ∙ c.if-agree_in.true))
+loop-i-preserved c = (omega arith, below_more _ _ c.loop-i.invariant.1 (sym c.agree_in.ensures ∙ c.if-not-agree_in.false))
 
-pub returns-else-agree_in : goal.returns-else-agree_in
+pub returns-then-not-agree_in : goal.returns-then-not-agree_in
 unfolding agree_at
-returns-else-agree_in c = sym (below_fails _ _ c.loop-i.i (omega arith) (sym c.agree_in.ensures ∙ c.if-agree_in.false))
+returns-then-not-agree_in c = sym (below_fails _ _ c.loop-i.i (omega arith) (sym c.agree_in.ensures ∙ c.if-not-agree_in.true))
 
 pub returns : goal.returns
 returns c = sym (below_every _ _ (λ k h. c.loop-i.invariant.1 k (omega arith)))

@@ -6,8 +6,8 @@ use Rattle.merge_read.proofs.agree_in.Goals as goal
 pub returns-then-q-m : goal.returns-then-q-m
 returns-then-q-m c = agree_both _ _ _ _ _ _ _ _ (omega arith) (omega arith) c.alike_at.ensures
 
-pub returns-then-p-n : goal.returns-then-p-n
-returns-then-p-n c = agree_left _ _ _ _ _ _ _ _ (omega arith) (omega arith)
+pub returns-else-q-m : goal.returns-else-q-m
+returns-else-q-m c = agree_left _ _ _ _ _ _ _ _ (omega arith) (omega arith)
 
-pub returns : goal.returns
-returns c = agree_right _ _ _ _ _ _ _ _ (omega arith)
+pub returns-else-p-n : goal.returns-else-p-n
+returns-else-p-n c = agree_right _ _ _ _ _ _ _ _ (omega arith)

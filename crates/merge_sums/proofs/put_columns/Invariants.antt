@@ -19,6 +19,3 @@ invariant-loop-j l =
     × Passed l.ta l.j l.d.left
     × Passed l.tb l.j l.d.right
     × (lay l.initial.out l.at (bytes_in (columns_of (both_places l.a l.start l.ta l.b l.begin l.tb) 0 l.count)) ≡ lay l.out l.k (bytes_in (columns_of (both_places l.a l.start l.ta l.b l.begin l.tb) l.j (l.count - l.j))))
-
-abbrev pub decreases-loop-j : goal.decreases-loop-j
-decreases-loop-j l = l.count - l.j

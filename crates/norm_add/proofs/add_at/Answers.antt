@@ -11,5 +11,5 @@ pub returns : goal.returns
 returns c =
     let v = get_or c.args.part.now c.args.k (pos 0) in
     ap (λ y. set c.args.part.now c.args.k y)
-    (to_z-of_z w64 c.sum_of-z.result (search rules) ∙ c.sum_of-z.ensures
+    (to_z-of_z w64 c.sum_of.result (search rules) ∙ c.sum_of.ensures
     ∙ ap₂ (λ a b. a +ℤ b) (to_z-of_z w64 v (search rules)) (to_z-of_z w64 c.args.x c.ranges.x))

@@ -6,7 +6,4 @@ use Rattle.norm_add.proofs.Scatter.{Scattered}
 use Rattle.norm_add.proofs.add_column.Given as goal
 
 abbrev pub invariant-loop-i : goal.invariant-loop-i
-invariant-loop-i l = (l.i ≤ l.n) × (l.at ≡ l.initial.at + 8 * l.i) × (length l.part ≡ length l.initial.part) × Scattered l.s l.initial.at l.t l.initial.part l.part l.i
-
-abbrev pub decreases-loop-i : goal.decreases-loop-i
-decreases-loop-i l = l.n - l.i
+invariant-loop-i l = (length l.part ≡ length l.initial.part) × Scattered l.s l.c.base l.t l.initial.part l.part l.i

@@ -37,10 +37,10 @@ returns-then-t-q c =
       passed_on t up c.args.j c.args.q p h e,
     )
 
-pub returns-then-q-t : goal.returns-then-q-t
-returns-then-q-t c =
+pub returns-else-t-q : goal.returns-else-t-q
+returns-else-t-q c =
     skipped c.args.t.now c.requires.t_value.0 c.args.j c.args.q c.requires.t_value.1 c.args.s.now c.args.start c.args.part.now (λ h e. c.if-t-q.false e)
 
-pub returns : goal.returns
-returns c =
+pub returns-else-q-t : goal.returns-else-q-t
+returns-else-q-t c =
     skipped c.args.t.now c.requires.t_value.0 c.args.j c.args.q c.requires.t_value.1 c.args.s.now c.args.start c.args.part.now (λ h e. omega (arith, c.if-q-t.false))

@@ -10,4 +10,4 @@ returns-then-within c = holds _ _ (sym c.within.ensures ∙ c.if-within.true) c.
 
 pub returns-else-within : goal.returns-else-within
 unfolding counts_fit
-returns-else-within c = fails _ _ (sym c.within.ensures ∙ c.if-within.false)
+returns-else-within c = c.if-within.false ∙ fails _ _ (sym c.within.ensures ∙ c.if-within.false)

@@ -12,4 +12,4 @@ pub returns-then-is_small : goal.returns-then-is_small
 returns-then-is_small c = c.label_ok.ensures ∙ ap (normal_label_ok c.args.arcs.now) c.label_at.ensures ∙ bare_ok _ _ _
 
 pub returns-else-is_small : goal.returns-else-is_small
-returns-else-is_small c = not_small _ _ _ c.requires.1 (sym c.is_small.ensures ∙ c.if-is_small.false)
+returns-else-is_small c = c.if-is_small.false ∙ not_small _ _ _ c.requires.1 (sym c.is_small.ensures ∙ c.if-is_small.false)

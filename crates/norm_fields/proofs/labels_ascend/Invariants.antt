@@ -10,8 +10,4 @@ use Rattle.norm_fields.proofs.labels_ascend.Given as goal
 abbrev pub invariant-loop-i : goal.invariant-loop-i
 invariant-loop-i l =
     (l.i ≤ l.n)
-    × (l.k ≡ l.arcs + 5 * l.i)
-    × (ascend key_of 0 (stands (label_in_heads l.heads) 5 l.n l.arcs) ≡ ascend key_of l.floor (stands (label_in_heads l.heads) 5 (l.n - l.i) l.k))
-
-abbrev pub decreases-loop-i : goal.decreases-loop-i
-decreases-loop-i l = l.n - l.i
+    × (ascend key_of 0 (stands (label_in_heads l.heads) 5 l.n l.arcs) ≡ ascend key_of l.floor (stands (label_in_heads l.heads) 5 (l.n - l.i) (l.arcs + 5 * l.i)))

@@ -10,8 +10,4 @@ use Rattle.norm_fields.proofs.labels_fit.Given as goal
 abbrev pub invariant-loop-i : goal.invariant-loop-i
 invariant-loop-i l =
     (l.i ≤ l.n)
-    × (l.k ≡ l.from + 5 * l.i)
-    × (all (normal_label_ok l.arcs) (stands (label_in_heads l.heads) 5 l.n l.from) ≡ all (normal_label_ok l.arcs) (stands (label_in_heads l.heads) 5 (l.n - l.i) l.k))
-
-abbrev pub decreases-loop-i : goal.decreases-loop-i
-decreases-loop-i l = l.n - l.i
+    × (all (normal_label_ok l.arcs) (stands (label_in_heads l.heads) 5 l.n l.from) ≡ all (normal_label_ok l.arcs) (stands (label_in_heads l.heads) 5 (l.n - l.i) (l.from + 5 * l.i)))

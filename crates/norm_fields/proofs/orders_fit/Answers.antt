@@ -15,4 +15,4 @@ returns-then-arcs_ascend c = holds _ _ (sym c.arcs_ascend.ensures ∙ c.if-arcs_
 
 pub returns-else-arcs_ascend : goal.returns-else-arcs_ascend
 unfolding orders_fit system_in_rooms
-returns-else-arcs_ascend c = fails _ _ (sym c.arcs_ascend.ensures ∙ c.if-arcs_ascend.false)
+returns-else-arcs_ascend c = c.if-arcs_ascend.false ∙ fails _ _ (sym c.arcs_ascend.ensures ∙ c.if-arcs_ascend.false)

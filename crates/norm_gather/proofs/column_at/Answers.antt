@@ -10,5 +10,5 @@ returns-then-j-n c =
     let e = column_is c.args.start c.args.n c.args.j c.triangle.result c.triangle.ensures.0 c.if-j-n.true in
     (e, column_fits c.args.start c.args.n c.args.j _ (length c.args.s.now) e c.requires.1)
 
-pub returns : goal.returns
-returns c = (sym (column_none c.args.start c.args.n c.args.j (omega arith)), omega (arith, c.requires.1))
+pub returns-else-j-n : goal.returns-else-j-n
+returns-else-j-n c = (sym (column_none c.args.start c.args.n c.args.j (omega arith)), omega (arith, c.requires.1))

@@ -11,5 +11,5 @@ returns-then-i-c c =
     held_there c.args.s.now c.args.c c.args.i c.if-i-c.true
     (to_z-of_z w64 c.sum_from.result (record { sfits = c.sum_from.type_inv }) ∙ c.sum_from.ensures)
 
-pub returns : goal.returns
-returns c = held_past c.args.s.now c.args.c c.args.i (omega arith)
+pub returns-else-i-c : goal.returns-else-i-c
+returns-else-i-c c = held_past c.args.s.now c.args.c c.args.i (omega arith)

@@ -1,5 +1,5 @@
 use mathlib.Core.Path.{◌≡◌, refl, sym, ap, ◌∙◌}
-use Prim.Native.Nat.{suc, ◌<◌, ◌+◌, ◌-◌}
+use Prim.Native.Nat.{suc, ◌<◌, ◌+◌}
 use native.Mathlib.Omega.{arith}
 use lib.ListN.{length, get_or, drop, set, length-set}
 use Rattle.byte_words.specs.Words.{lay}
@@ -15,7 +15,7 @@ pub loop-i-preserved : goal.loop-i-preserved
 loop-i-preserved c =
     let l = c.loop-i in
     let f = field_by_seat c.args.is_small c.args.s.now c.args.start c.args.n in
-    let more : l.i < length c.args.w.now = c.loop-i-test.true in
+    let more : l.i < length c.args.w.now = omega arith in
     let is = c.field_in-field.ensures in
     let v = l.invariant in
     elim c.if-field-ne2.branch [

@@ -1,6 +1,6 @@
 -- `norm_gather::put_arcs` meets its contract. The loop's invariant: the bytes of the arcs left, laid at the place, make the whole.
 use mathlib.Core.Path.{◌≡◌}
-use Prim.Native.Nat.{◌≤◌, ◌+◌, ◌-◌, ◌*◌}
+use Prim.Native.Nat.{◌+◌, ◌-◌, ◌*◌}
 use lib.ListN.{length}
 use Rattle.byte_words.specs.Words.{word, lay}
 use Rattle.byte_words.specs.Stands.{stands}
@@ -10,8 +10,5 @@ use Rattle.norm_gather.proofs.put_arcs.Given as goal
 
 abbrev pub invariant-loop-i : goal.invariant-loop-i
 invariant-loop-i l =
-    (l.i ≤ l.n) × (l.at ≡ 4 + 4 * l.i) × (length l.out ≡ length l.initial.out)
-    × (lay l.initial.out 4 (encoded arc_number_bytes (stands (word 4 l.s) 4 l.n 4)) ≡ lay l.out l.at (encoded arc_number_bytes (stands (word 4 l.s) 4 (l.n - l.i) l.at)))
-
-abbrev pub decreases-loop-i : goal.decreases-loop-i
-decreases-loop-i l = l.n - l.i
+    (length l.out ≡ length l.initial.out)
+    × (lay l.initial.out 4 (encoded arc_number_bytes (stands (word 4 l.s) 4 l.n 4)) ≡ lay l.out (4 + 4 * l.i) (encoded arc_number_bytes (stands (word 4 l.s) 4 (l.n - l.i) (4 + 4 * l.i))))

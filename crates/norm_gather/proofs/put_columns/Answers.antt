@@ -1,5 +1,5 @@
 use mathlib.Core.Path.{◌≡◌, refl, sym, ap, ◌∙◌}
-use Prim.Native.Nat.{◌≤◌, ◌<◌, ◌+◌, ◌-◌, ◌*◌}
+use Prim.Native.Nat.{◌<◌, ◌+◌, ◌-◌, ◌*◌}
 use native.Mathlib.Nat.{sub-zero}
 use native.Mathlib.Omega.{arith}
 use lib.ListN.{length}
@@ -12,20 +12,7 @@ use Rattle.norm_kinds.specs.Kinds.{sum_bytes}
 use Rattle.norm_labels.specs.Table.{rows_of, columns_of}
 use Rattle.norm_gather.specs.Gather.{gathered_at, side_gathered}
 use Rattle.norm_gather.proofs.Writing.{columns_end, columns_turn}
-use Rattle.norm_gather.proofs.put_columns.Lts
-use Rattle.norm_gather.proofs.put_columns.Reads
-use Rattle.norm_gather.proofs.put_columns.Tie
 use Rattle.norm_gather.proofs.put_columns.Goals as goal
-
--- the facts known at one place of the code
-abbrev At-In-loop-j : Type 0
-At-In-loop-j = Lts.In-loop Tie.the-claims Reads.Pre Reads.Post goal.the-invariant-loop-j goal.the-decreases-loop-j Tie.handed_clauses
-
--- column j's bytes are within the file's
-fits : (c : At-In-loop-j) → c.loop-j.k + 8 * (c.loop-j.j + 1) ≤ length c.loop-j.out
-fits c =
-    let l = c.loop-j in
-    omega (arith, l.invariant.1, l.invariant.2, c.requires.u_len_bound.1, tri_within l.j (length c.args.u.now) c.loop-j-test.true)
 
 pub loop-j-init : goal.loop-j-init
 unfolding tri
@@ -34,21 +21,25 @@ loop-j-init c = (omega arith, omega arith, refl, rw sub-zero)
 pub put_gathered-requires : goal.put_gathered-requires
 put_gathered-requires c =
     let l = c.loop-j in
-    let more : l.j < length c.args.u.now = c.loop-j-test.true in
+    let more : l.j < length c.args.u.now = omega arith in
     (c.column_at-c.ensures.1, omega arith, omega (arith, l.invariant.1, l.invariant.2, c.requires.u_len_bound.1, tri_within l.j (length c.args.u.now) more))
 
 pub overflow_mul-k : goal.overflow_mul-k
-overflow_mul-k c = omega (arith, fits c.before.before.before.before.before.before.before)
+overflow_mul-k c =
+    let l = c.loop-j in
+    omega (arith, l.invariant.1, l.invariant.2, c.requires.u_len_bound.1, tri_within l.j (length c.args.u.now) (omega arith))
 
 pub overflow_add-k : goal.overflow_add-k
-overflow_add-k c = omega (arith, fits c.before.before.before.before.before.before.before)
+overflow_add-k c =
+    let l = c.loop-j in
+    omega (arith, l.invariant.1, l.invariant.2, c.requires.u_len_bound.1, tri_within l.j (length c.args.u.now) (omega arith))
 
 pub loop-j-preserved : goal.loop-j-preserved
 unfolding gathered_at side_gathered
 loop-j-preserved c =
     let l = c.loop-j in
     let s = c.args in
-    let more : l.j < length s.u.now = c.loop-j-test.true in
+    let more : l.j < length s.u.now = omega arith in
     let f = gathered_at s.s.now s.start s.n s.u.now in
     let e : c.put_gathered.new.out ≡ lay l.out l.k (encoded sum_bytes (rows_of (λ i. f i l.j) 0 (l.j + 1))) =
     c.put_gathered.ensures

@@ -14,6 +14,3 @@ abbrev pub invariant-loop-j : goal.invariant-loop-j
 invariant-loop-j l =
     (l.j ≤ length l.u) × (l.k ≡ l.at + 8 * tri l.j) × (length l.out ≡ length l.initial.out)
     × (lay l.initial.out l.at (encoded sum_bytes (columns_of (gathered_at l.s l.start l.n l.u) 0 (length l.u))) ≡ lay l.out l.k (encoded sum_bytes (columns_of (gathered_at l.s l.start l.n l.u) l.j (length l.u - l.j))))
-
-abbrev pub decreases-loop-j : goal.decreases-loop-j
-decreases-loop-j l = length l.u - l.j

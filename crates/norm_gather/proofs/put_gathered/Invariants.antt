@@ -1,6 +1,6 @@
 -- `norm_gather::put_gathered` meets its contract. The loop's invariant: the bytes of the sums left, laid at the place, make the whole.
 use mathlib.Core.Path.{◌≡◌}
-use Prim.Native.Nat.{◌≤◌, ◌+◌, ◌-◌, ◌*◌}
+use Prim.Native.Nat.{◌+◌, ◌-◌, ◌*◌}
 use lib.ListN.{length}
 use Rattle.byte_words.specs.Words.{lay}
 use Rattle.byte_section.specs.Section.{encoded}
@@ -11,8 +11,5 @@ use Rattle.norm_gather.proofs.put_gathered.Given as goal
 
 abbrev pub invariant-loop-i : goal.invariant-loop-i
 invariant-loop-i l =
-    (l.i ≤ l.count) × (l.k ≡ l.at + 8 * l.i) × (length l.out ≡ length l.initial.out)
-    × (lay l.initial.out l.at (encoded sum_bytes (rows_of (side_gathered l.s l.c l.u) 0 l.count)) ≡ lay l.out l.k (encoded sum_bytes (rows_of (side_gathered l.s l.c l.u) l.i (l.count - l.i))))
-
-abbrev pub decreases-loop-i : goal.decreases-loop-i
-decreases-loop-i l = l.count - l.i
+    (length l.out ≡ length l.initial.out)
+    × (lay l.initial.out l.at (encoded sum_bytes (rows_of (side_gathered l.s l.c l.u) 0 l.count)) ≡ lay l.out (l.at + 8 * l.i) (encoded sum_bytes (rows_of (side_gathered l.s l.c l.u) l.i (l.count - l.i))))

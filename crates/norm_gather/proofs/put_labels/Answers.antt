@@ -22,7 +22,7 @@ starts out at f n =
 pub loop-i-init : goal.loop-i-init
 loop-i-init c =
     let s = c.args in
-    (omega arith, refl, starts s.out.now s.at (fielded_by_seat s.is_small s.s.now s.labels s.start s.n s.w.now) (length s.w.now))
+    (refl, starts s.out.now s.at (fielded_by_seat s.is_small s.s.now s.labels s.start s.n s.w.now) (length s.w.now))
 
 pub loop-i-preserved : goal.loop-i-preserved
 unfolding fielded_by_seat
@@ -30,15 +30,14 @@ loop-i-preserved c =
     let l = c.loop-i in
     let s = c.args in
     let f = fielded_by_seat s.is_small s.s.now s.labels s.start s.n s.w.now in
-    let e : c.put_fields.new.out ≡ lay l.out (s.at + 24 * l.i) (fielded_bytes (f l.i)) =
-    c.put_fields.ensures
+    let e : c.put_label.new.out ≡ lay l.out (s.at + 24 * l.i) (fielded_bytes (f l.i)) =
+    c.put_label.ensures
     ∙ (λ i. lay l.out (s.at + 24 * l.i) (fielded_bytes (record { label = c.load_label-l.ensures i; field = c.field_in-field.ensures i }))) in
     let next : s.at + 24 * l.i + 24 ≡ s.at + 24 * (l.i + 1) = omega arith in (
-      omega arith,
-      ap length e ∙ length_lay _ _ _ ∙ l.invariant.1,
-      l.invariant.2 ∙ rows_turn fielded_bytes 24 length_fielded l.out (s.at + 24 * l.i) f (length s.w.now) l.i (omega arith)
+      ap length e ∙ length_lay _ _ _ ∙ l.invariant.0,
+      l.invariant.1 ∙ rows_turn fielded_bytes 24 length_fielded l.out (s.at + 24 * l.i) f (length s.w.now) l.i (omega arith)
           ∙ ap₂ (λ o m. lay o m (encoded fielded_bytes (rows_of f (l.i + 1) (length s.w.now - (l.i + 1))))) (sym e) next,
     )
 
 pub returns : goal.returns
-returns c = sym (c.loop-i.invariant.2 ∙ rows_end fielded_bytes 24 length_fielded _ _ _ _ _ (omega arith))
+returns c = sym (c.loop-i.invariant.1 ∙ rows_end fielded_bytes 24 length_fielded _ _ _ _ _ (omega arith))

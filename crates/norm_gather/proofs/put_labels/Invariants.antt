@@ -1,6 +1,6 @@
 -- `norm_gather::put_labels` meets its contract. The loop's invariant: the bytes of the labels left, laid at the place, make the whole.
 use mathlib.Core.Path.{◌≡◌}
-use Prim.Native.Nat.{◌≤◌, ◌+◌, ◌-◌, ◌*◌}
+use Prim.Native.Nat.{◌+◌, ◌-◌, ◌*◌}
 use lib.ListN.{length}
 use Rattle.byte_words.specs.Words.{lay}
 use Rattle.byte_section.specs.Section.{encoded}
@@ -11,8 +11,5 @@ use Rattle.norm_gather.proofs.put_labels.Given as goal
 
 abbrev pub invariant-loop-i : goal.invariant-loop-i
 invariant-loop-i l =
-    (l.i ≤ length l.w) × (length l.out ≡ length l.initial.out)
+    (length l.out ≡ length l.initial.out)
     × (lay l.initial.out l.at (encoded fielded_bytes (rows_of (fielded_by_seat l.is_small l.s l.labels l.start l.n l.w) 0 (length l.w))) ≡ lay l.out (l.at + 24 * l.i) (encoded fielded_bytes (rows_of (fielded_by_seat l.is_small l.s l.labels l.start l.n l.w) l.i (length l.w - l.i))))
-
-abbrev pub decreases-loop-i : goal.decreases-loop-i
-decreases-loop-i l = length l.w - l.i

@@ -10,8 +10,5 @@ use Rattle.norm_gather.proofs.seat_labels.Given as goal
 
 abbrev pub invariant-loop-i : goal.invariant-loop-i
 invariant-loop-i l =
-    (l.i ≤ l.p) × (l.at ≡ l.labels + 24 * l.i) × (l.q ≤ l.i) × (length l.w ≡ length l.initial.w)
-    × (lay l.initial.w 0 (seats_from l.n 0 (stands (fielded_at l.s) 24 l.p l.labels)) ≡ lay l.w l.i (seats_from l.n l.q (stands (fielded_at l.s) 24 (l.p - l.i) l.at)))
-
-abbrev pub decreases-loop-i : goal.decreases-loop-i
-decreases-loop-i l = l.p - l.i
+    (l.q ≤ l.i) × (length l.w ≡ length l.initial.w)
+    × (lay l.initial.w 0 (seats_from l.n 0 (stands (fielded_at l.s) 24 l.p l.labels)) ≡ lay l.w l.i (seats_from l.n l.q (stands (fielded_at l.s) 24 (l.p - l.i) (l.labels + 24 * l.i))))

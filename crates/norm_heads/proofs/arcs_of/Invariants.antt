@@ -10,6 +10,3 @@ use Rattle.norm_heads.proofs.arcs_of.Given as goal
 
 abbrev pub invariant-loop-i : goal.invariant-loop-i
 invariant-loop-i l = (l.i ≤ l.n) × (length l.initial.arcs ≡ 16) × (length l.arcs ≡ 16) × (sets l.initial.arcs 0 (arcs_at l.s l.n) ≡ sets l.arcs l.i (stands (word 4 l.s) 4 (l.n - l.i) (4 + 4 * l.i)))
-
-abbrev pub decreases-loop-i : goal.decreases-loop-i
-decreases-loop-i l = l.n - l.i

@@ -9,7 +9,4 @@ use Rattle.norm_heads.proofs.load_arcs.Given as goal
 
 abbrev pub invariant-loop-i : goal.invariant-loop-i
 invariant-loop-i l =
-    (l.i ≤ l.n) × (l.at ≡ 4 + 4 * l.i) × (length l.arcs ≡ length l.initial.arcs) × (lay l.initial.arcs 0 (arcs_at l.s l.n) ≡ lay l.arcs l.i (stands (word 4 l.s) 4 (l.n - l.i) l.at))
-
-abbrev pub decreases-loop-i : goal.decreases-loop-i
-decreases-loop-i l = l.n - l.i
+    (l.i ≤ l.n) × (length l.arcs ≡ length l.initial.arcs) × (lay l.initial.arcs 0 (arcs_at l.s l.n) ≡ lay l.arcs l.i (stands (word 4 l.s) 4 (l.n - l.i) (4 + 4 * l.i)))

@@ -1,34 +1,35 @@
 -- `norm_heads::read_heads` meets its contract: the arcs, then the labels, then the form and the stored ones.
+use Rattle.std.specs.Prelude.{Err}
+use borrow.Author.Rules.{rules}
 use native.Mathlib.Omega.{arith}
-use mathlib.Core.Path.{sym, ap, ◌∙◌}
+use mathlib.Core.Path.{◌≡◌, sym, ap, ◌∙◌}
+use Rattle.refusal.specs.Told.{told_placed}
 use Rattle.byte_section.proofs.Walk.{then_good, then_bad}
-use Rattle.byte_section.specs.Told.{told_section}
 use Rattle.norm_heads.proofs.Heads.{heads_counts, heads_good, few_arcs, labels_whole}
 use Rattle.norm_heads.proofs.read_heads.Goals as goal
 
 pub read_parameters-requires : goal.read_parameters-requires
-read_parameters-requires c = few_arcs _ _ (sym c.read_arcs.ensures ∙ ap told_section c.in-Read.is)
+read_parameters-requires c = few_arcs _ _ (sym c.in_ok-arcs.ensures)
 
 pub is_small_form-is_small-requires : goal.is_small_form-is_small-requires
-is_small_form-is_small-requires c = omega (arith, labels_whole _ _ _ _ _ (sym c.read_parameters.ensures ∙ ap told_section c.in-Read-read_parameters.is))
+is_small_form-is_small-requires c = omega (arith, labels_whole _ _ _ _ _ (sym c.in_ok-parameters.ensures))
 
-pub overflow_add-next : goal.overflow_add-next
-overflow_add-next c = omega (arith, labels_whole _ _ _ _ _ (sym c.read_parameters.ensures ∙ ap told_section c.in-Read-read_parameters.is))
+pub overflow_add-at : goal.overflow_add-at
+overflow_add-at c = omega (arith, labels_whole _ _ _ _ _ (sym c.in_ok-parameters.ensures))
 
 pub stored_in-stored-requires : goal.stored_in-stored-requires
-stored_in-stored-requires c = labels_whole _ _ _ _ _ (sym c.read_parameters.ensures ∙ ap told_section c.in-Read-read_parameters.is)
+stored_in-stored-requires c = labels_whole _ _ _ _ _ (sym c.in_ok-parameters.ensures)
 
-pub returns-in-Read-read_parameters : goal.returns-in-Read-read_parameters
-returns-in-Read-read_parameters c =
-    let a = (sym c.read_arcs.ensures ∙ ap told_section c.in-Read.is) in
-    let b = (sym c.read_parameters.ensures ∙ ap told_section c.in-Read-read_parameters.is) in
-    heads_good _ _ _ _ _ a b c.stored_in-stored.ensures c.is_small_form-is_small.ensures
+pub returns : goal.returns
+returns c =
+    heads_good _ _ _ _ _ (sym c.in_ok-arcs.ensures) (sym c.in_ok-parameters.ensures) c.stored_in-stored.ensures c.is_small_form-is_small.ensures
 
-pub returns-in-Refused-read_parameters : goal.returns-in-Refused-read_parameters
-returns-in-Refused-read_parameters c =
-    let a = (sym c.read_arcs.ensures ∙ ap told_section c.in-Read.is) in
-    let b = (sym c.read_parameters.ensures ∙ ap told_section c.in-Refused-read_parameters.is) in
-    sym (heads_counts _ ∙ then_good _ _ a ∙ then_bad _ _ b)
+pub returns-in_err-parameters : goal.returns-in_err-parameters
+returns-in_err-parameters c =
+    let e : c.from_residual-in_err-parameters.result ≡ Err c.in_err-parameters.field-0.0 = search rules in
+    ap told_placed e ∙ sym (heads_counts _ ∙ then_good _ _ (sym c.in_ok-arcs.ensures) ∙ then_bad _ _ (sym c.in_err-parameters.ensures))
 
-pub returns-in-Refused : goal.returns-in-Refused
-returns-in-Refused c = sym (heads_counts _ ∙ then_bad _ _ (sym c.read_arcs.ensures ∙ ap told_section c.in-Refused.is))
+pub returns-in_err-arcs : goal.returns-in_err-arcs
+returns-in_err-arcs c =
+    let e : c.from_residual.result ≡ Err c.in_err-arcs.field-0.0 = search rules in
+    ap told_placed e ∙ sym (heads_counts _ ∙ then_bad _ _ (sym c.in_err-arcs.ensures))

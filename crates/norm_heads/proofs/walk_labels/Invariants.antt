@@ -8,7 +8,4 @@ use Rattle.norm_heads.proofs.Loops.{reaching}
 use Rattle.norm_heads.proofs.walk_labels.Given as goal
 
 abbrev pub invariant-loop-i : goal.invariant-loop-i
-invariant-loop-i l = (l.i ≤ l.count) × (l.at ≡ l.start + 24 * l.i) × (span_of (records (fielded_kind l.is_small l.arcs) l.s l.count l.start 0) ≡ reaching l.count (records (fielded_kind l.is_small l.arcs) l.s (l.count - l.i) l.at l.floor))
-
-abbrev pub decreases-loop-i : goal.decreases-loop-i
-decreases-loop-i l = l.count - l.i
+invariant-loop-i l = (l.i ≤ l.count) × (span_of (records (fielded_kind l.is_small l.arcs) l.s l.count l.start 0) ≡ reaching l.count (records (fielded_kind l.is_small l.arcs) l.s (l.count - l.i) (l.start + 24 * l.i) l.floor))

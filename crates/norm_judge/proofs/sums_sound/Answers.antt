@@ -1,4 +1,5 @@
 -- `norm_judge::sums_sound` meets its contract, by what the walk finds.
+use Rattle.std.specs.Prelude.{ℕ, Option, None, Some}
 use borrow.Author.Rules.{rules}
 use mathlib.Core.Path.{◌≡◌, sym, ap, ◌∙◌}
 use Prim.Native.Nat.{◌^◌}
@@ -9,8 +10,6 @@ use mir.ValLaws.{to_z-of_z}
 use Rattle.num_whole.specs.Tests.{both, either}
 use Rattle.num_packed.specs.Sound.{breaks}
 use Rattle.num_packed.specs.Found.{columns_from, told_walked}
-use Rattle.num_packed.specs.declared.Walked.{Walked}
-use Rattle.num_packed.specs.declared.Walked.TheVariants.{Sound, Unsound}
 use Rattle.norm_system.specs.System.{bound_of, sides_where, breaks_in, sums_where}
 use Rattle.num_packed.proofs.Tests.{not_below}
 use Rattle.norm_judge.proofs.Sums.{matrix_sound_lem, matrix_unsound}
@@ -31,7 +30,7 @@ value : (c : At-After-bound_of-bound) → to_z w64 (of_z w64 c.bound_of-bound.re
 value c = to_z-of_z w64 c.bound_of-bound.result (search rules) ∙ c.bound_of-bound.ensures
 
 -- what the walk found, at the bound
-found : (c : At-After-first_unsound) → let s = c.args in (w : Walked) → c.first_unsound.result ≡ w
+found : (c : At-After-first_unsound) → let s = c.args in (w : Option ℕ) → c.first_unsound.result ≡ w
     → columns_from (breaks (pos (bound_of s.arcs s.accepted (2 ^ 58))) s.matrix.now) 0 s.p ≡ told_walked w
 found c w e =
     let s = c.args in
@@ -44,10 +43,10 @@ first_unsound-requires c =
       pos_bound = rw (value c) (not_below _);
     }
 
-pub returns-in-Sound : goal.returns-in-Sound
+pub returns-in-None : goal.returns-in-None
 unfolding sums_where sides_where breaks_in both either
-returns-in-Sound c = c.sides_sound.ensures ∙ matrix_sound_lem _ _ _ _ (found c.before.before Sound c.in-Sound.is)
+returns-in-None c = c.sides_sound.ensures ∙ matrix_sound_lem _ _ _ _ (found c.before.before None c.in-None.is)
 
-pub returns-in-Unsound : goal.returns-in-Unsound
+pub returns-in-Some : goal.returns-in-Some
 unfolding sums_where sides_where breaks_in both either
-returns-in-Unsound c = matrix_unsound _ _ _ _ _ (found c.before (Unsound _) c.in-Unsound.is)
+returns-in-Some c = matrix_unsound _ _ _ _ _ (found c.before (Some _) c.in-Some.is)

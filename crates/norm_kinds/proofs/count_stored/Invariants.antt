@@ -8,7 +8,4 @@ use Rattle.norm_kinds.proofs.count_stored.Given as goal
 
 abbrev pub invariant-loop-i : goal.invariant-loop-i
 invariant-loop-i l =
-    (l.i ≤ l.p) × (l.at ≡ l.labels + 24 * l.i) × (l.n ≤ l.i) × (length (stored_of (stands (fielded_at l.s) 24 l.p l.labels)) ≡ l.n + length (stored_of (stands (fielded_at l.s) 24 (l.p - l.i) l.at)))
-
-abbrev pub decreases-loop-i : goal.decreases-loop-i
-decreases-loop-i l = l.p - l.i
+    (l.n ≤ l.i) × (length (stored_of (stands (fielded_at l.s) 24 l.p l.labels)) ≡ l.n + length (stored_of (stands (fielded_at l.s) 24 (l.p - l.i) (l.labels + 24 * l.i))))

@@ -9,14 +9,14 @@ use Rattle.norm_kinds.proofs.read_arc.Goals as goal
 pub returns-then-left-lt4 : goal.returns-then-left-lt4
 returns-then-left-lt4 c = floor_short arc_kind _ _ _ (omega arith)
 
-pub returns-then-floor-a : goal.returns-then-floor-a
-returns-then-floor-a c =
-    floor_next arc_kind _ _ _ (omega arith) (ap arc_ok (sym c.read_u32-a.ensures) ∙ sym c.arc_ok.ensures ∙ c.if-arc_ok.true) _ c.read_u32-a.ensures (omega arith)
+pub returns-then-not-arc_ok : goal.returns-then-not-arc_ok
+returns-then-not-arc_ok c =
+    floor_limits arc_kind _ _ _ (omega arith) (ap arc_ok (sym c.read_u32-a.ensures) ∙ sym c.arc_ok.ensures ∙ c.if-not-arc_ok.true)
 
-pub returns-else-floor-a : goal.returns-else-floor-a
-returns-else-floor-a c =
-    floor_order arc_kind _ _ _ (omega arith) (ap arc_ok (sym c.read_u32-a.ensures) ∙ sym c.arc_ok.ensures ∙ c.if-arc_ok.true) _ c.read_u32-a.ensures (omega arith)
+pub returns-then-from-floor : goal.returns-then-from-floor
+returns-then-from-floor c =
+    floor_order arc_kind _ _ _ (omega arith) (ap arc_ok (sym c.read_u32-a.ensures) ∙ sym c.arc_ok.ensures ∙ c.if-not-arc_ok.false) _ (c.from.ensures ∙ c.read_u32-a.ensures) (omega arith)
 
-pub returns-else-arc_ok : goal.returns-else-arc_ok
-returns-else-arc_ok c =
-    floor_limits arc_kind _ _ _ (omega arith) (ap arc_ok (sym c.read_u32-a.ensures) ∙ sym c.arc_ok.ensures ∙ c.if-arc_ok.false)
+pub returns : goal.returns
+returns c =
+    floor_next arc_kind _ _ _ (omega arith) (ap arc_ok (sym c.read_u32-a.ensures) ∙ sym c.arc_ok.ensures ∙ c.if-not-arc_ok.false) _ (c.from-2.ensures ∙ c.read_u32-a.ensures) (omega arith)

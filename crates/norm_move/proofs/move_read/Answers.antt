@@ -35,7 +35,7 @@ abbrev At-After-triangle : Type 0
 At-After-triangle = Lts.After-triangle Tie.the-claims Reads.Pre Reads.Post Tie.handed_clauses
 
 kn : (c : At-Start) → Known c.args.file.now c.args.r
-kn c = known c.args.file.now c.args.r c.requires.0 c.requires.1
+kn c = known c.args.file.now c.args.r c.requires
 
 -- ---- the places of all labels
 abbrev w-found : At-After-seat_labels → List ℕ

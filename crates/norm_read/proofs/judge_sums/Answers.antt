@@ -1,42 +1,38 @@
 -- `norm_read::judge_sums` meets its contract: each place is that of the sum itself.
 use native.Mathlib.Omega.{arith}
-use mathlib.Core.Path.{sym, ap, ◌∙◌}
-use Rattle.norm_totals.specs.Told.{told_where}
+use mathlib.Core.Path.{sym, ap}
 use Rattle.norm_walk.proofs.Wheres.{inside_matrix, inside_rights}
-use Rattle.norm_read.specs.Parts.{shown_where, shown_sums}
+use Rattle.norm_read.specs.Parts.{judged_where, judged_sums}
 use Rattle.norm_read.proofs.judge_sums.Goals as goal
 
-pub overflow_mul-k : goal.overflow_mul-k
-overflow_mul-k c = omega (arith, inside_matrix _ _ _ _ _ _ _ _ (sym c.first_unsound.ensures ∙ ap told_where c.in-Matrix.is))
+pub overflow_mul-place : goal.overflow_mul-place
+overflow_mul-place c = omega (arith, inside_matrix _ _ _ _ _ _ _ _ (sym (rw c.in-Some-Matrix.field-0-is at c.in-Some-Matrix.ensures)))
 
-pub overflow_add-matrix : goal.overflow_add-matrix
-overflow_add-matrix c = omega (arith, inside_matrix _ _ _ _ _ _ _ _ (sym c.first_unsound.ensures ∙ ap told_where c.in-Matrix.is))
+pub overflow_add-place : goal.overflow_add-place
+overflow_add-place c = omega (arith, inside_matrix _ _ _ _ _ _ _ _ (sym (rw c.in-Some-Matrix.field-0-is at c.in-Some-Matrix.ensures)))
 
-pub overflow_mul-k-in-Right : goal.overflow_mul-k-in-Right
-overflow_mul-k-in-Right c = omega (arith, inside_rights _ _ _ _ _ _ _ _ (sym c.first_unsound.ensures ∙ ap told_where c.in-Right.is))
+pub overflow_mul-place-in-Some-Right : goal.overflow_mul-place-in-Some-Right
+overflow_mul-place-in-Some-Right c = omega (arith, inside_rights _ _ _ _ _ _ _ _ (sym (rw c.in-Some-Right.field-0-is at c.in-Some-Right.ensures)))
 
-pub overflow_add-rights : goal.overflow_add-rights
-overflow_add-rights c = omega (arith, inside_rights _ _ _ _ _ _ _ _ (sym c.first_unsound.ensures ∙ ap told_where c.in-Right.is))
+pub overflow_add-place-in-Some-Right : goal.overflow_add-place-in-Some-Right
+overflow_add-place-in-Some-Right c = omega (arith, inside_rights _ _ _ _ _ _ _ _ (sym (rw c.in-Some-Right.field-0-is at c.in-Some-Right.ensures)))
 
-pub returns-in-Nowhere : goal.returns-in-Nowhere
-unfolding shown_sums shown_where
-returns-in-Nowhere c = ap (shown_where _ _ _ _ _) (sym (sym c.first_unsound.ensures ∙ ap told_where c.in-Nowhere.is))
+pub returns-in-None : goal.returns-in-None
+unfolding judged_sums judged_where
+returns-in-None c = ap (judged_where c.args.r) c.in-None.ensures
 
-pub returns-in-Matrix : goal.returns-in-Matrix
-unfolding shown_sums shown_where
-returns-in-Matrix c = c.refused.ensures ∙ ap (shown_where _ _ _ _ _) (sym (sym c.first_unsound.ensures ∙ ap told_where c.in-Matrix.is))
+pub returns-in-Some-Matrix : goal.returns-in-Some-Matrix
+unfolding judged_sums judged_where
+returns-in-Some-Matrix c = ap (judged_where c.args.r) (rw c.in-Some-Matrix.field-0-is at c.in-Some-Matrix.ensures)
 
-pub returns-in-Right : goal.returns-in-Right
-unfolding shown_sums shown_where
-returns-in-Right c =
-    c.refused-in-Right.ensures ∙ ap (shown_where _ _ _ _ _) (sym (sym c.first_unsound.ensures ∙ ap told_where c.in-Right.is))
+pub returns-in-Some-Right : goal.returns-in-Some-Right
+unfolding judged_sums judged_where
+returns-in-Some-Right c = ap (judged_where c.args.r) (rw c.in-Some-Right.field-0-is at c.in-Some-Right.ensures)
 
-pub returns-in-Accepted : goal.returns-in-Accepted
-unfolding shown_sums shown_where
-returns-in-Accepted c =
-    c.refused-in-Accepted.ensures ∙ ap (shown_where _ _ _ _ _) (sym (sym c.first_unsound.ensures ∙ ap told_where c.in-Accepted.is))
+pub returns-in-Some-Accepted : goal.returns-in-Some-Accepted
+unfolding judged_sums judged_where
+returns-in-Some-Accepted c = ap (judged_where c.args.r) (rw c.in-Some-Accepted.field-0-is at c.in-Some-Accepted.ensures)
 
-pub returns-in-Square : goal.returns-in-Square
-unfolding shown_sums shown_where
-returns-in-Square c =
-    c.refused-in-Square.ensures ∙ ap (shown_where _ _ _ _ _) (sym (sym c.first_unsound.ensures ∙ ap told_where c.in-Square.is))
+pub returns-in-Some-Square : goal.returns-in-Some-Square
+unfolding judged_sums judged_where
+returns-in-Some-Square c = ap (judged_where c.args.r) (rw c.in-Some-Square.field-0-is at c.in-Some-Square.ensures)

@@ -10,4 +10,4 @@ returns-then-heads_roomy c = holds _ _ (sym c.heads_roomy.ensures ∙ c.if-heads
 
 pub returns-else-heads_roomy : goal.returns-else-heads_roomy
 unfolding roomy_for
-returns-else-heads_roomy c = fails _ _ (sym c.heads_roomy.ensures ∙ c.if-heads_roomy.false)
+returns-else-heads_roomy c = c.if-heads_roomy.false ∙ fails _ _ (sym c.heads_roomy.ensures ∙ c.if-heads_roomy.false)

@@ -1,13 +1,15 @@
 -- `norm_room::sums_roomy` meets its contract.
 use native.Mathlib.Omega.{arith}
-use Rattle.num_whole.proofs.Cases.{holds, fails, is_up_to, not_up_to, by_up_to}
+use Rattle.std.proofs.lemmas.Grind.{common_steps}
+use Rattle.std.proofs.lemmas.Bool.Decides.{nat_tests}
+use Rattle.num_whole.specs.Tests.{up_to, both}
 use Rattle.num_packed.specs.Room.{sums_roomy}
 use Rattle.norm_room.proofs.sums_roomy.Goals as goal
 
 pub returns-then-triangle-matrix : goal.returns-then-triangle-matrix
-unfolding sums_roomy
-returns-then-triangle-matrix c = holds _ _ (is_up_to _ _ (omega (arith, c.triangle.ensures.0))) (by_up_to _ _)
+unfolding sums_roomy both up_to
+returns-then-triangle-matrix c = grind (arith, nat_tests, common_steps, c.triangle.ensures.0)
 
 pub returns-else-triangle-matrix : goal.returns-else-triangle-matrix
-unfolding sums_roomy
-returns-else-triangle-matrix c = fails _ _ (not_up_to _ _ (omega (arith, c.triangle.ensures.0)))
+unfolding sums_roomy both up_to
+returns-else-triangle-matrix c = grind (arith, nat_tests, common_steps, c.triangle.ensures.0)

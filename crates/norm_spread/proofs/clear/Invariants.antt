@@ -9,6 +9,3 @@ use Rattle.norm_spread.proofs.clear.Given as goal
 
 abbrev pub invariant-loop-i : goal.invariant-loop-i
 invariant-loop-i l = (l.i ≤ l.n) × (length l.out ≡ length l.initial.out) × (sets l.initial.out l.k (rows_of (λ i. pos 0) 0 l.n) ≡ sets l.out (l.k + l.i) (rows_of (λ i. pos 0) l.i (l.n - l.i)))
-
-abbrev pub decreases-loop-i : goal.decreases-loop-i
-decreases-loop-i l = l.n - l.i

@@ -7,5 +7,5 @@ use Rattle.norm_spread.proofs.counted.Goals as goal
 pub returns-then-field-eq2 : goal.returns-then-field-eq2
 returns-then-field-eq2 c = (yes _ _ _ (is_same _ _ c.if-field-eq2.true) refl, omega arith)
 
-pub returns : goal.returns
-returns c = (no _ _ _ (not_same _ _ c.if-field-eq2.false) refl, omega arith)
+pub returns-else-field-eq2 : goal.returns-else-field-eq2
+returns-else-field-eq2 c = (no _ _ _ (not_same _ _ c.if-field-eq2.false) refl, omega arith)

@@ -12,6 +12,3 @@ abbrev pub invariant-loop-j : goal.invariant-loop-j
 invariant-loop-j l =
     (l.j ≤ l.p) × (l.r ≡ stored_before l.s l.labels l.j) × (l.r ≤ l.j) × (l.k ≡ tri l.j) × (length l.out ≡ length l.initial.out)
     × (sets l.initial.out 0 (columns_of (spread_column_at l.s l.labels l.start) 0 l.p) ≡ sets l.out l.k (columns_of (spread_column_at l.s l.labels l.start) l.j (l.p - l.j)))
-
-abbrev pub decreases-loop-j : goal.decreases-loop-j
-decreases-loop-j l = l.p - l.j

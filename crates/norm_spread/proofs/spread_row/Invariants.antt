@@ -9,8 +9,5 @@ use Rattle.norm_spread.proofs.spread_row.Given as goal
 
 abbrev pub invariant-loop-i : goal.invariant-loop-i
 invariant-loop-i l =
-    (l.i ≤ l.n) × (l.at ≡ l.start + 8 * stored_before l.s l.labels l.i) × (stored_before l.s l.labels l.i ≤ l.i) × (l.label ≡ l.labels + 24 * l.i) × (length l.out ≡ length l.initial.out)
+    (l.i ≤ l.n) × (l.at ≡ l.start + 8 * stored_before l.s l.labels l.i) × (stored_before l.s l.labels l.i ≤ l.i) × (length l.out ≡ length l.initial.out)
     × (sets l.initial.out l.k (rows_of (spread_row_at l.s l.labels l.start) 0 l.n) ≡ sets l.out (l.k + l.i) (rows_of (spread_row_at l.s l.labels l.start) l.i (l.n - l.i)))
-
-abbrev pub decreases-loop-i : goal.decreases-loop-i
-decreases-loop-i l = l.n - l.i

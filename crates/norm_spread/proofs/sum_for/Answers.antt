@@ -10,7 +10,7 @@ pub returns-then-field-eq2 : goal.returns-then-field-eq2
 unfolding unless_two
 returns-then-field-eq2 c = yes _ _ _ (is_same _ _ c.if-field-eq2.true) refl
 
-pub returns : goal.returns
+pub returns-else-field-eq2 : goal.returns-else-field-eq2
 unfolding unless_two
-returns c =
+returns-else-field-eq2 c =
     no _ _ _ (not_same _ _ c.if-field-eq2.false) (to_z-of_z w64 c.read_i64.result (record { sfits = c.read_i64.type_inv }) ∙ c.read_i64.ensures)

@@ -1,6 +1,7 @@
-use mathlib.Core.Path.{refl, sym, ap, ◌∙◌}
+use mathlib.Core.Path.{◌≡◌, refl, sym, ap, ◌∙◌}
 use mathlib.Core.List.{map}
-use Prim.Native.Nat.{◌-◌}
+use Prim.Native.Nat.{◌+◌, ◌*◌}
+use native.Mathlib.Nat.{add-zero}
 use native.Mathlib.Omega.{arith}
 use Rattle.num_whole.specs.Lists.{rest}
 use Rattle.num_whole.proofs.Walks.{rest_end, rest_more}
@@ -17,17 +18,16 @@ use Rattle.norm_state.proofs.put_labels.Goals as goal
 
 pub loop-i-init : goal.loop-i-init
 unfolding labels_of rest
-loop-i-init c = (omega arith, c.well_formed.0.1.1.1.1.1.0.1.0.1, refl, omega arith, refl)
+loop-i-init c = (c.well_formed.0.1.1.1.1.1.0.1.0.1, refl, rw add-zero)
 
 pub loop-i-preserved : goal.loop-i-preserved
 loop-i-preserved c =
     let l = c.loop-i in
-    let e = c.put_label.ensures in (
-      omega arith,
-      l.invariant.1,
-      rw e (length_lay _ _ _ ∙ l.invariant.2),
-      omega arith,
-      rw e (l.invariant.4 ∙ laid_one normal_label_bytes _ length_label _ _ (ap (map _) (rest_more _ _ _ no_label (omega arith) (omega arith)))),
+    let e = c.put_label.ensures in
+    let next : c.args.start + 4 + 24 * (l.i + 1) ≡ c.args.start + 4 + 24 * l.i + 24 = omega arith in (
+      l.invariant.0,
+      rw e (length_lay _ _ _ ∙ l.invariant.1),
+      rw (e, next) (l.invariant.2 ∙ laid_one normal_label_bytes _ length_label _ _ (ap (map _) (rest_more _ _ _ no_label (omega arith) (omega arith)))),
     )
 
 pub returns : goal.returns
@@ -35,5 +35,5 @@ returns c =
     let l = c.loop-i in
     let h = c.args.h in
     let none = ap (map (label_of_arc h.settings.arc)) (rest_end h.labels h.parameters l.i (omega arith)) in
-    sym (l.invariant.4 ∙ laid_none normal_label_bytes _ length_label _ _ none)
-    ∙ section_laid normal_label_bytes _ _ _ _ _ c.write_u32.ensures (labels_long h (omega (arith, l.invariant.1)))
+    sym (l.invariant.2 ∙ laid_none normal_label_bytes _ length_label _ _ none)
+    ∙ section_laid normal_label_bytes _ _ _ _ _ c.write_u32.ensures (labels_long h (omega (arith, l.invariant.0)))

@@ -9,7 +9,7 @@ use native.Mathlib.Omega.{arith}
 use mir.Syntax.{w64}
 use mir.Val.{SFits, to_z, of_z}
 use mir.ValLaws.{to_z-of_z}
-use Rattle.num_packed.proofs.Tests.{neg_fits, lower, lower_back, test_of, chosen, other}
+use Rattle.num_packed.proofs.Tests.{lower_back, test_of, chosen, other}
 use Rattle.norm_sum.specs.Sums.{past}
 use Rattle.norm_sum.proofs.is_past.Lts
 use Rattle.norm_sum.proofs.is_past.Reads
@@ -27,12 +27,9 @@ above s t e = test_of _ _ _ _ t (to_z-of_z w64 _ (bits s)) (to_z-of_z w64 _ s.ra
 
 pub returns-then-b-x : goal.returns-then-b-x
 unfolding past
-returns-then-b-x c = sym (chosen _ _ _ (above c.before true c.if-b-x.true))
+returns-then-b-x c = c.if-b-x.true ∙ sym (chosen _ _ _ (above c.before true c.if-b-x.true))
 
-pub overflow_sub-result : goal.overflow_sub-result
-overflow_sub-result c = rw (lower _ (bits c.before)) (neg_fits _ (le_z_yes (le→leb 0 c.args.bound zero-le)) (bits c.before))
-
-pub returns : goal.returns
+pub returns-else-b-x : goal.returns-else-b-x
 unfolding past
-returns c =
+returns-else-b-x c =
     ap₂ lt_z (to_z-of_z w64 _ c.ranges.x) (lower_back _ (le_z_yes (le→leb 0 c.args.bound zero-le)) (bits c.before)) ∙ sym (other _ _ _ (above c.before false c.if-b-x.false))

@@ -8,6 +8,6 @@ pub returns-then-is_small : goal.returns-then-is_small
 unfolding least_of
 returns-then-is_small c = yes _ _ _ c.if-is_small.true refl
 
-pub returns : goal.returns
+pub returns-else-is_small : goal.returns-else-is_small
 unfolding least_of
-returns c = no _ _ _ c.if-is_small.false refl
+returns-else-is_small c = no _ _ _ c.if-is_small.false refl

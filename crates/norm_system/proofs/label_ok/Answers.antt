@@ -1,18 +1,16 @@
 -- `norm_system::label_ok` meets its contract.
-use mathlib.Core.Path.{sym, ◌∙◌}
 use native.Mathlib.Omega.{arith}
-use Rattle.num_whole.proofs.Cases.{holds, fails, is_up_to, not_up_to}
+use Rattle.std.proofs.lemmas.Grind.{common_steps}
+use Rattle.std.proofs.lemmas.Bool.Decides.{nat_tests}
+use Rattle.num_whole.specs.Tests.{up_to, both}
 use Rattle.norm_system.specs.System.{normal_label_ok}
 use Rattle.norm_system.proofs.label_ok.Goals as goal
-
-pub returns-then-l-gt-WEIGHT_MOST : goal.returns-then-l-gt-WEIGHT_MOST
-unfolding normal_label_ok
-returns-then-l-gt-WEIGHT_MOST c = fails _ _ (not_up_to _ _ (omega arith))
+use Rattle.norm_system.proofs.label_ok.Goals.{then-l-le-WEIGHT_MOST, else-l-le-WEIGHT_MOST}
 
 pub returns-then-index_ok : goal.returns-then-index_ok
-unfolding normal_label_ok
-returns-then-index_ok c = holds _ _ (is_up_to _ _ (omega arith)) (holds _ _ (sym c.index_ok.ensures ∙ c.if-index_ok.true) c.arc_fits.ensures)
+unfolding normal_label_ok both up_to
+returns-then-index_ok c = grind (arith, nat_tests, common_steps)
 
 pub returns-else-index_ok : goal.returns-else-index_ok
-unfolding normal_label_ok
-returns-else-index_ok c = holds _ _ (is_up_to _ _ (omega arith)) (fails _ _ (sym c.index_ok.ensures ∙ c.if-index_ok.false))
+unfolding normal_label_ok both up_to
+returns-else-index_ok c = grind (arith, nat_tests, common_steps)

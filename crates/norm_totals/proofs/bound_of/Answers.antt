@@ -13,6 +13,6 @@ returns-then-accepted-eq0 c = (yes _ _ _ (is_same _ _ c.if-accepted-eq0.true) re
 pub overflow_mul-result : goal.overflow_mul-result
 overflow_mul-result c = let most = mul-le-mul c.requires.0 c.requires.1 in omega arith
 
-pub returns : goal.returns
+pub returns-else-accepted-eq0 : goal.returns-else-accepted-eq0
 unfolding bound_of
-returns c = (no _ _ _ (not_same _ _ c.if-accepted-eq0.false) refl, mul-le-mul c.requires.0 c.requires.1)
+returns-else-accepted-eq0 c = (no _ _ _ (not_same _ _ c.if-accepted-eq0.false) refl, mul-le-mul c.requires.0 c.requires.1)

@@ -1,4 +1,5 @@
 -- `norm_unpack::fill_label` meets its contract: each value is the word at its place.
+use mathlib.Core.Path.{◌∙◌}
 use native.Mathlib.Omega.{arith}
 use lib.ListN.{length-set}
 use Rattle.norm_unpack.proofs.Laid.{label_laid}
@@ -19,4 +20,4 @@ bounds-heads-k-5 c = simp length-set (omega arith)
 
 pub returns : goal.returns
 returns c =
-    label_laid _ _ _ _ _ _ _ _ _ c.read_u16.ensures c.read_u16-2.ensures c.read_u32.ensures c.read_u32-2.ensures c.read_u64.ensures (record { fits = search rules })
+    label_laid _ _ _ _ _ _ _ _ _ (c.from.ensures ∙ c.read_u16.ensures) (c.from-2.ensures ∙ c.read_u16-2.ensures) (c.from-3.ensures ∙ c.read_u32.ensures) (c.from-4.ensures ∙ c.read_u32-2.ensures) c.read_u64.ensures (record { fits = search rules })

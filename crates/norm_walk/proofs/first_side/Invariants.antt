@@ -16,6 +16,3 @@ sides s matrix rights p bound = breaks_side (pos bound) (sums_at s matrix (tri p
 
 abbrev pub invariant-loop-i : goal.invariant-loop-i
 invariant-loop-i l = (l.i ≤ l.p) × (first_from (sides l.s l.matrix l.rights l.p l.bound) 0 l.p ≡ first_from (sides l.s l.matrix l.rights l.p l.bound) l.i (l.p - l.i))
-
-abbrev pub decreases-loop-i : goal.decreases-loop-i
-decreases-loop-i l = l.p - l.i

@@ -1,6 +1,5 @@
 use mathlib.Core.Path.{◌≡◌, sym, ◌∙◌, subst}
-use mathlib.Core.Bool.{true, false}
-use Prim.Native.Nat.{◌-◌}
+use mathlib.Core.Bool.{true}
 use native.Mathlib.Omega.{arith}
 use native.Mathlib.Nat.{le_antisymm}
 use Rattle.num_whole.specs.Tests.{below}
@@ -21,12 +20,12 @@ is_seen-requires c =
 pub loop-i-preserved : goal.loop-i-preserved
 loop-i-preserved c =
     let l = c.loop-i in
-    (omega arith, one_more _ l.i l.invariant.1 (sym c.is_seen.ensures ∙ c.if-is_seen.true))
+    (omega arith, one_more _ l.i l.invariant.1 (sym c.is_seen.ensures ∙ c.if-not-is_seen.false))
 
-pub returns-else-is_seen : goal.returns-else-is_seen
-returns-else-is_seen c =
+pub returns-then-not-is_seen : goal.returns-then-not-is_seen
+returns-then-not-is_seen c =
     let l = c.loop-i in
-    sym (below_fails _ _ l.i (omega arith) (sym c.is_seen.ensures ∙ c.if-is_seen.false))
+    sym (below_fails _ _ l.i (omega arith) (sym c.is_seen.ensures ∙ c.if-not-is_seen.true))
 
 pub returns : goal.returns
 returns c =

@@ -1,6 +1,5 @@
 use mathlib.Core.Path.{◌≡◌, sym, ap, ◌∙◌, subst}
-use mathlib.Core.Bool.{true, false}
-use Prim.Native.Nat.{◌-◌}
+use mathlib.Core.Bool.{true}
 use native.Mathlib.Omega.{arith}
 use native.Mathlib.Nat.{le_antisymm}
 use mir.Syntax.{w64}
@@ -36,12 +35,12 @@ is_within-requires c =
 pub loop-k-preserved : goal.loop-k-preserved
 loop-k-preserved c =
     let l = c.loop-k in
-    (omega arith, one_more _ l.k l.invariant.1 (sym c.is_within.ensures ∙ c.if-is_within.true))
+    (omega arith, one_more _ l.k l.invariant.1 (sym c.is_within.ensures ∙ c.if-not-is_within.false))
 
-pub returns-else-is_within : goal.returns-else-is_within
-returns-else-is_within c =
+pub returns-then-not-is_within : goal.returns-then-not-is_within
+returns-then-not-is_within c =
     let l = c.loop-k in
-    sym (below_fails _ _ l.k (omega arith) (sym c.is_within.ensures ∙ c.if-is_within.false)) ∙ plain c.before.before.before.before
+    sym (below_fails _ _ l.k (omega arith) (sym c.is_within.ensures ∙ c.if-not-is_within.true)) ∙ plain c.before.before.before.before
 
 pub returns : goal.returns
 returns c =

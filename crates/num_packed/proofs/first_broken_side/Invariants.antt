@@ -7,6 +7,3 @@ use Rattle.num_packed.proofs.first_broken_side.Given as goal
 
 abbrev pub invariant-loop-i : goal.invariant-loop-i
 invariant-loop-i l = (l.i ≤ l.p) × (first_from (breaks_side l.bound l.s l.r) 0 l.p ≡ first_from (breaks_side l.bound l.s l.r) l.i (l.p - l.i))
-
-abbrev pub decreases-loop-i : goal.decreases-loop-i
-decreases-loop-i l = l.p - l.i

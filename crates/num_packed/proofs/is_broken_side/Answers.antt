@@ -1,61 +1,18 @@
 -- `num_packed::is_broken_side` meets its contract.
-use mathlib.Core.Path.{◌≡◌, ap, ◌∙◌}
-use mathlib.Core.Bool.{Bool, true, false}
+use mathlib.Core.Path.{◌≡◌, sym, ap, ◌∙◌}
+use mathlib.Core.Bool.{Bool, true, false, not, cond}
 use native.Mathlib.Omega.{arith}
-use lib.IntN.{ℤ, pos, neg_ℤ, ◌-ℤ◌}
+use lib.IntN.{ℤ, pos, neg_ℤ}
 use lib.Signed.{lt_z}
 use lib.ListN.{get_or}
 use mir.Syntax.{w64}
-use mir.Val.{SFits, to_z, of_z}
+use mir.Val.{SFits}
 use mir.ValLaws.{to_z-of_z}
+use borrow.Author.Rules.{rules}
 use Rattle.num_packed.specs.Sound.{is_zero, breaks_side}
 use Rattle.num_packed.proofs.Places.{tri_next}
-use Rattle.num_packed.proofs.Tests.{zero_bits, is_zero_lem, not_zero, neg_fits, lower, lower_back, test_of}
-use borrow.Author.Rules.{rules}
-use Rattle.num_packed.proofs.is_broken_side.Lts
-use Rattle.num_packed.proofs.is_broken_side.Reads
-use Rattle.num_packed.proofs.is_broken_side.Tie
+use Rattle.num_packed.proofs.Tests.{zero_bits, is_zero_lem, not_zero, past_is, past_true, past_false, chosen, other}
 use Rattle.num_packed.proofs.is_broken_side.Goals as goal
-
--- the facts known at one place of the code
-abbrev At-Start : Type 0
-At-Start = Lts.Start Tie.the-claims Reads.Pre Reads.Post Tie.handed_clauses
-
--- the facts known at one place of the code
-abbrev At-After-y-1 : Type 0
-At-After-y-1 = Lts.After-y Tie.the-claims Reads.Pre Reads.Post Tie.handed_clauses
-
--- the right side that is tested
-y : At-Start → ℤ
-y s = get_or s.args.r.now s.args.i (pos 0)
-
-fits_y : (c : At-After-y-1) → SFits w64 (y c.before)
-unfolding y
-fits_y c = search rules
-
--- the tests, as they were left
-above : (c : At-After-y-1) (t : Bool) → lt_z (to_z w64 (of_z w64 c.args.bound)) (to_z w64 (of_z w64 (y c.before))) ≡ t → lt_z c.args.bound (y c.before) ≡ t
-above c t e = test_of _ _ _ _ t (to_z-of_z w64 _ c.ranges.bound) (to_z-of_z w64 _ (fits_y c)) e
-
-below : (c : At-After-y-1) (t : Bool) → lt_z (to_z w64 (of_z w64 (y c.before))) (to_z w64 (of_z w64 (pos 0 -ℤ to_z w64 (of_z w64 c.args.bound)))) ≡ t → lt_z (y c.before) (neg_ℤ c.args.bound) ≡ t
-below c t e = test_of _ _ _ _ t (to_z-of_z w64 _ (fits_y c)) (lower_back _ c.requires.pos_bound c.ranges.bound) e
-
-pub returns-then-bound-y : goal.returns-then-bound-y
-unfolding breaks_side y
-returns-then-bound-y c = simp (above c.before true c.if-bound-y.true)
-
-pub overflow_sub-bound : goal.overflow_sub-bound
-overflow_sub-bound c = rw (lower _ c.ranges.bound) (neg_fits _ c.requires.pos_bound c.ranges.bound)
-
-pub returns-then-y-bound : goal.returns-then-y-bound
-unfolding breaks_side y
-returns-then-y-bound c = simp (above c.before.before false c.if-bound-y.false, below c.before.before true c.if-y-bound.true)
-
-pub returns-then-y-eq0 : goal.returns-then-y-eq0
-unfolding breaks_side y
-returns-then-y-eq0 c =
-    let z : is_zero (y c.before.before.before.before) ≡ true = is_zero_lem _ (fits_y c.before.before.before) c.if-y-eq0.true in
-    simp (above c.before.before.before false c.if-bound-y.false, below c.before.before.before false c.if-y-bound.false, z)
 
 pub offset_bounds-s-place : goal.offset_bounds-s-place
 offset_bounds-s-place c = omega (arith, tri_next c.args.i)
@@ -63,9 +20,27 @@ offset_bounds-s-place c = omega (arith, tri_next c.args.i)
 pub bounds-s-place : goal.bounds-s-place
 bounds-s-place c = omega (arith, tri_next c.args.i)
 
-pub returns : goal.returns
-unfolding breaks_side y
-returns c =
-    let z : is_zero (y c.before.before.before.before.before.before) ≡ false = not_zero _ (fits_y c.before.before.before.before.before) c.if-y-eq0.false in
+pub returns-then-is_past : goal.returns-then-is_past
+unfolding breaks_side
+returns-then-is_past c =
+    let y = get_or c.args.r.now c.args.i (pos 0) in
+    let past = past_is _ y _ _ _ (to_z-of_z w64 c.args.bound c.ranges.bound) (to_z-of_z w64 y (search rules)) c.is_past.ensures in
+    c.if-is_past.true ∙ past_true (lt_z c.args.bound y) (lt_z y (neg_ℤ c.args.bound)) _ (sym past ∙ c.if-is_past.true)
+
+pub returns-then-y-ne0 : goal.returns-then-y-ne0
+unfolding breaks_side
+returns-then-y-ne0 c =
+    let y = get_or c.args.r.now c.args.i (pos 0) in
+    let fits : SFits w64 y = search rules in
+    let past = past_is _ y _ _ _ (to_z-of_z w64 c.args.bound c.ranges.bound) (to_z-of_z w64 y fits) c.is_past.ensures in
     zero_bits (get_or c.args.s.now c.place.result (pos 0)) (search rules) ∙ ap (λ k. is_zero (get_or c.args.s.now k (pos 0))) c.place.ensures
-    ∙ simp (above c.before.before.before.before.before false c.if-bound-y.false, below c.before.before.before.before.before false c.if-y-bound.false, z)
+    ∙ sym (other _ _ _ (not_zero y fits c.if-y-ne0.true)) ∙ past_false _ _ _ (sym past ∙ c.if-is_past.false)
+
+pub returns-else-y-ne0 : goal.returns-else-y-ne0
+unfolding breaks_side
+returns-else-y-ne0 c =
+    let y = get_or c.args.r.now c.args.i (pos 0) in
+    let fits : SFits w64 y = search rules in
+    let past = past_is _ y _ _ _ (to_z-of_z w64 c.args.bound c.ranges.bound) (to_z-of_z w64 y fits) c.is_past.ensures in
+    let z = is_zero_lem y fits c.if-y-ne0.false in
+    ap not (zero_bits y fits ∙ z) ∙ sym (chosen _ _ _ z) ∙ past_false _ _ _ (sym past ∙ c.if-is_past.false)

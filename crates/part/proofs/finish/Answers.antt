@@ -11,18 +11,18 @@ returns-then-p c =
     }
 
 pub end_of-requires : goal.end_of-requires
-end_of-requires c = (c.open_at-old.ensures, sym c.is_fair.ensures ∙ c.if-is_fair.true, c.if-p.false)
+end_of-requires c = (c.open_at-old.ensures, sym c.is_fair.ensures ∙ c.if-not-is_fair.false, c.if-p.false)
 
-pub returns-then-is_fair : goal.returns-then-is_fair
-returns-then-is_fair c =
-    let v = end_told c.args.p c.if-p.false (sym c.is_fair.ensures ∙ c.if-is_fair.true) in record {
+pub returns : goal.returns
+returns c =
+    let v = end_told c.args.p c.if-p.false (sym c.is_fair.ensures ∙ c.if-not-is_fair.false) in record {
       answer_value = c.end_of.ensures.answer_value ∙ v.0;
       position = c.end_of.ensures.position ∙ v.1;
     }
 
-pub returns-else-is_fair : goal.returns-else-is_fair
-returns-else-is_fair c =
-    let got = end_unsound c.args.p c.if-p.false (sym c.is_fair.ensures ∙ c.if-is_fair.false) in record {
+pub returns-then-not-is_fair : goal.returns-then-not-is_fair
+returns-then-not-is_fair c =
+    let got = end_unsound c.args.p c.if-p.false (sym c.is_fair.ensures ∙ c.if-not-is_fair.true) in record {
       answer_value = got.0;
       position = got.1;
     }

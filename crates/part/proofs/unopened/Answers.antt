@@ -13,17 +13,15 @@ use Rattle.part.proofs.unopened.Goals as goal
 pub returns-then-number-eq1 : goal.returns-then-number-eq1
 unfolding so_far
 returns-then-number-eq1 c =
-    let a = c.args in let is : good tt ≡ so_far {A = Arc} (bad (number_of a.r) a.place) = yes _ _ _ (is_same _ _ (omega (arith, c.number.ensures))) refl in record {
+    let a = c.args in let is : good tt ≡ so_far {A = Arc} (bad (number_of a.fault.why) a.fault.place) = yes _ _ _ (is_same _ _ (omega (arith, c.number.ensures))) refl in record {
       answer_value = ap (λ v. told_form v 0 a.taken) is;
       position = ap (λ v. grown v a.f a.taken) is;
-      tally = refl;
     }
 
 pub returns-else-number-eq1 : goal.returns-else-number-eq1
 unfolding so_far
 returns-else-number-eq1 c =
-    let a = c.args in let is : bad (number_of a.r) a.place ≡ so_far {A = Arc} (bad (number_of a.r) a.place) = no _ _ _ (not_same _ _ (λ e. omega (arith, c.number.ensures))) refl in record {
+    let a = c.args in let is : bad (number_of a.fault.why) a.fault.place ≡ so_far {A = Arc} (bad (number_of a.fault.why) a.fault.place) = no _ _ _ (not_same _ _ (λ e. omega (arith, c.number.ensures))) refl in record {
       answer_value = ap (λ v. told_form v 0 a.taken) is;
       position = c.ended.ensures ∙ ap (λ v. grown v a.f a.taken) is;
-      tally = refl;
     }

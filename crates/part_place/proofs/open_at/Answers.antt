@@ -4,21 +4,11 @@ use mathlib.Core.Path.{◌≡◌, sym, ap, ◌∙◌}
 use lib.ListN.{length, take}
 use lib.Seq.{length-take-le}
 use Rattle.part_laws.specs.Beginning.{opened}
-use Rattle.part_place.proofs.Looks.{least_take}
-use Rattle.part_place.proofs.open_at.Lts
-use Rattle.part_place.proofs.open_at.Reads
-use Rattle.part_place.proofs.open_at.Tie
+use Rattle.part_place.proofs.Looks.{least_take, opens_within}
 use Rattle.part_place.proofs.open_at.Goals as goal
 
--- the facts known at one place of the code
-abbrev At-After-least-len : Type 0
-At-After-least-len = Lts.After-least Tie.the-claims Reads.Pre Reads.Post
-
-long : (c : At-After-least-len) → length c.args.p.kept ≡ 1088
-long c = c.well_formed.0.1.1.0.1.0.1
-
 pub slice_bounds-kept-end : goal.slice_bounds-kept-end
-slice_bounds-kept-end c = omega (arith, c.least-len.ensures, long c)
+slice_bounds-kept-end c = omega (arith, c.least-len.ensures, c.well_formed.0.1.1.0.1.0.1)
 
 pub slice_bounds-open-end : goal.slice_bounds-open-end
 slice_bounds-open-end c = sym (length-take-le _ _ (slice_bounds-kept-end c.before))
@@ -26,11 +16,9 @@ slice_bounds-open-end c = sym (length-take-le _ _ (slice_bounds-kept-end c.befor
 pub returns : goal.returns
 returns c =
     let p = c.args.p in
-    let o = c.open in
     let n = c.least-len in
+    let fit = slice_bounds-open-end c.before in
     record {
-      told = o.ensures.0 ∙ ap opened (ap (λ k. take k p.kept) n.ensures ∙ least_take p.length 1088 p.kept (long c.before.before));
-      few = o.ensures.1;
-      start = omega (arith, o.ensures.2, slice_bounds-open-end c.before, n.ensures);
-      count = o.ensures.3;
+      told = c.open.ensures.opened ∙ ap opened (ap (λ k. take k p.kept) n.ensures ∙ least_take p.length 1088 p.kept c.well_formed.0.1.1.0.1.0.1);
+      fits = opens_within c.open.result _ (omega (arith, fit, n.ensures)) c.open.ensures.fits;
     }

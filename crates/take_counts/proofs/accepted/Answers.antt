@@ -1,5 +1,4 @@
 use borrow.Author.Rules.{rules}
-use Prim.Native.Nat.{◌-◌}
 use native.Mathlib.Omega.{arith}
 use Rattle.take_counts.proofs.Totals.{sum_end, sum_more}
 use Rattle.take_counts.proofs.accepted.Goals as goal
@@ -12,9 +11,9 @@ loop-station-preserved c =
     let l = c.loop-station in (
       omega arith,
       l.invariant.1,
-      omega (arith, c.wide-n.ensures.1),
-      λ few. omega (arith, l.invariant.3 few, few l.station (omega arith), c.wide-n.ensures.0),
-      omega (arith, l.invariant.4, c.wide-n.ensures.0, sum_more c.args.counts l.station (omega arith)),
+      omega arith,
+      λ few. omega (arith, l.invariant.3 few, few l.station (omega arith)),
+      omega (arith, l.invariant.4, sum_more c.args.counts l.station (omega arith)),
     )
 
 pub returns : goal.returns

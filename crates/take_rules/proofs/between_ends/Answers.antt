@@ -32,4 +32,4 @@ returns-else-from-t c =
     let a = c.args in
     let from = signed a.first _ c.start-from.ensures in
     let begins : le_z (pos (day_start a.first)) a.t ≡ false = rw (from, to_z-of_z w64 a.t c.ranges.t) at c.if-from-t.false in
-    rw begins
+    rw (from, to_z-of_z w64 a.t c.ranges.t, begins)

@@ -1,6 +1,6 @@
 -- `take_rules::well_inside` meets its contract: a day starts at day·86,400,000 or later, by 27 seconds at the most.
 use native.Mathlib.Omega.{arith}
-use mathlib.Core.Path.{◌≡◌, sym}
+use mathlib.Core.Path.{◌≡◌, sym, ◌∙◌}
 use mathlib.Core.Bool.{Bool, true, ◌&&◌}
 use Prim.Native.Nat.{ℕ, ◌+◌, ◌*◌}
 use borrow.Author.Tests.{leb-true, ltb-true, le-leb, lt-ltb}
@@ -34,4 +34,4 @@ returns-then-from-t c e =
     inside a.first a.days a.t begins ends
 
 pub returns-else-from-t : goal.returns-else-from-t
-returns-else-from-t c e = absurd (apart (sym e))
+returns-else-from-t c e = absurd (apart (sym e ∙ c.if-from-t.false))

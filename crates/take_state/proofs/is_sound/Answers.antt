@@ -1,5 +1,5 @@
 -- `take_state::is_sound` meets its contract: the tally and the sums, then the marks.
-use mathlib.Core.Path.{sym, ◌∙◌}
+use Rattle.std.proofs.Common.{sym, ◌∙◌}
 use Rattle.num_whole.proofs.Cases.{holds, fails}
 use Rattle.take_state.specs.State.{sound_state}
 use Rattle.take_state.proofs.is_sound.Goals as goal
@@ -10,4 +10,4 @@ returns-then-sums_sound c = holds _ _ (sym c.sums_sound.ensures ∙ c.if-sums_so
 
 pub returns-else-sums_sound : goal.returns-else-sums_sound
 unfolding sound_state
-returns-else-sums_sound c = fails _ _ (sym c.sums_sound.ensures ∙ c.if-sums_sound.false)
+returns-else-sums_sound c = c.if-sums_sound.false ∙ fails _ _ (sym c.sums_sound.ensures ∙ c.if-sums_sound.false)

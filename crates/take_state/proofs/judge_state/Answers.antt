@@ -1,29 +1,19 @@
 -- `take_state::judge_state` meets its contract: 20, 2, 4 and 5, then 6.
-use mathlib.Core.Path.{◌≡◌, sym, ap, ◌∙◌}
-use Rattle.refusal.specs.Told.{told_verdict}
-use Rattle.take_state.specs.State.{room_number}
-use Rattle.take_state.proofs.Rooms.{by_given, by_refused, roomed, state_room, state_unsound, state_sound}
-use Rattle.take_state.proofs.judge_state.Lts
-use Rattle.take_state.proofs.judge_state.Reads
-use Rattle.take_state.proofs.judge_state.Tie
+use Rattle.std.proofs.Common.{rules, ◌≡◌, sym, ap, ◌∙◌, Err}
+use Rattle.refusal.specs.Told.{told}
+use Rattle.take_state.proofs.Rooms.{accepted, stopped, roomed, state_room, state_unsound, state_sound}
 use Rattle.take_state.proofs.judge_state.Goals as goal
 
--- the facts known at one place of the code
-abbrev At-In-Sound : Type 0
-At-In-Sound = Lts.Past-After-enum_told Tie.the-claims Reads.Pre Reads.Post
-
--- the heading is accepted, with room
-room : (c : At-In-Sound) → room_number c.args.h c.args.matrix.now c.args.rights.now ≡ 0
-room c = by_given _ (sym (ap told_verdict c.in-Sound.is) ∙ c.judge_room.ensures)
-
 pub is_sound-requires : goal.is_sound-requires
-is_sound-requires c = let w = roomed _ _ _ (room c) in (w.sound.few, w.matrix, w.rights)
+is_sound-requires c = let w = roomed _ _ _ (accepted c.judge_room.ensures c.in_ok-judge_room.was) in (w.sound.few, w.matrix, w.rights)
 
-pub returns-in-Refused : goal.returns-in-Refused
-returns-in-Refused c = state_room _ _ c.in-Refused.refusal (by_refused _ _ (sym (ap told_verdict c.in-Refused.is) ∙ c.judge_room.ensures))
+pub returns-in_err-judge_room : goal.returns-in_err-judge_room
+returns-in_err-judge_room c =
+    let e : c.from_residual.result ≡ Err c.in_err-judge_room.field-0.0 = search rules in
+    ap told e ∙ state_room _ _ _ (stopped c.judge_room.ensures c.in_err-judge_room.was)
 
 pub returns-then-is_sound : goal.returns-then-is_sound
-returns-then-is_sound c = state_sound _ _ (room c.before.before) (sym c.is_sound.ensures ∙ c.if-is_sound.true)
+returns-then-is_sound c = state_sound _ _ (accepted c.judge_room.ensures c.in_ok-judge_room.was) (sym c.is_sound.ensures ∙ c.if-is_sound.true)
 
 pub returns-else-is_sound : goal.returns-else-is_sound
-returns-else-is_sound c = state_unsound _ _ (room c.before.before) (sym c.is_sound.ensures ∙ c.if-is_sound.false)
+returns-else-is_sound c = state_unsound _ _ (accepted c.judge_room.ensures c.in_ok-judge_room.was) (sym c.is_sound.ensures ∙ c.if-is_sound.false)

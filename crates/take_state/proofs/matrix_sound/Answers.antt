@@ -1,48 +1,23 @@
--- `take_state::matrix_sound` meets its contract.
-use mathlib.Core.Path.{◌≡◌, sym, ap, ◌∙◌}
+-- `take_state::matrix_sound` meets its contract: what the walk over the sums finds decides.
+use Rattle.std.proofs.Common.{rules, ◌≡◌, ◌∙◌}
 use lib.IntN.{pos}
 use mir.Syntax.{w64}
 use mir.Val.{to_z, of_z}
 use mir.ValLaws.{to_z-of_z}
-use Rattle.num_packed.specs.Sound.{breaks}
-use Rattle.num_packed.specs.Found.{columns_from, told_walked}
-use Rattle.num_packed.specs.declared.Walked.{Walked}
-use Rattle.num_packed.specs.declared.Walked.TheVariants.{Sound, Unsound}
 use Rattle.take_state.specs.State.{matrix_top}
 use Rattle.num_packed.proofs.Tests.{not_below}
-use Rattle.take_state.proofs.Judged.{matrix_pass, matrix_fail}
-use borrow.Author.Rules.{rules}
-use Rattle.take_state.proofs.matrix_sound.Lts
-use Rattle.take_state.proofs.matrix_sound.Reads
-use Rattle.take_state.proofs.matrix_sound.Tie
+use Rattle.take_state.proofs.Judged.{matrix_found}
 use Rattle.take_state.proofs.matrix_sound.Goals as goal
-
--- the facts known at one place of the code
-abbrev At-After-bound_of : Type 0
-At-After-bound_of = Lts.After-bound_of Tie.the-claims Reads.Pre Reads.Post Tie.handed_clauses
-
--- the facts known at one place of the code
-abbrev At-After-first_unsound : Type 0
-At-After-first_unsound = Lts.After-first_unsound Tie.the-claims Reads.Pre Reads.Post Tie.handed_clauses
-
-value : (c : At-After-bound_of) → to_z w64 (of_z w64 c.bound_of.result) ≡ pos (matrix_top c.args.n)
-value c = to_z-of_z w64 c.bound_of.result (search rules) ∙ c.bound_of.ensures
-
--- what the walk found, at the bound
-found : (c : At-After-first_unsound) → (w : Walked) → c.first_unsound.result ≡ w
-    → columns_from (breaks (pos (matrix_top c.args.n)) c.args.matrix.now) 0 c.args.p ≡ told_walked w
-found c w e =
-    ap (λ b. columns_from (breaks b c.args.matrix.now) 0 c.args.p) (sym (value c.before)) ∙ sym c.first_unsound.ensures ∙ ap told_walked e
 
 pub first_unsound-requires : goal.first_unsound-requires
 first_unsound-requires c =
+    let bound : to_z w64 (of_z w64 c.bound_of.result) ≡ pos (matrix_top c.args.n) = to_z-of_z w64 c.bound_of.result (search rules) ∙ c.bound_of.ensures in
     record {
       p_le_labels_most = search rules;
-      pos_bound = rw (value c) (not_below _);
+      pos_bound = rw bound (not_below _);
     }
 
-pub returns-in-Sound : goal.returns-in-Sound
-returns-in-Sound c = sym (matrix_pass _ _ _ (found c.before Sound c.in-Sound.is))
-
-pub returns-in-Unsound : goal.returns-in-Unsound
-returns-in-Unsound c = sym (matrix_fail _ _ _ _ (found c.before (Unsound _) c.in-Unsound.is))
+pub returns : goal.returns
+returns c =
+    let bound : to_z w64 (of_z w64 c.bound_of.result) ≡ pos (matrix_top c.args.n) = to_z-of_z w64 c.bound_of.result (search rules) ∙ c.bound_of.ensures in
+    matrix_found _ _ _ _ _ (rw bound at c.first_unsound.ensures) c.is_none.ensures

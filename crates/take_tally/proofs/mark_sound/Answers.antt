@@ -26,11 +26,11 @@ unfolding mark_good
 returns-then-is_seen c =
     (yes _ _ _ (is_less _ _ (omega arith)) (no _ _ _ (off _ (sym c.is_seen.ensures ∙ c.if-is_seen.true)) c.is_marked.ensures), omega arith)
 
-pub returns-then-i-p : goal.returns-then-i-p
+pub returns-else-is_seen : goal.returns-else-is_seen
 unfolding mark_good
-returns-then-i-p c =
+returns-else-is_seen c =
     (yes _ _ _ (is_less _ _ (omega arith)) (yes _ _ _ (on _ (sym c.is_seen.ensures ∙ c.if-is_seen.false)) (by_same _ _)), omega arith)
 
-pub returns : goal.returns
+pub returns-else-i-p : goal.returns-else-i-p
 unfolding mark_good
-returns c = (no _ _ _ (not_less _ _ (omega arith)) (by_same _ _), omega arith)
+returns-else-i-p c = (no _ _ _ (not_less _ _ (omega arith)) (by_same _ _), omega arith)

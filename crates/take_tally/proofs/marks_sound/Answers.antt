@@ -44,13 +44,13 @@ loop-i-init c = (omega arith, none_yet _)
 pub loop-i-preserved : goal.loop-i-preserved
 loop-i-preserved c =
     let l = c.loop-i in
-    (omega arith, one_more _ l.i l.invariant.1 (tested c.before ∙ c.if-mark_sound.true))
+    (omega arith, one_more _ l.i l.invariant.1 (tested c.before ∙ c.if-not-mark_sound.false))
 
-pub returns-else-mark_sound : goal.returns-else-mark_sound
+pub returns-then-not-mark_sound : goal.returns-then-not-mark_sound
 unfolding marks_sound
-returns-else-mark_sound c =
+returns-then-not-mark_sound c =
     let l = c.loop-i in
-    sym (below_fails _ 50 l.i (omega arith) (tested c.before ∙ c.if-mark_sound.false))
+    sym (below_fails _ 50 l.i (omega arith) (tested c.before ∙ c.if-not-mark_sound.true))
 
 pub returns : goal.returns
 unfolding marks_sound

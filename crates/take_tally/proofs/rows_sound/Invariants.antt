@@ -1,5 +1,5 @@
 -- `take_tally::rows_sound` meets its contract: each row past the stations that was passed is blank.
-use Prim.Native.Nat.{ℕ, ◌≤◌, ◌<◌, ◌-◌}
+use Prim.Native.Nat.{ℕ, ◌≤◌, ◌<◌}
 use mathlib.Core.Path.{◌≡◌}
 use mathlib.Core.Bool.{true}
 use lib.ListN.{get_or}
@@ -10,6 +10,3 @@ use Rattle.take_tally.proofs.rows_sound.Given as goal
 
 abbrev pub invariant-loop-i : goal.invariant-loop-i
 invariant-loop-i l = (l.stations ≤ l.i) × ((k : ℕ) → k < l.i → l.stations ≤ k → all (λ t. same t 0) (get_or l.t.rows k no_row).times ≡ true)
-
-abbrev pub decreases-loop-i : goal.decreases-loop-i
-decreases-loop-i l = 16 - l.i

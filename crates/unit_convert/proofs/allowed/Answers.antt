@@ -10,7 +10,7 @@ use Rattle.unit_convert.proofs.allowed.Goals as goal
 
 pub returns-then-row-q : goal.returns-then-row-q
 returns-then-row-q c =
-    let t = c.top_of-top in
+    let t = c.top_of in
     let a = c.args in
     ap₂ (λ x y. le_z x y) (to_z-of_z c.ranges.q) (to_z-of_z {w = w64} (record { sfits = t.type_inv }) ∙ t.ensures)
     ∙ sym (ap (λ b. b && le_z a.q (top_of a.row)) (tested a.row.low a.q true (record { sfits = c.struct_told-1.given.1.0.1 }) c.ranges.q c.if-row-q.true))
@@ -18,4 +18,4 @@ returns-then-row-q c =
 pub returns-else-row-q : goal.returns-else-row-q
 returns-else-row-q c =
     let a = c.args in
-    sym (ap (λ b. b && le_z a.q (top_of a.row)) (tested a.row.low a.q false (record { sfits = c.struct_told-1.given.1.0.1 }) c.ranges.q c.if-row-q.false))
+    c.if-row-q.false ∙ sym (ap (λ b. b && le_z a.q (top_of a.row)) (tested a.row.low a.q false (record { sfits = c.struct_told-1.given.1.0.1 }) c.ranges.q c.if-row-q.false))

@@ -8,7 +8,7 @@ pub returns-then-has_both : goal.returns-then-has_both
 returns-then-has_both c =
     let a = c.args in let got = carriers_whole _ _ _ _ (sym c.has_both.ensures ∙ c.if-has_both.true) _
     (c.carried_by.ensures ∙ ap₂ (λ h t. carriers_of h (state_of a.matrix.now a.rights.now t) a.parameter) c.heading_in-h.ensures c.tally_in-t.ensures)
-    (c.give_carriers.ensures.value, c.give_carriers.ensures.left) in record {
+    (c.give_told.ensures.value, c.give_told.ensures.left) in record {
       value = got.0;
       left = got.1;
     }

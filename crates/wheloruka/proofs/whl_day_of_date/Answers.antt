@@ -7,7 +7,7 @@ use Rattle.wheloruka.proofs.whl_day_of_date.Goals as goal
 pub returns : goal.returns
 unfolding day_values
 returns c =
-    let got = as_told one c.day_of_date.ensures _ (c.give_day.ensures.value, c.give_day.ensures.left) in record {
+    let got = as_told one c.day_of_date.ensures _ (c.give_told.ensures.value, c.give_told.ensures.left) in record {
       value = got.0;
       left = got.1;
     }

@@ -11,7 +11,7 @@ use Rattle.wheloruka.proofs.whl_double_of.Goals as goal
 pub returns : goal.returns
 unfolding double_values
 returns c =
-    let got = as_told one (c.double_of_unit.ensures ∙ ap (double_of c.args.kind) (to_z-of_z w64 c.args.unit c.ranges.unit)) _ (c.give_double.ensures.value, c.give_double.ensures.left) in record {
+    let got = as_told one (c.double_of_unit.ensures ∙ ap (double_of c.args.kind) (to_z-of_z w64 c.args.unit c.ranges.unit)) _ (c.give_told.ensures.value, c.give_told.ensures.left) in record {
       value = got.0;
       left = got.1;
     }

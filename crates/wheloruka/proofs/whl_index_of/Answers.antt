@@ -7,7 +7,7 @@ use Rattle.wheloruka.proofs.whl_index_of.Goals as goal
 pub returns : goal.returns
 unfolding index_values
 returns c =
-    let got = as_told one c.index_by.ensures _ (c.give_index.ensures.value, c.give_index.ensures.left) in record {
+    let got = as_told one c.index_by.ensures _ (c.give_told.ensures.value, c.give_told.ensures.left) in record {
       value = got.0;
       left = got.1;
     }

@@ -5,4 +5,4 @@ use Rattle.wheloruka.proofs.Files.{normal_place}
 use Rattle.wheloruka.proofs.whl_normal_place.Goals as goal
 
 pub returns : goal.returns
-returns c = c.read_place.ensures ∙ normal_place (read_normal _) _ c.read-r.ensures
+returns c = c.read_place.ensures ∙ normal_place (read_normal _) _ c.read.ensures

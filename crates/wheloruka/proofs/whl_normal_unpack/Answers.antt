@@ -6,8 +6,8 @@ use Rattle.wheloruka.proofs.whl_normal_unpack.Goals as goal
 
 pub returns : goal.returns
 returns c = record {
-  value = c.read_number.ensures ∙ judged_number_lem (unpack_normal _ _ _ _) _ c.unpack-r.ensures.result_value;
-  heads = c.unpack-r.ensures.heads_after;
-  matrix = c.unpack-r.ensures.matrix_after;
-  rights = c.unpack-r.ensures.rights_after;
+  value = c.read_number.ensures ∙ judged_number_lem (unpack_normal _ _ _ _) _ c.unpack.ensures.result_value;
+  heads = c.unpack.ensures.heads_after;
+  matrix = c.unpack.ensures.matrix_after;
+  rights = c.unpack.ensures.rights_after;
 }

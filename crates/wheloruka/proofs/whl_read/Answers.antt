@@ -1,9 +1,8 @@
 -- `wheloruka::whl_read` meets its contract: the file's refusal, too little room, or the heading and the two numbers in their rooms.
 use mathlib.Core.Path.{◌∙◌, ap}
 use lib.ListN.{length}
-use Rattle.arc_read.specs.Arc.{read_arc}
 use Rattle.call_files.specs.Reading.{read_number, heading_left, places_left}
-use Rattle.wheloruka.proofs.Files.{arc_is, arc_fits}
+use Rattle.wheloruka.proofs.Files.{arc_fits}
 use Rattle.wheloruka.proofs.whl_read.Goals as goal
 
 pub give_arc-requires : goal.give_arc-requires
@@ -12,7 +11,7 @@ give_arc-requires c = arc_fits _ _ c.read.ensures
 pub returns : goal.returns
 returns c =
     let a = c.args in
-    let is = arc_is (read_arc a.file.now) _ c.read.ensures in
+    let is = c.read.ensures in
     record {
       value = c.give_arc.ensures.value ∙ ap (λ j. read_number j (length a.heading.now) (length a.out.now)) is;
       heading = c.give_arc.ensures.heading ∙ ap (λ j. heading_left j a.heading.now (length a.out.now)) is;

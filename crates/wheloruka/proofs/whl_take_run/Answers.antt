@@ -5,7 +5,7 @@ use Rattle.refusal.specs.First.{answered}
 use Rattle.take_state.specs.State.{state_of}
 use Rattle.take_laws.specs.Taking.{run_number, run_state, run_answers}
 use Rattle.take.proofs.Answers.{state_left}
-use Rattle.wheloruka.proofs.Calls.{short, gives, answers_short, answers_whole}
+use Rattle.wheloruka.proofs.Calls.{short, gives, sums_kept, answers_short, answers_whole}
 use Rattle.wheloruka.proofs.whl_take_run.Goals as goal
 
 pub returns-then-has_both : goal.returns-then-has_both
@@ -17,7 +17,7 @@ returns-then-has_both c =
     let told = c.take_run-taken.ensures.answer_value ∙ ap₂ (λ h t. answered (run_number h a.run.now (length a.answers.now) (state_of a.matrix.now a.rights.now t)) tt) h t in
     let left = c.take_run-taken.ensures.state ∙ ap₂ (λ h t. run_state h a.run.now (length a.answers.now) (state_of a.matrix.now a.rights.now t)) h t in
     let answers = answers_whole _ _ _ _ whole _ (c.take_run-taken.ensures.told ∙ ap₂ (λ h t. run_answers h a.run.now a.answers.now (state_of a.matrix.now a.rights.now t)) h t) in
-    let d = gives _ _ _ _ whole _ told _ _ _ left (state_left _ _ _ _) (c.give_taken.ensures.value, c.give_taken.ensures.left) in record {
+    let d = gives _ _ _ _ whole _ _ _ (λ some. sums_kept (state_left _ _ _ _ some)) _ told left (c.give_taken.ensures.value, c.give_taken.ensures.left) in record {
       value = d.0;
       left = d.1;
       told = answers;

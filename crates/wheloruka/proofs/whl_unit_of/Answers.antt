@@ -7,7 +7,7 @@ use Rattle.wheloruka.proofs.whl_unit_of.Goals as goal
 pub returns : goal.returns
 unfolding unit_values
 returns c =
-    let got = as_told one c.unit_of.ensures _ (c.give_unit.ensures.value, c.give_unit.ensures.left) in record {
+    let got = as_told one c.unit_of.ensures _ (c.give_told.ensures.value, c.give_told.ensures.left) in record {
       value = got.0;
       left = got.1;
     }

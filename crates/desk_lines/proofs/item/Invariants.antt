@@ -1,9 +1,0 @@
--- `desk_lines::item` is safe and ends.
-use Prim.Native.Nat.{◌-◌}
-use Rattle.desk_lines.proofs.item.Given as goal
-
-abbrev pub invariant-loop-i : goal.invariant-loop-i
-invariant-loop-i l = Unit {0}
-
-abbrev pub decreases-loop-i : goal.decreases-loop-i
-decreases-loop-i l = l.count - l.i
