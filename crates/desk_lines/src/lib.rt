@@ -182,12 +182,6 @@ pub fn put_signed<R: Print + Tell>(stdout: &Output<'_, R>, value: i64, after: &[
     put(stdout, after);
 }
 
-// Writes a number as 16 hexadecimal digits, and what stands after it.
-pub fn put_hex<R: Print + Tell>(stdout: &Output<'_, R>, value: u64, after: &[u8]) {
-    print!(stdout; "{value:016x}");
-    put(stdout, after);
-}
-
 // Writes bytes as two hexadecimal digits each.
 pub fn put_bytes<R: Print + Tell>(stdout: &Output<'_, R>, bytes: &[u8]) {
     for b in bytes {
