@@ -5,6 +5,8 @@ set -e
 cd "$(dirname "$0")/.."
 kit=$(dirname "$(rt doc)"); tools=$kit/toolchain; out=target/calls
 (cd crates/wheloruka && rt lib >/dev/null)
+nm -u crates/wheloruka/out/libwheloruka.a | awk '$1 == "U" { print $2 }' | sort -u | tr '\n' ' ' | grep -qx 'memcpy memset ' ||
+    { echo "run.sh: the library asks for other names from outside than memcpy and memset" >&2; exit 1; }
 mkdir -p $out
 cc="$tools/bin/clang --target=x86_64-unknown-linux-gnu -O2 -fPIE -nostdinc -Wall -Wextra -Wno-unused-parameter -Icalls/headers -Iinclude"
 run="$tools/lib/ld-linux-x86-64.so.2 --library-path $tools/lib"

@@ -20,8 +20,8 @@
    - No pointer may be null, not even with 0 elements; a room that is written may not overlap any other; each is aligned as C wants for its
      elements. A room that only takes results may be uninitialised; one that is read may not, and the state of an arc, which whl_start fills, is
      read by every later call.
-   - Nothing is kept between calls, and nothing is allocated: calls in different threads on different rooms do not meet. Stack: whl_list 45 KB,
-     whl_merge and whl_part 25 KB, whl_position_heading 15 KB, every other call below 14 KB.
+   - Nothing is kept between calls, and nothing is allocated: calls in different threads on different rooms do not meet. Stack: whl_list 51 KB,
+     whl_merge 29 KB, whl_part 26 KB, every other call below 14 KB. Of the C library memcpy and memset are asked for, and nothing else from outside.
    - No answer depends on the floating-point environment: in every rounding mode and with subnormals taken for zero it is the same. A subnormal
      double raises the flag of a denormal operand, a signalling not-a-number that of an invalid one: where these two traps are unmasked, mask them
      around a call. */

@@ -1,10 +1,13 @@
--- Laws of the run of an arc file: how long it may be, and that a copy of it is laid at its place.
+-- Laws of the run of an arc file: how long it may be, and what is left to copy of it.
 -- Assumes nothing.
-use Rattle.std.proofs.Common.{◌≡◌, ℕ, ◌+◌, ◌*◌, ◌/◌, ◌≤◌, ◌<◌, List, append_assoc, length, arith}
-use Rattle.std.proofs.lemmas.List.{drop-drop}
-use Rattle.std.proofs.lemmas.List.Edits.{sets-eq}
-use borrow.Rule.Slice.PartMut.{put_mid}
+use Prim.Native.Nat.{ℕ, suc, ◌+◌, ◌*◌, ◌/◌, ◌≤◌, ◌<◌}
+use mathlib.Core.Path.{◌≡◌}
+use mathlib.Core.List.{List}
+use native.Mathlib.Omega.{arith}
+use native.Mathlib.Numerals.{add-one}
 use native.Mathlib.Nat.{div-lt_iff_lt-mul}
+use lib.ListN.{length, drop, get_or, set, drop_of_length-le}
+use lib.Seq.{drop-cons}
 use Rattle.byte_words.specs.Words.{lay}
 use Rattle.arc_kinds.specs.Kinds.{record_size}
 
@@ -15,7 +18,15 @@ run_short p n few h =
     let less : n < 65536 * record_size p = (div-lt_iff_lt-mul some).0 (omega arith) in
     omega arith
 
--- ---- a run that is copied is laid at its place
-pub laid_run : (out run : List ℕ) (start k : ℕ) → k ≡ length run → start + length run ≤ length out → put_mid start k out run ≡ lay out start run
-unfolding lay
-laid_run out run start k e h = rw (e, sets-eq run out start h) (simp (drop-drop, append_assoc))
+-- ---- a loop that copies a run: what is left at each turn
+module _ (out run : List ℕ) (start i : ℕ) where
+  pub run_end_lem : length run ≤ i → lay out (start + i) (drop i run) ≡ out
+  unfolding lay
+  run_end_lem e = rw (drop_of_length-le run e)
+
+  pub run_turn : i < length run
+      → lay out (start + i) (drop i run) ≡ lay (set out (start + i) (get_or run i 0)) (start + (i + 1)) (drop (i + 1) run)
+  unfolding lay
+  run_turn more =
+      let next : start + (i + 1) ≡ suc (start + i) = omega arith in
+      rw (drop-cons run i 0 more, next, add-one)

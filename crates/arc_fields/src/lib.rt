@@ -109,5 +109,7 @@ pub fn put_run(run: &[u8], out: &mut [u8], start: usize)
     requires { start + length run.now ≤ length out.old }
     ensures { out.new ≡ lay out.old start run.now }
 {
-    out[start..start + run.len()].copy_from_slice(run);
+    for i in 0..run.len() {
+        out[start + i] = run[i];
+    }
 }

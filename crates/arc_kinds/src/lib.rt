@@ -3,6 +3,8 @@
 
 ghost use Rattle.std.specs.Prelude.{◌≡◌, ◌+◌, ◌<◌, ◌^◌, ℕ, refl};
 ghost use Rattle.std.specs.Bool.{then_some};
+ghost use Rattle.num_whole.specs.Answer.{bad};
+ghost use Rattle.refusal.specs.Number.{number_of};
 ghost use Rattle.refusal.specs.Told.{told_placed};
 ghost use Rattle.byte_section.specs.Section.{Kind, judged_at};
 ghost use Rattle.arc_kinds.specs.Kinds.{settings_at, settings_kind, label_at, label_kind, station_at, station_kind};
@@ -36,6 +38,13 @@ pub trait Record: Copy {
     ghost sized: { kind.size ≡ SIZE };
 }
 
+// A record refused at its first byte.
+fn refused<R: Record>(why: Refusal, at: usize) -> Result<R, Fault>
+    ensures { told_placed result ≡ bad (number_of why) at }
+{
+    Err(Fault { why, place: at })
+}
+
 // One record, judged 1, 4, 5; `floor` is the least key that it may have.
 pub fn read_record<R: Record>(s: &[u8], at: usize, floor: u64) -> Result<R, Fault>
     ensures { told_placed result ≡ judged_at R.kind s.now at floor }
@@ -46,12 +55,11 @@ pub fn read_record<R: Record>(s: &[u8], at: usize, floor: u64) -> Result<R, Faul
             place: s.len(),
         });
     }
-    let why = match R::load(s, at) {
-        None => Refusal::Limits,
-        Some(r) if r.key() < floor => Refusal::Order,
-        Some(r) => return Ok(r),
-    };
-    Err(Fault { why, place: at })
+    match R::load(s, at) {
+        None => refused(Refusal::Limits, at),
+        Some(r) if r.key() < floor => refused(Refusal::Order, at),
+        Some(r) => Ok(r),
+    }
 }
 
 // ---- settings

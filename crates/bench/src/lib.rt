@@ -6,8 +6,8 @@ ghost use Rattle.std.specs.Prelude.{◌<◌};
 
 use arc_heading::Heading;
 use merge::MergeRefusal;
-use part::Begun;
-use refusal::{Fault, Refusal};
+use part_laws::Position;
+use refusal::Refusal;
 use take_tally::Tally;
 
 // ---- taking
@@ -34,38 +34,22 @@ fn number_of(why: Refusal) -> u8 {
     (refusal::number(why) % 256) as u8
 }
 
-// Lays out the tally that was come to: 0, or the refusal's number.
-fn tell_taken(taken: Result<Tally, Refusal>, tally: &mut [u64]) -> u8 {
-    match taken {
-        Ok(t) => {
-            put_tally(t, tally);
-            0
-        }
-        Err(why) => number_of(why),
-    }
-}
-
 // The records of a file, from their place on.
 fn records_of(file: &[u8], start: usize) -> &[u8] {
     file.get(start..).unwrap_or(&[])
 }
 
-fn run_file(
-    file: &[u8],
-    matrix: &mut [i64],
-    rights: &mut [i64],
-    answers: &mut [u8],
-) -> Result<Tally, Refusal> {
-    let r = arc_read::read(file).map_err(|fault| fault.why)?;
-    let t = take_state::start(r.heading, matrix, rights)?;
-    take::take_run(
-        r.heading,
-        t,
-        matrix,
-        rights,
-        records_of(file, r.start),
-        answers,
-    )
+// The heading of a file and the place of its records; a blank heading and 0 where the file is refused.
+fn front_of(file: &[u8]) -> (Heading, usize) {
+    match arc_read::read(file) {
+        Ok(r) => (r.heading, r.start),
+        Err(_) => (arc_front::blank(), 0),
+    }
+}
+
+// The tally that a heading begins with; the empty one where it is refused.
+fn started(h: Heading, matrix: &mut [i64], rights: &mut [i64]) -> Tally {
+    take_state::start(h, matrix, rights).unwrap_or(take_tally::no_tally())
 }
 
 // The records of an arc file as one run.
@@ -77,21 +61,27 @@ pub extern "C" fn bench_run(
     tally: &mut [u64],
     answers: &mut [u8],
 ) -> u8 {
-    tell_taken(run_file(file, matrix, rights, answers), tally)
+    let (h, start) = front_of(file);
+    let t = started(h, matrix, rights);
+    match take::take_run(h, t, matrix, rights, records_of(file, start), answers) {
+        Ok(after) => {
+            put_tally(after, tally);
+            0
+        }
+        Err(why) => {
+            put_tally(t, tally);
+            number_of(why)
+        }
+    }
 }
 
 // As many records of a file as there is room for answers, each by itself.
-fn take_each(
-    file: &[u8],
-    matrix: &mut [i64],
-    rights: &mut [i64],
-    answers: &mut [u8],
-) -> Result<Tally, Refusal> {
-    let r = arc_read::read(file).map_err(|fault| fault.why)?;
-    let mut t = take_state::start(r.heading, matrix, rights)?;
+fn take_each(file: &[u8], matrix: &mut [i64], rights: &mut [i64], answers: &mut [u8]) -> Tally {
+    let (h, start) = front_of(file);
+    let mut t = started(h, matrix, rights);
     for (i, told) in answers.iter_mut().enumerate() {
-        let bytes = arc_record::record_at(file, r.start, r.heading.parameters, i);
-        match take::take(r.heading, t, matrix, rights, bytes) {
+        let bytes = arc_record::record_at(file, start, h.parameters, i);
+        match take::take(h, t, matrix, rights, bytes) {
             Ok(after) => {
                 t = after;
                 *told = 0;
@@ -99,7 +89,7 @@ fn take_each(
             Err(why) => *told = number_of(why),
         }
     }
-    Ok(t)
+    t
 }
 
 // The records of an arc file one by one.
@@ -111,7 +101,16 @@ pub extern "C" fn bench_take(
     tally: &mut [u64],
     answers: &mut [u8],
 ) -> u8 {
-    tell_taken(take_each(file, matrix, rights, answers), tally)
+    put_tally(take_each(file, matrix, rights, answers), tally);
+    0
+}
+
+// The position and the tally that a file in parts begins with, where the room is short too.
+fn begun(matrix: &mut [i64], rights: &mut [i64]) -> (Position, Tally) {
+    match part::begin(matrix, rights) {
+        Ok(b) => (b.position, b.tally),
+        Err(_) => (part_place::begun(), take_tally::no_tally()),
+    }
 }
 
 // The records of an arc file, handed over in parts of so many bytes.
@@ -121,20 +120,17 @@ fn take_parts(
     matrix: &mut [i64],
     rights: &mut [i64],
     answers: &mut [u8],
-) -> Result<Tally, Refusal>
+) -> Tally
     requires { 0 < size }
 {
-    let Begun {
-        position: mut p,
-        tally: mut t,
-    } = part::begin(matrix, rights)?;
+    let (mut p, mut t) = begun(matrix, rights);
     for bytes in file.chunks(size) {
         let k = p.taken.min(answers.len());
         let taken = part::part(p, t, matrix, rights, bytes, &mut answers[k..]);
         p = taken.position;
         t = taken.tally;
     }
-    Ok(t)
+    t
 }
 
 // The records of an arc file, handed over in parts of 64 KiB.
@@ -146,7 +142,8 @@ pub extern "C" fn bench_parts(
     tally: &mut [u64],
     answers: &mut [u8],
 ) -> u8 {
-    tell_taken(take_parts(file, 65536, matrix, rights, answers), tally)
+    put_tally(take_parts(file, 65536, matrix, rights, answers), tally);
+    0
 }
 
 // The same in parts of one byte.
@@ -158,7 +155,8 @@ pub extern "C" fn bench_bytes(
     tally: &mut [u64],
     answers: &mut [u8],
 ) -> u8 {
-    tell_taken(take_parts(file, 1, matrix, rights, answers), tally)
+    put_tally(take_parts(file, 1, matrix, rights, answers), tally);
+    0
 }
 
 // ---- normal files

@@ -2,11 +2,10 @@
 -- Assumes nothing.
 use Prim.Native.Nat.{ℕ, suc, ◌+◌, ◌-◌, ◌≤◌, ◌<◌, min}
 use mathlib.Core.Path.{◌≡◌, refl, sym, ap, ap₂, ◌∙◌}
-use mathlib.Core.List.{List, [], ◌++◌, append_assoc}
-use borrow.Rule.Slice.PartMut.{put_mid}
+use mathlib.Core.List.{List, [], ◌++◌}
 use native.Mathlib.Omega.{arith}
-use lib.ListN.{length, take, drop, length-append, length-drop, drop_of_length-le, take-append-drop}
-use lib.Seq.{sets-eq, length-take-le, take_all, drop-drop}
+use lib.ListN.{length, get_or, set, take, drop, length-append, length-drop, drop_of_length-le}
+use lib.Seq.{drop-cons, take_all}
 use Rattle.num_whole.specs.Tests.{less}
 use Rattle.num_whole.proofs.Cases.{by_cases, less_true, less_false}
 use Rattle.byte_words.specs.Words.{lay}
@@ -55,32 +54,17 @@ laid_none s at = let z : at + 0 ≡ at = omega arith in rw z
 pub part_to_end : (n : ℕ) (l : List ℕ) → take (length l - n) (drop n l) ≡ drop n l
 part_to_end n l = take_all (length l - n) (drop n l) (simp length-drop (omega arith))
 
--- what is copied is laid at its place
-laid_run : (out run : List ℕ) (start k : ℕ) → k ≡ length run → start + length run ≤ length out → put_mid start k out run ≡ lay out start run
+-- ---- the loop that copies: what is laid and the bytes still to come are the whole
+pub copy_turn : (s text : List ℕ) (at i : ℕ) → i < length text → lay s (at + i) (drop i text) ≡ lay (set s (at + i) (get_or text i 0)) (at + (i + 1)) (drop (i + 1) text)
 unfolding lay
-laid_run out run start k e h = rw (e, sets-eq run out start h) (simp (drop-drop, append_assoc))
+copy_turn s text at i h =
+    let next : at + (i + 1) ≡ suc (at + i) = omega arith in
+    let one : i + 1 ≡ suc i = omega arith in
+    rw (drop-cons text i 0 h, next, one)
 
--- ---- a text copied up to the place after it is laid
-copy_end : (s text : List ℕ) (at i : ℕ) → min (length text) (length s - at) ≤ i → lay s (at + i) (drop i text) ≡ s
+pub copy_end : (s text : List ℕ) (at i : ℕ) → min (length text) (length s - at) ≤ i → lay s (at + i) (drop i text) ≡ s
 unfolding lay
 copy_end s text at i h =
     by_cases (less i (length text))
     (λ t. lay_out s (at + i) (drop i text) (omega (arith, less_true _ _ t)))
     (λ t. rw (drop_of_length-le text (less_false _ _ t)))
-
-module _ (s text : List ℕ) (at next : ℕ) (e : next ≡ min (at + length text) (length s)) where
-  pub copied : (xs : List ℕ) → xs ≡ take (next - at) text → at < next → put_mid at (next - at) s xs ≡ lay s at text
-  copied xs p h =
-      let k = next - at in
-      let many : length (take k text) ≡ k = length-take-le k text (omega arith) in
-      let m : at + k ≡ at + length (take k text) = ap (λ n. at + n) (sym many) in
-      let kept : length (lay s at (take k text)) ≡ length s = length_lay s at (take k text) in
-      ap (put_mid at k s) p ∙ laid_run s (take k text) at k (sym many) (omega arith)
-      ∙ sym (copy_end (lay s at (take k text)) text at k (omega arith))
-      ∙ lay_append s at (at + k) (take k text) (drop k text) m ∙ ap (lay s at) (take-append-drop k text)
-
-  pub none_copied : next ≤ at → s ≡ lay s at text
-  none_copied h =
-      let end : lay s (at + 0) (drop 0 text) ≡ s = copy_end s text at 0 (omega arith) in
-      let z : at + 0 ≡ at = omega arith in
-      sym (ap (λ n. lay s n text) (sym z) ∙ end)

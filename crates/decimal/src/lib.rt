@@ -20,11 +20,11 @@ fn after(at: usize, k: usize, end: usize) -> usize
 pub fn put_text(room: &mut [u8], at: usize, text: &[u8]) -> usize
     ensures { (room.new, result) ≡ laid room.old at text.now }
 {
-    let next = after(at, text.len(), room.len());
-    if at < next {
-        room[at..next].copy_from_slice(&text[..next - at]);
+    let n = text.len().min(byte_words::left(room.len(), at));
+    for i in 0..n {
+        room[at + i] = text[i];
     }
-    next
+    after(at, text.len(), room.len())
 }
 
 // The byte of a digit.

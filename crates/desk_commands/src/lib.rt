@@ -4,10 +4,11 @@
 // of its callers: the commands that read no normal file do without them.
 #![tactic(auto)]
 
-ghost use Rattle.std.specs.Prelude.{◌≡◌, length};
+ghost use Rattle.std.specs.Prelude.{◌≡◌, ◌≤◌, IfSome, length};
 ghost use Rattle.num_limits.specs.Capacities.{arc_sums_most, parameters_most};
 ghost use Rattle.list_run.specs.Rooms.{part_most};
 ghost use Rattle.list_run.specs.Course.{Open, Ended};
+ghost use Rattle.merge.specs.Files.{merge_answer, merge_left, told_merge};
 
 use arc_heading::Heading;
 use desk_arc::Followed;
@@ -272,6 +273,14 @@ fn store_moved<R: Files + Print + Tell>(
     }
 }
 
+// Merging has rooms of its own, which are given back before the file is written: it is never made a part of its caller.
+#[inline(never)]
+fn merged(a: &[u8], b: &[u8], out: &mut [u8]) -> Result<usize, MergeRefusal>
+    ensures { (told_merge result ≡ merge_answer a.now b.now (length out.old)) × (out.new ≡ merge_left a.now b.now out.old) }
+{
+    merge::merge(a, b, out)
+}
+
 // Two files and the name of the third.
 fn merge_files<R: Files + Print + Tell>(
     stdout: &Output<'_, R>,
@@ -282,7 +291,7 @@ fn merge_files<R: Files + Print + Tell>(
     to: &[u8],
     out: &mut [u8],
 ) {
-    match merge::merge(a, b, out) {
+    match merged(a, b, out) {
         Ok(n) => {
             store(stdout, to, out, n);
         }
@@ -446,7 +455,9 @@ fn word<'a, R: Env + Print + Tell>(
     at: usize,
     after: usize,
     buf: &'a mut [u8],
-) -> Option<&'a [u8]> {
+) -> Option<&'a [u8]>
+    ensures { IfSome result (λ word. length word.now ≤ length buf.old) }
+{
     let number = after.saturating_add(1);
     match desk_files::argument(stdout.runtime(), at.saturating_add(after), buf) {
         Ok([]) | Err(FillError::NotPresent) => {

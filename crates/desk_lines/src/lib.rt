@@ -2,7 +2,7 @@
 // that a text does not have is empty, and where no digit stands the number is 0.
 #![tactic(auto)]
 
-ghost use Rattle.std.specs.Prelude.{◌<◌, ◌≤◌, IfSome, length};
+ghost use Rattle.std.specs.Prelude.{◌+◌, ◌<◌, ◌≤◌, IfSome, length, min};
 
 pub use desk_files::Tell;
 use refusal::Refusal;
@@ -11,8 +11,14 @@ use std::fmt::Display;
 use std::io;
 
 // The text after its first mark; nothing where it has none.
-pub fn after(text: &[u8], mark: u8) -> &[u8] {
-    from_item(text, mark, 1)
+pub fn after(text: &[u8], mark: u8) -> &[u8]
+    ensures within { length result.now ≤ length text.now }
+    ensures later { min 1 (length text.now) + length result.now ≤ length text.now }
+{
+    match text.iter().position(|b| *b == mark) {
+        Some(i) => &text[i + 1..],
+        None => &[],
+    }
 }
 
 // A text from an item on, with items counted from 0 and a mark after each; nothing where it has fewer.

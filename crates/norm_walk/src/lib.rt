@@ -21,15 +21,17 @@ fn first_entry(s: &[u8], start: usize, p: usize, bound: u64, is_small: bool) -> 
     ensures { told_walked result ≡ columns_from (breaks_in is_small (pos bound) (sums_at s.now start (tri p))) 0 p }
 {
     let least = norm_sum::least_of(is_small);
-    for j in 0..p {
+    let mut found = None;
+    'all: for j in 0..p {
         let is_silent = norm_sum::is_silent_at(s, start, j);
         for i in 0..j + 1 {
             if norm_sum::is_broken(s, start, i, j, bound, least, is_silent) {
-                return Some(num_packed::place(i, j));
+                found = Some(num_packed::place(i, j));
+                break 'all;
             }
         }
     }
-    None
+    found
 }
 
 // The first unsound one of p right sides.

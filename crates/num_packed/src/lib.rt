@@ -57,14 +57,16 @@ fn walk(s: &[i64], p: usize, bound: i64) -> Option<usize>
     requires pos_bound { pos 0 ≤ℤ bound }
     ensures { told_walked result ≡ columns_from (breaks bound s.now) 0 p }
 {
-    for j in 0..p {
+    let mut found = None;
+    'all: for j in 0..p {
         for i in 0..j + 1 {
             if is_broken(s, i, j, bound) {
-                return Some(place(i, j));
+                found = Some(place(i, j));
+                break 'all;
             }
         }
     }
-    None
+    found
 }
 
 // Whether the diagonal of parameter i is above 0.

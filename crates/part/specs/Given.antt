@@ -5,7 +5,9 @@ use Rattle.arc_heading.specs.declared.Heading.{Heading}
 use Rattle.arc_front.specs.Front.{blank_heading}
 use Rattle.take_tally.specs.Tally.{empty_tally}
 use Rattle.take_tally.specs.declared.Tally.{Tally}
-use Rattle.part_laws.specs.Entries.{Told, took, told_part}
+use Rattle.part_laws.specs.Entries.{Told, took, told_part, held_of}
+use Rattle.part_laws.specs.Feeding.{begun}
+use Rattle.part_laws.specs.declared.Position.{Position}
 use Rattle.part_laws.specs.declared.PartRefusal.{PartRefusal}
 use Rattle.part.specs.declared.Begun.{Begun}
 
@@ -13,6 +15,11 @@ use Rattle.part.specs.declared.Begun.{Begun}
 abbrev pub tally_of : Result Begun Refusal → Tally
 tally_of (Ok b) = b.tally
 tally_of (Err r) = empty_tally
+
+-- the position that is begun, where a file begins with a refusal too
+abbrev pub begun_at : Result Begun Refusal → Position
+begun_at (Ok b) = b.position
+begun_at (Err r) = held_of begun
 
 -- a heading that is given is told as no record
 abbrev pub told_heading : Result Heading PartRefusal → Told

@@ -1,7 +1,7 @@
 // An arc file handed over in parts, cut anywhere: begin, a part, finish, and the heading of what was handed over so far.
 #![tactic(auto)]
 
-ghost use Rattle.std.specs.Prelude.{◌≡◌, ◌≤◌, length, IfOk};
+ghost use Rattle.std.specs.Prelude.{◌≡◌, ◌≤◌, length};
 ghost use Rattle.num_whole.specs.Tests.{both};
 ghost use Rattle.num_whole.specs.Answer.{bad};
 ghost use Rattle.num_packed.specs.Triangle.{tri};
@@ -31,7 +31,7 @@ ghost use Rattle.part_laws.specs.Entries.{
   heading_told,
   heading_given,
 };
-ghost use Rattle.part.specs.Given.{tally_of, told_heading, heading_of};
+ghost use Rattle.part.specs.Given.{tally_of, begun_at, told_heading, heading_of};
 ghost use Rattle.part.specs.Going.{Going, grown};
 
 use arc_heading::Heading;
@@ -54,7 +54,7 @@ pub struct Begun {
 // Where a file begins, with an empty state: 20 where the room for fifty parameters is short, else the sums are cleared.
 pub fn begin(matrix: &mut [i64], rights: &mut [i64]) -> Result<Begun, Refusal>
     ensures answer_value { verdict_of (told result) ≡ answered (begin_number matrix.old rights.old) tt }
-    ensures position { IfOk result (λ b. b.position ≡ held_of begun) }
+    ensures position { begun_at result ≡ held_of begun }
     ensures state { state_of matrix.new rights.new (tally_of result) ≡ begin_state matrix.old rights.old }
 {
     if !take_room::is_roomy(PARAMETERS_MOST, matrix, rights) {

@@ -151,8 +151,10 @@ pub fn carried_by(
 ) -> Result<u32, Refusal>
     ensures { told result ≡ carriers_of h (state_of matrix.now rights.now t) parameter }
 {
-    judge_parameter(h, t, matrix, rights, parameter)?;
-    Ok(take_marks::count(t.marks[parameter]))
+    match judge_parameter(h, t, matrix, rights, parameter) {
+        Ok(()) => Ok(take_marks::count(t.marks[parameter])),
+        Err(refusal) => Err(refusal),
+    }
 }
 
 // Whether the station of row k did; 4 also where k is none of the heading's stations.

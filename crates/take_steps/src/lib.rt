@@ -72,7 +72,10 @@ pub fn take_in(
     let x = take_fit::fits(settings, rights.len(), numbers, corrections, bytes)?;
     let last = t.rows[x.place].times[x.column];
     let count = t.counts[x.place];
-    let y = take_judge::judge(settings.level, x, last, count)?;
+    let y = match take_judge::judge(settings.level, x, last, count) {
+        Ok(y) => y,
+        Err(late) => return Err(late),
+    };
     add_record(
         matrix,
         rights,

@@ -100,12 +100,11 @@ fn mark_sound(p: usize, i: usize, word: u16, heard: u16, matrix: &[i64]) -> bool
     requires { (p ≤ parameters_most) × (tri p ≤ length matrix.now) }
     ensures { (result ≡ mark_good p matrix.now i word heard) × (word < 65536) }
 {
-    if i < p {
-        if is_seen(matrix, i) {
-            is_marked(word, heard)
-        } else {
-            word == 0
-        }
+    if p <= i {
+        return word == 0;
+    }
+    if is_seen(matrix, i) {
+        is_marked(word, heard)
     } else {
         word == 0
     }

@@ -2,6 +2,8 @@
 // argument names. What can't be read is told, and then what is written is not what is expected.
 #![tactic(auto)]
 
+ghost use Rattle.std.specs.Prelude.{◌≤◌, length};
+
 use desk_lines::{Output, Tell};
 use std::env::Env;
 use std::fs::Files;
@@ -10,7 +12,9 @@ use std::fs::Files;
 pub const INPUT_ROOM: usize = 524_289;
 
 // Standard input, read whole into a buffer; nothing where it can't be read or fills the buffer, which is told.
-pub fn input<'a, R: Input + Tell>(rt: &R, buf: &'a mut [u8]) -> &'a [u8] {
+pub fn input<'a, R: Input + Tell>(rt: &R, buf: &'a mut [u8]) -> &'a [u8]
+    ensures { length result.now ≤ length buf.old }
+{
     let got = desk_files::load(&mut rt.reader(), buf);
     let n = got.length;
     if let Some(e) = got.failed {
@@ -45,7 +49,9 @@ pub fn file<'a, R: Env + Files + Print + Tell>(
     stdout: &Output<'_, R>,
     i: usize,
     buf: &'a mut [u8],
-) -> Named<'a> {
+) -> Named<'a>
+    ensures { length result.bytes.now ≤ length buf.old }
+{
     let rt = stdout.runtime();
     let mut room = [0u8; desk_files::PATH_MOST];
     let path = desk_files::argument(rt, i, &mut room).unwrap_or(&[]);

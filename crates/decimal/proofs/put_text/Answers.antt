@@ -1,19 +1,27 @@
--- `decimal::put_text` meets its contract: what is copied up to the place after it is laid, and where that place is not after its own, nothing is.
-use mathlib.Core.Path.{ap₂}
+use Prim.Native.Nat.{◌+◌, ◌-◌}
+use mathlib.Core.Path.{refl, sym, ap₂, ◌∙◌}
+use native.Mathlib.Nat.{add-zero}
+use native.Mathlib.Omega.{arith}
+use lib.ListN.{length-set}
 use Rattle.decimal.specs.Laid.{laid}
-use Rattle.decimal.proofs.Laying.{copied, none_copied}
+use Rattle.decimal.proofs.Laying.{copy_turn, copy_end}
 use Rattle.decimal.proofs.put_text.Goals as goal
 
-pub returns-then-at-next : goal.returns-then-at-next
-unfolding laid
-returns-then-at-next c =
-    let a = c.args in
-    let e = c.after-next.ensures in
-    ap₂ (λ x y. (x, y)) (copied a.room.now a.text.now a.at c.after-next.result e _ c.copy_from_slice.ensures.after c.if-at-next.true) e
+pub loop-i-init : goal.loop-i-init
+loop-i-init c = (omega arith, refl, rw add-zero)
 
-pub returns-else-at-next : goal.returns-else-at-next
+pub loop-i-preserved : goal.loop-i-preserved
+loop-i-preserved c =
+    let l = c.loop-i in
+    let a = c.args in (
+      omega arith,
+      length-set l.room (a.at + l.i) _ ∙ l.invariant.1,
+      sym (copy_turn l.room a.text.now a.at l.i (omega arith)) ∙ l.invariant.2,
+    )
+
+pub returns : goal.returns
 unfolding laid
-returns-else-at-next c =
+returns c =
+    let l = c.loop-i in
     let a = c.args in
-    let e = c.after-next.ensures in
-    ap₂ (λ x y. (x, y)) (none_copied a.room.now a.text.now a.at c.after-next.result e c.if-at-next.false) e
+    ap₂ (λ x y. (x, y)) (sym (copy_end l.room a.text.now a.at l.i (omega arith)) ∙ l.invariant.2) (omega arith)

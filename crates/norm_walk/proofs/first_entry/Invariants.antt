@@ -5,6 +5,7 @@ use mathlib.Core.Bool.{Bool}
 use mathlib.Core.List.{List}
 use Prim.Native.Nat.{ℕ, ◌+◌, ◌-◌, ◌≤◌}
 use lib.IntN.{pos}
+use Rattle.std.specs.Prelude.{None}
 use Rattle.num_packed.specs.Triangle.{tri}
 use Rattle.norm_system.specs.System.{breaks_in}
 use Rattle.num_packed.specs.Found.{Found, first_from, columns_from}
@@ -19,7 +20,7 @@ abbrev pub column : Bool → List ℕ → ℕ → ℕ → ℕ → ℕ → ℕ �
 column small s start p bound j i n = first_from (λ v. entries small s start p bound v j) i n
 
 abbrev pub invariant-loop-i : goal.invariant-loop-i
-invariant-loop-i l = (l.i ≤ l.j + 1) × (column l.is_small l.s l.start l.p l.bound l.j 0 (l.j + 1) ≡ column l.is_small l.s l.start l.p l.bound l.j l.i (l.j + 1 - l.i))
+invariant-loop-i l = (l.i ≤ l.j + 1) × (l.found ≡ l.initial.found) × (column l.is_small l.s l.start l.p l.bound l.j 0 (l.j + 1) ≡ column l.is_small l.s l.start l.p l.bound l.j l.i (l.j + 1 - l.i))
 
-abbrev pub invariant-loop-j : goal.invariant-loop-j
-invariant-loop-j l = (l.j ≤ l.p) × (columns_from (entries l.is_small l.s l.start l.p l.bound) 0 l.p ≡ columns_from (entries l.is_small l.s l.start l.p l.bound) l.j (l.p - l.j))
+abbrev pub invariant-all : goal.invariant-all
+invariant-all l = (l.j ≤ l.p) × (l.found ≡ None) × (columns_from (entries l.is_small l.s l.start l.p l.bound) 0 l.p ≡ columns_from (entries l.is_small l.s l.start l.p l.bound) l.j (l.p - l.j))

@@ -24,7 +24,7 @@ pub returns-then-is_past : goal.returns-then-is_past
 unfolding breaks_side
 returns-then-is_past c =
     let y = get_or c.args.r.now c.args.i (pos 0) in
-    let past = past_is _ y _ _ _ (to_z-of_z w64 c.args.bound c.ranges.bound) (to_z-of_z w64 y (search rules)) c.is_past.ensures in
+    let past = past_is _ y _ _ _ (to_z-of_z w64 c.args.bound c.ranges.bound) (search (c, rules)) c.is_past.ensures in
     c.if-is_past.true ∙ past_true (lt_z c.args.bound y) (lt_z y (neg_ℤ c.args.bound)) _ (sym past ∙ c.if-is_past.true)
 
 pub returns-then-y-ne0 : goal.returns-then-y-ne0
@@ -32,7 +32,7 @@ unfolding breaks_side
 returns-then-y-ne0 c =
     let y = get_or c.args.r.now c.args.i (pos 0) in
     let fits : SFits w64 y = search rules in
-    let past = past_is _ y _ _ _ (to_z-of_z w64 c.args.bound c.ranges.bound) (to_z-of_z w64 y fits) c.is_past.ensures in
+    let past = past_is _ y _ _ _ (to_z-of_z w64 c.args.bound c.ranges.bound) (search (c, rules)) c.is_past.ensures in
     zero_bits (get_or c.args.s.now c.place.result (pos 0)) (search rules) ∙ ap (λ k. is_zero (get_or c.args.s.now k (pos 0))) c.place.ensures
     ∙ sym (other _ _ _ (not_zero y fits c.if-y-ne0.true)) ∙ past_false _ _ _ (sym past ∙ c.if-is_past.false)
 
@@ -41,6 +41,6 @@ unfolding breaks_side
 returns-else-y-ne0 c =
     let y = get_or c.args.r.now c.args.i (pos 0) in
     let fits : SFits w64 y = search rules in
-    let past = past_is _ y _ _ _ (to_z-of_z w64 c.args.bound c.ranges.bound) (to_z-of_z w64 y fits) c.is_past.ensures in
+    let past = past_is _ y _ _ _ (to_z-of_z w64 c.args.bound c.ranges.bound) (search (c, rules)) c.is_past.ensures in
     let z = is_zero_lem y fits c.if-y-ne0.false in
     ap not (zero_bits y fits ∙ z) ∙ sym (chosen _ _ _ z) ∙ past_false _ _ _ (sym past ∙ c.if-is_past.false)

@@ -40,6 +40,6 @@ returns-then-not-is_roomy c =
     let a = c.args in
     let v = begins_not a.matrix.now a.rights.now (sym (c.is_roomy.ensures ∙ room_asked 50 50 a.matrix.now a.rights.now refl (omega arith)) ∙ c.if-not-is_roomy.true) in record {
       answer_value = v.0;
-      position = tt;
+      position = refl;
       state = v.1;
     }

@@ -31,6 +31,6 @@ unfolding mark_good
 returns-else-is_seen c =
     (yes _ _ _ (is_less _ _ (omega arith)) (yes _ _ _ (on _ (sym c.is_seen.ensures ∙ c.if-is_seen.false)) (by_same _ _)), omega arith)
 
-pub returns-else-i-p : goal.returns-else-i-p
+pub returns-then-p-i : goal.returns-then-p-i
 unfolding mark_good
-returns-else-i-p c = (no _ _ _ (not_less _ _ (omega arith)) (by_same _ _), omega arith)
+returns-then-p-i c = (no _ _ _ (not_less _ _ (omega arith)) (by_same _ _), omega arith)

@@ -4,6 +4,7 @@ use mathlib.Core.Path.{sym, ap, ap₂, ◌∙◌}
 use mathlib.Core.Bool.{true, false, ◌&&◌}
 use lib.Signed.{le_z}
 use mir.Facts.{to_z-of_z}
+use borrow.Author.Rules.{rules}
 use Rattle.unit_nearest.proofs.Laws.{tested}
 use Rattle.unit_turn.specs.Turning.{top_of}
 use Rattle.unit_convert.proofs.allowed.Goals as goal
@@ -18,4 +19,4 @@ returns-then-row-q c =
 pub returns-else-row-q : goal.returns-else-row-q
 returns-else-row-q c =
     let a = c.args in
-    c.if-row-q.false ∙ sym (ap (λ b. b && le_z a.q (top_of a.row)) (tested a.row.low a.q false (record { sfits = c.struct_told-1.given.1.0.1 }) c.ranges.q c.if-row-q.false))
+    search (c.if-row-q.false, rules) ∙ sym (ap (λ b. b && le_z a.q (top_of a.row)) (tested a.row.low a.q false (record { sfits = c.struct_told-1.given.1.0.1 }) c.ranges.q c.if-row-q.false))
