@@ -148,7 +148,8 @@ pub fn give_sight(out: &mut [u32], answer: Result<bool, Refusal>) -> u32
     ensures left { out.new ≡ result_left (told_values seen_numbers (told answer)) out.old }
 {
     match answer {
-        Ok(seen) => call_rooms::give(out, &[u32::from(seen)]),
+        Ok(true) => call_rooms::give(out, &[1]),
+        Ok(false) => call_rooms::give(out, &[0]),
         Err(e) => refusal::number(e),
     }
 }

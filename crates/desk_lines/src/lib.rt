@@ -2,7 +2,7 @@
 // that a text does not have is empty, and where no digit stands the number is 0.
 #![tactic(auto)]
 
-ghost use Rattle.std.specs.Prelude.{◌+◌, ◌<◌, ◌≤◌, IfSome, length, min};
+ghost use Rattle.std.specs.Prelude.{◌≡◌, ◌+◌, ◌-◌, ◌<◌, ◌≤◌, IfSome, length, drop, min};
 
 pub use desk_files::Tell;
 use refusal::Refusal;
@@ -12,6 +12,7 @@ use std::io;
 
 // The text after its first mark; nothing where it has none.
 pub fn after(text: &[u8], mark: u8) -> &[u8]
+    ensures of_text { result.now ≡ drop (length text.now - length result.now) text.now }
     ensures within { length result.now ≤ length text.now }
     ensures later { min 1 (length text.now) + length result.now ≤ length text.now }
 {

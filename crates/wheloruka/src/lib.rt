@@ -308,7 +308,10 @@ pub extern "C" fn whl_carriers(
     if call_heading::has_both(heading, tally) {
         let h = call_heading::heading_in(heading);
         let t = call_tally::tally_in(tally);
-        call_rooms::give_told(out, take_state::carried_by(h, t, matrix, rights, parameter))
+        match take_state::carried_by(h, t, matrix, rights, parameter) {
+            Ok(n) => call_rooms::give(out, &[n]),
+            Err(refusal) => refusal::number(refusal),
+        }
     } else {
         20
     }

@@ -1,4 +1,4 @@
-use mathlib.Core.Path.{◌≡◌, refl, sym, ap, ◌∙◌}
+use mathlib.Core.Path.{◌≡◌, refl, sym, ap, ap₂, ◌∙◌}
 use Prim.Native.Nat.{ℕ, ◌+◌, ◌*◌}
 use native.Mathlib.Nat.{add-zero}
 use native.Mathlib.Omega.{arith}
@@ -23,7 +23,7 @@ loop-i-preserved c =
     let at : ℕ = c.args.at + 8 * l.i in
     let next : c.args.at + 8 * (l.i + 1) ≡ at + 8 = omega arith in
     let e : c.put_sum.new.out ≡ lay l.out at (signed_bytes w64 x) =
-    c.put_sum.ensures ∙ ap (λ z. lay l.out at (signed_bytes w64 z)) (to_z-of_z w64 x (search rules)) in (
+    c.put_sum.ensures ∙ ap₂ (λ p z. lay l.out p (signed_bytes w64 z)) (omega arith) (to_z-of_z w64 x (search rules)) in (
       ap length e ∙ length_lay _ _ _ ∙ l.invariant.0,
       rw next (l.invariant.1 ∙ bytes_turn l.out at c.args.col.now l.i (omega arith) ∙ ap (λ o. lay o (at + 8) (bytes_in (drop (l.i + 1) c.args.col.now))) (sym e)),
     )
