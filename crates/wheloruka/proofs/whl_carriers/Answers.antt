@@ -1,5 +1,5 @@
 -- `wheloruka::whl_carriers` meets its contract: 20 where the heading or the tally is short, else what the state's entry told.
-use mathlib.Core.Path.{◌≡◌, sym, ap, ap₂, ◌∙◌}
+use mathlib.Core.Path.{sym, ap, ap₂, ◌∙◌}
 use Rattle.refusal.specs.Told.{told}
 use Rattle.call_rooms.specs.Result.{one}
 use Rattle.call_rooms.proofs.Rooms.{on_given, on_refused}
